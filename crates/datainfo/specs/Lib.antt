@@ -1,0 +1,4 @@
+pub mod Datainfo
+pub mod Layout
+pub mod Rules
+pub mod Fit

@@ -1,0 +1,48 @@
+-- What is proved of the definitions of this layer. Assumes nothing.
+use Prim.Native.Nat.{ℕ}
+use mathlib.Core.Bool.{Bool, true, false, not}
+use mathlib.Core.List.{List, [], _∷_}
+use mathlib.Core.Option.{Option, none, some}
+use mathlib.Core.Path.{_≡_}
+use Rattle.ascii.specs.Bytes.{all, isSpace}
+use Rattle.ascii.specs.Names.{isName}
+use Rattle.message.specs.Reply.{Report, Reply, identification, describing, pong, active, inactive, reply, changed, done, error}
+use Rattle.outbox.specs.Outbox.{Record, final, update, orderChange, orderCommand, encodeAll}
+
+-- a word of a line: no space in it
+abbrev pub Word : List ℕ → Type 0
+Word xs = all (λ b. not (isSpace b)) xs ≡ true
+
+abbrev pub Named : Option (List ℕ) → Type 0
+Named none = Unit {0}
+Named (some m) = isName m ≡ true
+
+-- a report by good names
+abbrev pub NamedReport : Report → Type 0
+NamedReport r = (isName (r .moduleName) ≡ true) × (isName (r .accessible) ≡ true)
+
+-- records as a node writes them: names are names, and what was sent as a word is a word
+abbrev pub WellFormedReply : Reply → Type 0
+WellFormedReply identification = Unit {0}
+WellFormedReply (describing r) = Unit {0}
+WellFormedReply (pong token now) = Word token
+WellFormedReply (active m) = Named m
+WellFormedReply (inactive m) = Named m
+WellFormedReply (reply r) = NamedReport r
+WellFormedReply (changed r) = NamedReport r
+WellFormedReply (done r) = NamedReport r
+WellFormedReply (error a s c) = Word a × Word s
+
+abbrev pub WellFormed : Record → Type 0
+WellFormed (final c r) = WellFormedReply r
+WellFormed (update c r) = NamedReport r
+WellFormed (orderChange c p v) = Unit {0}
+WellFormed (orderCommand c p v) = Unit {0}
+
+abbrev pub AllWellFormed : List Record → Type 0
+AllWellFormed [] = Unit {0}
+AllWellFormed (r ∷ rs) = WellFormed r × AllWellFormed rs
+
+-- The encoding can be read back: equal bytes, equal records. What is said of records is said of the bytes that are sent.
+abbrev pub EncodingIsReadBack : Type 0
+EncodingIsReadBack = (rs ss : List Record) → AllWellFormed rs → AllWellFormed ss → encodeAll rs ≡ encodeAll ss → rs ≡ ss

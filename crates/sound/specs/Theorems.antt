@@ -1,0 +1,63 @@
+-- What the plain node holds and writes, in every history after an accepted start. Assumes nothing.
+use Prim.Native.Nat.{ℕ, _≤_, _<_}
+use mathlib.Core.Bool.{Bool, true, false, not}
+use mathlib.Core.List.{List, [], _∷_}
+use mathlib.Core.Option.{Option, some}
+use mathlib.Core.Path.{_≡_}
+use lib.Dec.{eqb}
+use lib.ListN.{length, getElem?}
+use Rattle.ascii.specs.Bytes.{all}
+use Rattle.ascii.specs.Numbers.{latest}
+use Rattle.datainfo.specs.Fit.{isStored}
+use Rattle.message.specs.Line.{Line, whole, overlong}
+use Rattle.table.specs.Table.{Parameter, Table}
+use Rattle.table.specs.Layout.{tableOf}
+use Rattle.table.specs.Search.{Placed, parameters}
+use Rattle.outbox.specs.Outbox.{encodeAll}
+use Rattle.outbox.specs.Theorems.{AllWellFormed}
+use Rattle.plain.specs.Node.{Client, closed, connected, Value, Node, isActive, begin}
+use Rattle.plain.specs.Calls.{Call, Answer, startNumber}
+use Rattle.plain.specs.History.{answers, finish}
+
+-- an unfinished line is at most 1,024 bytes, with no line feed
+abbrev pub LineHeld : Line → Type 0
+LineHeld overlong = Unit {0}
+LineHeld (whole xs) = (length xs ≤ 1024) × (all (λ b. not (eqb b 10)) xs ≡ true)
+
+-- of a client: its line, and no module past the last is active
+abbrev pub ClientHeld : Table → Client → Type 0
+ClientHeld w closed = Unit {0}
+ClientHeld w (connected l a) = LineHeld l × ((i : ℕ) → length (w .modules) ≤ i → a i ≡ false)
+
+-- a value is in stored form and fits its datainfo, and its time is within the limit
+abbrev pub ValueHeld : Parameter → Value → Type 0
+ValueHeld p v = (isStored (p .datainfo) (v .text) ≡ true) × (v .time ≤ latest)
+
+-- the contrary of document 01's "State is unfit if", of what a plain node holds
+pub record Sound (w : Table) (n : Node) : Type 0 where
+  pub values : (k : ℕ) (p : Placed Parameter) → getElem? (parameters w) k ≡ some p → ValueHeld (p .it) (n .values k)
+  pub clients : (c : ℕ) → ClientHeld w (n .clients c)
+  pub above : (c : ℕ) → 7 < c → n .clients c ≡ closed
+
+-- The plain node only ever holds values in stored form that fit their datainfo, with times within the limit; and so on for the rest.
+abbrev pub AlwaysSound : Type 0
+AlwaysSound = (table : List ℕ) (area time : ℕ) → startNumber table area time ≡ 0 → (h : List Call)
+    → Sound (tableOf table) (finish table (begin (tableOf table) time) h)
+
+-- No accepted call writes more than 32,019 bytes (and a refused one none).
+abbrev pub AllShort : List Answer → Type 0
+AllShort [] = Unit {0}
+AllShort (a ∷ l) = (length (encodeAll (a .records)) ≤ 32019) × AllShort l
+
+abbrev pub WritesAreShort : Type 0
+WritesAreShort = (table : List ℕ) (area time : ℕ) → startNumber table area time ≡ 0 → (h : List Call)
+    → AllShort (answers table (begin (tableOf table) time) h)
+
+-- All records of a history are well formed, so that equal bytes are equal records.
+abbrev pub AllAnswersWellFormed : List Answer → Type 0
+AllAnswersWellFormed [] = Unit {0}
+AllAnswersWellFormed (a ∷ l) = AllWellFormed (a .records) × AllAnswersWellFormed l
+
+abbrev pub WritesAreWellFormed : Type 0
+WritesAreWellFormed = (table : List ℕ) (area time : ℕ) → startNumber table area time ≡ 0 → (h : List Call)
+    → AllAnswersWellFormed (answers table (begin (tableOf table) time) h)
