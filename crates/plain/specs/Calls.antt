@@ -92,14 +92,14 @@ callNumber table unfit n (Piece c bs t a o) = lowest
 callNumber table unfit n (Reading p bs t a o) =
     let x = getElem? (parameters (tableOf table)) p in
     lowest
-      (tableNumber table
-      ∷ fault7 o
-      ∷ fault8 a
-      ∷ fault9 unfit
-      ∷ fault10 t
-      ∷ fault 14 (not (isSome x))
-      ∷ fault 15 (not (isFit (readingVerdict x bs)))
-      ∷ [])
+    (tableNumber table
+    ∷ fault7 o
+    ∷ fault8 a
+    ∷ fault9 unfit
+    ∷ fault10 t
+    ∷ fault 14 (not (isSome x))
+    ∷ fault 15 (not (isFit (readingVerdict x bs)))
+    ∷ [])
 
 -- ## Accepted calls
 

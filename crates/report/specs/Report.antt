@@ -50,11 +50,11 @@ unfoldable mutual
       object (keyed "type" (string (bytes "enum")) (keyed "members" (object (variantValues vs)) no-members))
   datainfoValue (Datainfo.string lo hi) =
       object
-        (keyed "type" (string (bytes "string")) (keyed "minchars" (naturalValue lo) (keyed "maxchars" (naturalValue hi) no-members)))
+      (keyed "type" (string (bytes "string")) (keyed "minchars" (naturalValue lo) (keyed "maxchars" (naturalValue hi) no-members)))
   datainfoValue (Datainfo.array lo hi d) =
       object
-        (keyed "type" (string (bytes "array"))
-        (keyed "minlen" (naturalValue lo) (keyed "maxlen" (naturalValue hi) (keyed "members" (datainfoValue d) no-members))))
+      (keyed "type" (string (bytes "array"))
+      (keyed "minlen" (naturalValue lo) (keyed "maxlen" (naturalValue hi) (keyed "members" (datainfoValue d) no-members))))
   datainfoValue (Datainfo.tuple ds) =
       object (keyed "type" (string (bytes "tuple")) (keyed "members" (array (elementValues ds)) no-members))
   datainfoValue (Datainfo.struct fs) =
@@ -77,14 +77,14 @@ unfoldable pub accessibleMember : Accessible → Members → Members
 accessibleMember (parameter p) rest =
     member (p .name)
     (object
-      (keyed "description" (string (p .description))
-      (keyed "readonly" (boolean (p .readonly)) (keyed "datainfo" (datainfoValue (p .datainfo)) no-members))))
+    (keyed "description" (string (p .description))
+    (keyed "readonly" (boolean (p .readonly)) (keyed "datainfo" (datainfoValue (p .datainfo)) no-members))))
     rest
 accessibleMember (command c) rest =
     member (c .name)
     (object
-      (keyed "description" (string (c .description))
-      (keyed "datainfo" (object (keyed "type" (string (bytes "command")) (argumentMember (c .argument)))) no-members)))
+    (keyed "description" (string (c .description))
+    (keyed "datainfo" (object (keyed "type" (string (bytes "command")) (argumentMember (c .argument)))) no-members)))
     rest
 
 unfoldable pub accessibleMembers : List Accessible → Members
@@ -101,16 +101,16 @@ moduleMembers [] = no-members
 moduleMembers (m ∷ ms) =
     member (m .name)
     (object
-      (keyed "interface_classes" (array no-items)
-      (keyed "description" (string (m .description))
-      (noteMember (m .note) (keyed "accessibles" (object (accessibleMembers (m .accessibles))) no-members)))))
+    (keyed "interface_classes" (array no-items)
+    (keyed "description" (string (m .description))
+    (noteMember (m .note) (keyed "accessibles" (object (accessibleMembers (m .accessibles))) no-members)))))
     (moduleMembers ms)
 
 unfoldable pub reportValue : Table → Json
 reportValue t =
     object
-      (keyed "modules" (object (moduleMembers (t .modules)))
-      (keyed "equipment_id" (string (t .equipmentId)) (keyed "description" (string (t .description)) no-members)))
+    (keyed "modules" (object (moduleMembers (t .modules)))
+    (keyed "equipment_id" (string (t .equipmentId)) (keyed "description" (string (t .description)) no-members)))
 
 unfoldable pub report : Table → List ℕ
 report t = compact (reportValue t)

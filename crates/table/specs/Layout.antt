@@ -32,15 +32,17 @@ parameterAt n xs = do
   (info, e) ← datainfoAt d
   (size, f) ← unsigned 2 e
   (value, g) ← part size f
-  some
-    (parameter (record {
-        name = name;
-        description = text;
-        readonly = readonly;
-        datainfo = info;
-        initial = value;
-        place = n - length f;
-      }), g)
+  some (
+    parameter (record {
+      name = name;
+      description = text;
+      readonly = readonly;
+      datainfo = info;
+      initial = value;
+      place = n - length f;
+    }),
+    g,
+  )
 
 -- "and a datainfo for the argument if 1"
 unfoldable pub argumentAt : Bool → List ℕ → Option (Option Datainfo × List ℕ)
@@ -65,7 +67,7 @@ accessiblesAt n zero xs = some ([], xs)
 accessiblesAt n (suc k) xs =
     cond (begins (bytes "PA") xs || begins (bytes "CM") xs)
     (cond (begins (bytes "PA") xs) (parameterAt n xs) (commandAt xs) >>= λ p.
-      accessiblesAt n k (p .1) >>= λ q. some (p .0 ∷ q .0, q .1))
+    accessiblesAt n k (p .1) >>= λ q. some (p .0 ∷ q .0, q .1))
     (some ([], xs))
 
 -- "`NO`: text, a note. At most one, straight after an `MO`."

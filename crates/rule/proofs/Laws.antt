@@ -1,0 +1,342 @@
+-- Laws about searches, records and the clients' parts of a node. Assumes nothing.
+use Prim.Native.Nat.{ℕ, zero, suc, _+_, _<_, _≤_}
+use mathlib.Core.Bool.{Bool, true, false, cond, _&&_, _||_, not}
+use mathlib.Core.List.{List, [], _∷_, _++_, map, append-assoc, List·Memᴰ, List·Memᴰ·append-cases, List·Memᴰ·cases-cons, List·Memᴰ·not-nil, List·Memᴰ·eq-of-singleton}
+use mathlib.Core.Logic.{_⊎_, ⊎-elim}
+use mathlib.Core.Option.{Option, none, some, Option·some-injective}
+use mathlib.Core.Path.{_≡_, refl, sym, _∙_, ap, ap₂, subst, fun-ext}
+use lib.Dec.{eqb, ltb}
+use lib.ListN.{length, getElem?, replicate}
+use native.Mathlib.Nat.{add-comm, zero-add}
+use native.Mathlib.Numerals.{add-one}
+use Rattle.ascii.specs.Bytes.{count}
+use native.Mathlib.Omega.{arith}
+use borrow.Author.Tests.{eqb-true, eq-eqb, ne-eqb}
+use Rattle.table.specs.Table.{Parameter, Command, Accessible, Module, Table}
+use Rattle.table.specs.Search.{Placed, placedFrom, parametersOf, parameters, firstFrom, first, findParameter}
+use Rattle.message.specs.Reply.{Report, Reply}
+use Rattle.outbox.specs.Outbox.{Record, final, update, orderChange, orderCommand}
+use Rattle.plain.specs.Node.{Client, closed, connected, Value, Node, put, isOpen, isActive, receive, emptied, activated, reportOf, clientNumbers, updatesTo, updatesOf}
+use Rattle.rule.specs.Records.{updatesFor, repliesFor}
+
+-- ## Searches
+
+-- what a search finds stands at the number that it gives
+module _ {A : Type 0} (p : A → Bool) where
+  first-from : (n : ℕ) (xs : List A) (j : ℕ) (x : A) → firstFrom p n xs ≡ some (j, x)
+      → (i : ℕ) × (j ≡ n + i) × (getElem? xs i ≡ some x)
+  unfolding firstFrom
+  first-from n [] j x e = let z : _≡_ {A = ℕ} 0 1 = cc in absurd (omega arith)
+  first-from n (y ∷ ys) j x e = go (p y) (λ e′. first-from (suc n) ys j x e′) e
+    where
+      go : (q : Bool)
+          → (firstFrom p (suc n) ys ≡ some (j, x) → (i : ℕ) × (j ≡ suc n + i) × (getElem? ys i ≡ some x))
+          → cond q (some (n, y)) (firstFrom p (suc n) ys) ≡ some (j, x)
+          → (i : ℕ) × (j ≡ n + i) × (getElem? (y ∷ ys) i ≡ some x)
+      go true r e′ =
+          let h : _≡_ {A = ℕ × A} (n, y) (j, x) = Option·some-injective (n, y) (j, x) e′ in
+          let q : n ≡ j = ap (λ (k : ℕ × A). k .0) h in
+          (0, omega arith, ap (λ (k : ℕ × A). some (k .1)) h)
+      go false r e′ = let h = r e′ in (suc (h .0), omega (arith, h .1), h .2)
+
+  pub first-there : (xs : List A) (k : ℕ × A) → first p xs ≡ some k → getElem? xs (k .0) ≡ some (k .1)
+  unfolding first
+  first-there xs k e =
+      let h = first-from 0 xs (k .0) (k .1) e in
+      let q : h .0 ≡ k .0 = omega (arith, h .1) in
+      subst (λ i. getElem? xs i ≡ some (k .1)) q (h .2)
+
+pub parameter-there : (w : Table) (m a : List ℕ) (k : ℕ × Placed Parameter)
+    → findParameter w m a ≡ some k → getElem? (parameters w) (k .0) ≡ some (k .1)
+unfolding findParameter
+parameter-there w m a k e = first-there _ (parameters w) k e
+
+-- a parameter's module is one of the table's
+module _ {A : Type 0} (of : List Accessible → List A) where
+  map-home : (n : ℕ) (name : List ℕ) (as′ : List A) (rest : List (Placed A)) (b : ℕ) → n < b
+      → ((i : ℕ) (x : Placed A) → getElem? rest i ≡ some x → x .home < b)
+      → (i : ℕ) (x : Placed A)
+      → getElem? (map (λ (a : A). record { home = n; moduleName = name; it = a }) as′ ++ rest) i ≡ some x → x .home < b
+  map-home n name [] rest b h f i x e = f i x e
+  map-home n name (a ∷ l) rest b h f zero x e =
+      let q : n ≡ x .home = ap (λ (o : Option (Placed A)). elim o [ none ↦ n | some y ↦ y .home ]) e in omega arith
+  map-home n name (a ∷ l) rest b h f (suc i) x e = map-home n name l rest b h f i x e
+
+  placed-home : (ms : List Module) (n : ℕ) (i : ℕ) (x : Placed A)
+      → getElem? (placedFrom of n ms) i ≡ some x → x .home < n + length ms
+  unfolding placedFrom
+  placed-home [] n i x e = let z : _≡_ {A = ℕ} 0 1 = cc in absurd (omega arith)
+  placed-home (m ∷ ms) n i x e =
+      map-home
+      n
+      (m .name)
+      (of (m .accessibles))
+      (placedFrom of (suc n) ms)
+      (n + suc (length ms))
+      (omega arith)
+      (λ j y q. omega (arith, placed-home ms (suc n) j y q))
+      i
+      x
+      e
+
+pub parameter-home : (w : Table) (k : ℕ) (p : Placed Parameter)
+    → getElem? (parameters w) k ≡ some p → p .home < length (w .modules)
+unfolding parameters
+parameter-home w k p e = omega (arith, placed-home parametersOf (w .modules) 0 k p e)
+
+-- ## Functions changed at one place
+
+module _ {A : Type 0} where
+  pub put-same : (f : ℕ → A) (k : ℕ) (a : A) → put f k a k ≡ a
+  unfolding put
+  put-same f k a = ap (λ b. cond b a (f k)) (eq-eqb k k refl)
+
+  -- what holds of the new value there and of the old ones elsewhere holds of all
+  pub put-all : (P : ℕ → A → Type 0) (f : ℕ → A) (k : ℕ) (a : A) → P k a → ((j : ℕ) → P j (f j)) → (j : ℕ) → P j (put f k a j)
+  unfolding put
+  put-all P f k a h g j = go (eqb j k) refl
+    where
+      go : (q : Bool) → eqb j k ≡ q → P j (cond q a (f j))
+      go true e = subst (λ i. P i a) (sym (eqb-true j k e)) h
+      go false e = g j
+
+-- ## What a line's bytes, and its end, leave of a client
+
+pub receive-open : (bs : List ℕ) (x : Client) → isOpen (receive x bs) ≡ isOpen x
+unfolding receive isOpen
+receive-open [] x = refl
+receive-open (b ∷ bs) closed = refl
+receive-open (b ∷ bs) (connected l a) = receive-open bs (connected _ a)
+
+pub receive-active : (bs : List ℕ) (x : Client) (i : ℕ) → isActive (receive x bs) i ≡ isActive x i
+unfolding receive isActive
+receive-active [] x i = refl
+receive-active (b ∷ bs) closed i = refl
+receive-active (b ∷ bs) (connected l a) i = receive-active bs (connected _ a) i
+
+pub emptied-open : (x : Client) → isOpen (emptied x) ≡ isOpen x
+unfolding emptied isOpen
+emptied-open closed = refl
+emptied-open (connected l a) = refl
+
+pub emptied-active : (x : Client) (i : ℕ) → isActive (emptied x) i ≡ isActive x i
+unfolding emptied isActive
+emptied-active closed i = refl
+emptied-active (connected l a) i = refl
+
+pub activated-open : (f : ℕ → Bool) (x : Client) → isOpen (activated f x) ≡ isOpen x
+unfolding activated isOpen
+activated-open f closed = refl
+activated-open f (connected l a) = refl
+
+pub activated-active : (f : ℕ → Bool) (x : Client) (i : ℕ) → isOpen x ≡ true → isActive (activated f x) i ≡ f i
+unfolding activated isActive isOpen
+activated-active f closed i e = let z : _≡_ {A = Bool} false true = e in absurd (go z)
+  where
+    go : false ≡ true → ⊥
+    go q = let z : _≡_ {A = ℕ} 0 1 = cc in omega arith
+activated-active f (connected l a) i e = refl
+
+-- whoever has a module active is open
+pub active-open : (x : Client) (i : ℕ) → isActive x i ≡ true → isOpen x ≡ true
+unfolding isActive isOpen
+active-open closed i e = e
+active-open (connected l a) i e = refl
+
+-- ## Records
+
+pub updates-append : (d : ℕ) (x y : List Record) → updatesFor d (x ++ y) ≡ updatesFor d x ++ updatesFor d y
+unfolding updatesFor
+updates-append d [] y = refl
+updates-append d (final c r ∷ x) y = updates-append d x y
+updates-append d (update c r ∷ x) y =
+    ap (cond (eqb d c) (r ∷ []) [] ++_) (updates-append d x y) ∙ sym (append-assoc (cond (eqb d c) (r ∷ []) []) _ _)
+updates-append d (orderChange c p v ∷ x) y = updates-append d x y
+updates-append d (orderCommand c p v ∷ x) y = updates-append d x y
+
+pub replies-append : (d : ℕ) (x y : List Record) → repliesFor d (x ++ y) ≡ repliesFor d x ++ repliesFor d y
+unfolding repliesFor
+replies-append d [] y = refl
+replies-append d (final c r ∷ x) y =
+    ap (cond (eqb d c) (r ∷ []) [] ++_) (replies-append d x y) ∙ sym (append-assoc (cond (eqb d c) (r ∷ []) []) _ _)
+replies-append d (update c r ∷ x) y = replies-append d x y
+replies-append d (orderChange c p v ∷ x) y = replies-append d x y
+replies-append d (orderCommand c p v ∷ x) y = replies-append d x y
+
+-- a record that is no final reply
+abbrev pub NotFinal : Record → Type 0
+NotFinal (final c r) = ⊥
+NotFinal (update c r) = Unit {0}
+NotFinal (orderChange c p v) = Unit {0}
+NotFinal (orderCommand c p v) = Unit {0}
+
+abbrev pub NoFinal : List Record → Type 0
+NoFinal [] = Unit {0}
+NoFinal (r ∷ rs) = NotFinal r × NoFinal rs
+
+pub no-final-append : (x y : List Record) → NoFinal x → NoFinal y → NoFinal (x ++ y)
+no-final-append [] y h k = k
+no-final-append (r ∷ x) y h k = (h .0, no-final-append x y (h .1) k)
+
+pub no-final-replies : (d : ℕ) (rs : List Record) → NoFinal rs → repliesFor d rs ≡ []
+unfolding repliesFor
+no-final-replies d [] h = refl
+no-final-replies d (final c r ∷ rs) h = absurd (h .0)
+no-final-replies d (update c r ∷ rs) h = no-final-replies d rs (h .1)
+no-final-replies d (orderChange c p v ∷ rs) h = no-final-replies d rs (h .1)
+no-final-replies d (orderCommand c p v ∷ rs) h = no-final-replies d rs (h .1)
+
+pub updates-to-no-final : (f : ℕ → Client) (i : ℕ) (r : Report) (cs : List ℕ) → NoFinal (updatesTo f i r cs)
+unfolding updatesTo
+updates-to-no-final f i r [] = tt
+updates-to-no-final f i r (c ∷ cs) = go (isActive (f c) i) (updates-to-no-final f i r cs)
+  where
+    go : (q : Bool) → NoFinal (updatesTo f i r cs) → NoFinal (cond q (update c r ∷ []) [] ++ updatesTo f i r cs)
+    go true h = (tt, h)
+    go false h = h
+
+pub updates-of-no-final : (c : ℕ) (wanted : ℕ → Bool) (values : ℕ → Value) (k : ℕ) (ps : List (Placed Parameter))
+    → NoFinal (updatesOf c wanted values k ps)
+unfolding updatesOf
+updates-of-no-final c wanted values k [] = tt
+updates-of-no-final c wanted values k (p ∷ ps) = go (wanted (p .home)) (updates-of-no-final c wanted values (suc k) ps)
+  where
+    go : (q : Bool) → NoFinal (updatesOf c wanted values (suc k) ps)
+        → NoFinal (cond q (update c (reportOf p (values k)) ∷ []) [] ++ updatesOf c wanted values (suc k) ps)
+    go true h = (tt, h)
+    go false h = h
+
+-- ## Members of lists of records
+
+-- no final reply is a member
+pub final-not-in : (rs : List Record) (c : ℕ) (r : Reply) → NoFinal rs → List·Memᴰ (final c r) rs → ⊥
+final-not-in [] c r h m = List·Memᴰ·not-nil m
+final-not-in (x ∷ rs) c r h m =
+    ⊎-elim (λ e. subst NotFinal (sym e) (h .0)) (λ l. final-not-in rs c r (h .1) l) (List·Memᴰ·cases-cons m)
+
+-- an update among those to the clients of a module
+pub updates-to-member : (f : ℕ → Client) (i : ℕ) (r : Report) (cs : List ℕ) (d : ℕ) (x : Report)
+    → List·Memᴰ (update d x) (updatesTo f i r cs) → (x ≡ r) × (isActive (f d) i ≡ true)
+unfolding updatesTo
+updates-to-member f i r [] d x m = absurd (List·Memᴰ·not-nil m)
+updates-to-member f i r (c ∷ cs) d x m = go (isActive (f c) i) refl (λ l. updates-to-member f i r cs d x l) m
+  where
+    go : (q : Bool) → isActive (f c) i ≡ q
+        → (List·Memᴰ (update d x) (updatesTo f i r cs) → (x ≡ r) × (isActive (f d) i ≡ true))
+        → List·Memᴰ (update d x) (cond q (update c r ∷ []) [] ++ updatesTo f i r cs) → (x ≡ r) × (isActive (f d) i ≡ true)
+    go true e h l =
+        ⊎-elim (λ q. let p : d ≡ c = cc in (cc, ap (λ y. isActive (f y) i) p ∙ e)) h (List·Memᴰ·cases-cons l)
+    go false e h l = h l
+
+-- x tells of one of these parameters, of which the first has the number k, in a module that is wanted
+pub record Initial (wanted : ℕ → Bool) (values : ℕ → Value) (ps : List (Placed Parameter)) (k : ℕ) (x : Report) : Type 0 where
+  pub i : ℕ
+  pub p : Placed Parameter
+  pub there : getElem? ps i ≡ some p
+  pub truly : x ≡ reportOf p (values (k + i))
+  pub asked : wanted (p .home) ≡ true
+
+initial-later : (wanted : ℕ → Bool) (values : ℕ → Value) (p : Placed Parameter) (ps : List (Placed Parameter)) (k : ℕ) (x : Report)
+    → Initial wanted values ps (suc k) x → Initial wanted values (p ∷ ps) k x
+initial-later wanted values p ps k x h =
+    let q : suc k + h .i ≡ k + suc (h .i) = omega arith in
+    record {
+      i = suc (h .i);
+      p = h .p;
+      there = h .there;
+      truly = h .truly ∙ ap (λ j. reportOf (h .p) (values j)) q;
+      asked = h .asked;
+    }
+
+-- an update among the initial ones
+pub updates-of-member : (c : ℕ) (wanted : ℕ → Bool) (values : ℕ → Value) (ps : List (Placed Parameter)) (k d : ℕ) (x : Report)
+    → List·Memᴰ (update d x) (updatesOf c wanted values k ps) → (d ≡ c) × Initial wanted values ps k x
+unfolding updatesOf
+updates-of-member c wanted values [] k d x m = absurd (List·Memᴰ·not-nil m)
+updates-of-member c wanted values (p ∷ ps) k d x m =
+    go (wanted (p .home)) refl (λ l. updates-of-member c wanted values ps (suc k) d x l) m
+  where
+    now : wanted (p .home) ≡ true → x ≡ reportOf p (values k) → Initial wanted values (p ∷ ps) k x
+    now e s =
+        let z : k ≡ k + 0 = omega arith in
+        record { i = 0; p = p; there = refl; truly = s ∙ ap (λ j. reportOf p (values j)) z; asked = e }
+
+    go : (q : Bool) → wanted (p .home) ≡ q
+        → (List·Memᴰ (update d x) (updatesOf c wanted values (suc k) ps) → (d ≡ c) × Initial wanted values ps (suc k) x)
+        → List·Memᴰ (update d x) (cond q (update c (reportOf p (values k)) ∷ []) [] ++ updatesOf c wanted values (suc k) ps)
+        → (d ≡ c) × Initial wanted values (p ∷ ps) k x
+    go true e h l =
+        ⊎-elim
+        (λ q. (cc, now e (cc)))
+        (λ r. let t = h r in (t .0, initial-later wanted values p ps k x (t .1)))
+        (List·Memᴰ·cases-cons l)
+    go false e h l = let t = h l in (t .0, initial-later wanted values p ps k x (t .1))
+
+-- ## The updates of one client among those to the clients of a module
+
+updates-to-for : (f : ℕ → Client) (i : ℕ) (r : Report) (d : ℕ) (cs : List ℕ)
+    → updatesFor d (updatesTo f i r cs) ≡ cond (isActive (f d) i) (replicate (count (eqb d) cs) r) []
+unfolding updatesFor updatesTo count
+updates-to-for f i r d [] = both (isActive (f d) i)
+  where
+    both : (q : Bool) → _≡_ {A = List Report} [] (cond q [] [])
+    both true = refl
+    both false = refl
+updates-to-for f i r d (c ∷ cs) =
+    updates-append d (cond (isActive (f c) i) (update c r ∷ []) []) (updatesTo f i r cs)
+    ∙ ap (updatesFor d (cond (isActive (f c) i) (update c r ∷ []) []) ++_) (updates-to-for f i r d cs)
+    ∙ go (eqb d c) refl (isActive (f c) i) refl (isActive (f d) i) refl
+  where
+    go : (e : Bool) → eqb d c ≡ e → (a : Bool) → isActive (f c) i ≡ a → (b : Bool) → isActive (f d) i ≡ b
+        → updatesFor d (cond a (update c r ∷ []) []) ++ cond b (replicate (count (eqb d) cs) r) []
+        ≡ cond b (replicate (cond e 1 0 + count (eqb d) cs) r) []
+    go true p true q true s = rw (p, add-comm 1 (count (eqb d) cs), add-one)
+    go true p false q false s = refl
+    go true p true q false s = let z : true ≡ false = sym q ∙ ap (λ x. isActive (f x) i) (sym (eqb-true d c p)) ∙ s in cc
+    go true p false q true s = let z : true ≡ false = sym s ∙ ap (λ x. isActive (f x) i) (eqb-true d c p) ∙ q in cc
+    go false p true q true s = rw (p, zero-add)
+    go false p true q false s = rw p
+    go false p false q true s = rw zero-add
+    go false p false q false s = refl
+
+-- each of the clients 0 to 7 stands once among them, and no other
+client-once : (d : ℕ) → d < 8 → count (eqb d) clientNumbers ≡ 1
+unfolding count
+client-once zero h = refl
+client-once (suc zero) h = refl
+client-once (suc (suc zero)) h = refl
+client-once (suc (suc (suc zero))) h = refl
+client-once (suc (suc (suc (suc zero)))) h = refl
+client-once (suc (suc (suc (suc (suc zero))))) h = refl
+client-once (suc (suc (suc (suc (suc (suc zero)))))) h = refl
+client-once (suc (suc (suc (suc (suc (suc (suc zero))))))) h = refl
+client-once (suc (suc (suc (suc (suc (suc (suc (suc d)))))))) h = absurd (omega arith)
+
+client-never : (d : ℕ) → 8 ≤ d → count (eqb d) clientNumbers ≡ 0
+unfolding count
+client-never d h =
+    simp (
+      ne-eqb d 0 (λ e. omega arith),
+      ne-eqb d 1 (λ e. omega arith),
+      ne-eqb d 2 (λ e. omega arith),
+      ne-eqb d 3 (λ e. omega arith),
+      ne-eqb d 4 (λ e. omega arith),
+      ne-eqb d 5 (λ e. omega arith),
+      ne-eqb d 6 (λ e. omega arith),
+      ne-eqb d 7 (λ e. omega arith),
+    )
+
+module _ (f : ℕ → Client) (i : ℕ) (r : Report) (d : ℕ) where
+  pub sent-once : d < 8 → updatesFor d (updatesTo f i r clientNumbers) ≡ cond (isActive (f d) i) (r ∷ []) []
+  sent-once h =
+      updates-to-for f i r d clientNumbers ∙ ap (λ k. cond (isActive (f d) i) (replicate k r) []) (client-once d h)
+
+  pub sent-never : 8 ≤ d → updatesFor d (updatesTo f i r clientNumbers) ≡ []
+  sent-never h =
+      updates-to-for f i r d clientNumbers
+      ∙ ap (λ k. cond (isActive (f d) i) (replicate k r) []) (client-never d h)
+      ∙ go (isActive (f d) i)
+    where
+      go : (q : Bool) → _≡_ {A = List Report} (cond q [] []) []
+      go true = refl
+      go false = refl
