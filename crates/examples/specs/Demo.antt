@@ -1,3 +1,4 @@
+-- The tables of document 01's examples, as bytes. Assumes nothing.
 use Prim.Native.Nat.{ℕ}
 use Prim.Native.String.{String}
 use mathlib.Core.List.{List, [], _∷_, _++_}
@@ -5,20 +6,75 @@ use lib.ListN.{length}
 use Rattle.ascii.specs.Text.{bytes}
 use Rattle.ascii.specs.Numbers.{twoBytes}
 
--- a name or a text of a table: a length byte and that many bytes
+-- a name or a text: a length byte and that many bytes
 unfoldable pub counted : String → List ℕ
 counted s = length (bytes s) ∷ bytes s
 
--- double 0 to 300
-unfoldable pub double-0-300 : List ℕ
-double-0-300 = 1 ∷ 0 ∷ 0 ∷ 0 ∷ 0 ∷ 0 ∷ 0 ∷ 0 ∷ 0 ∷ 0 ∷ 0 ∷ 0 ∷ 0 ∷ 0 ∷ 0 ∷ 0 ∷ 1 ∷ 44 ∷ 0 ∷ []
+-- an i64 below 65,536, not negative
+unfoldable pub small : ℕ → List ℕ
+small n = 0 ∷ 0 ∷ 0 ∷ 0 ∷ 0 ∷ 0 ∷ twoBytes n
 
+-- a value and its length
+unfoldable pub initial : String → List ℕ
+initial s = twoBytes (length (bytes s)) ++ bytes s
+
+-- double 0 to 300
+unfoldable pub kelvin : List ℕ
+kelvin = (1 ∷ []) ++ small 0 ++ (0 ∷ []) ++ small 300 ++ (0 ∷ [])
+
+-- enum off 0, on 1
+unfoldable pub onOff : List ℕ
+onOff = (4 ∷ 2 ∷ []) ++ counted "off" ++ (0 ∷ 0 ∷ 0 ∷ 0 ∷ []) ++ counted "on" ++ (0 ∷ 0 ∷ 0 ∷ 1 ∷ [])
+
+-- the node, with some bytes after the module
+unfoldable pub oneModule : List ℕ → List ℕ
+oneModule rest = bytes "ND" ++ counted "demo" ++ counted "one stage" ++ bytes "MO" ++ counted "t1" ++ counted "stage" ++ rest ++ bytes "EN"
+
+-- the accessibles of document 01's whole report
+unfoldable pub reported : List ℕ
+reported =
+    bytes "PA"
+    ++ counted "value"
+    ++ counted "reading"
+    ++ (1 ∷ [])
+    ++ kelvin
+    ++ initial "0"
+    ++ bytes "PA"
+    ++ counted "mode"
+    ++ counted "heater"
+    ++ (0 ∷ [])
+    ++ onOff
+    ++ initial "0"
+    ++ bytes "CM"
+    ++ counted "stop"
+    ++ counted "stop"
+    ++ (0 ∷ [])
+
+-- the table of the whole report
 unfoldable pub demo : List ℕ
-demo =
-    bytes "ND" ++ counted "demo" ++ counted "one stage"
-    ++ bytes "MO" ++ counted "t1" ++ counted "stage"
-    ++ bytes "PA" ++ counted "value" ++ counted "reading" ++ (1 ∷ []) ++ double-0-300 ++ twoBytes 1 ++ bytes "0"
-    ++ bytes "PA" ++ counted "mode" ++ counted "heater" ++ (0 ∷ 4 ∷ 2 ∷ []) ++ counted "off" ++ (0 ∷ 0 ∷ 0 ∷ 0 ∷ [])
-    ++ counted "on" ++ (0 ∷ 0 ∷ 0 ∷ 1 ∷ []) ++ twoBytes 1 ++ bytes "0"
-    ++ bytes "CM" ++ counted "stop" ++ counted "stop" ++ (0 ∷ [])
-    ++ bytes "EN"
+demo = oneModule reported
+
+-- the same with a note
+unfoldable pub noted : List ℕ
+noted = oneModule (bytes "NO" ++ counted "mind the gap" ++ reported)
+
+-- the table of the outbox example: target is parameter 1
+unfoldable pub stage : List ℕ
+stage =
+    oneModule
+    (bytes "PA"
+    ++ counted "value"
+    ++ counted "reading"
+    ++ (1 ∷ [])
+    ++ kelvin
+    ++ initial "295.13"
+    ++ bytes "PA"
+    ++ counted "target"
+    ++ counted "set point"
+    ++ (0 ∷ [])
+    ++ kelvin
+    ++ initial "0"
+    ++ bytes "CM"
+    ++ counted "stop"
+    ++ counted "stop"
+    ++ (0 ∷ []))

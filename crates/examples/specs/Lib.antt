@@ -1,1 +1,3 @@
 pub mod Demo
+pub mod Told
+pub mod Theorems

@@ -1,0 +1,54 @@
+ghost use mathlib.Core.Bool.{true};
+ghost use mathlib.Core.Path.{_≡_};
+ghost use Rattle.examples.specs.Theorems.{ExamplesAreRight, OutboxExample, WholeReport, NotedReport, TablesAreGood, FiveMilliseconds, ExchangesAreRight};
+
+// Each function here promises a theorem about the definitions. Nothing is run.
+
+// E1 to E12 of document 01.
+pub fn examples_are_right() -> bool
+    ensures { λ r. ⌜ (r ≡ true) × ExamplesAreRight ⌝ }
+{
+    true
+}
+
+// Document 01's outbox example, byte for byte.
+pub fn outbox_example() -> bool
+    ensures { λ r. ⌜ (r ≡ true) × OutboxExample ⌝ }
+{
+    true
+}
+
+// Document 01's whole structure report, byte for byte.
+pub fn whole_report() -> bool
+    ensures { λ r. ⌜ (r ≡ true) × WholeReport ⌝ }
+{
+    true
+}
+
+// The same report with a note.
+pub fn noted_report() -> bool
+    ensures { λ r. ⌜ (r ≡ true) × NotedReport ⌝ }
+{
+    true
+}
+
+// The tables of the examples are accepted.
+pub fn tables_are_good() -> bool
+    ensures { λ r. ⌜ (r ≡ true) × TablesAreGood ⌝ }
+{
+    true
+}
+
+// 5 milliseconds are written as 0.005.
+pub fn five_milliseconds() -> bool
+    ensures { λ r. ⌜ (r ≡ true) × FiveMilliseconds ⌝ }
+{
+    true
+}
+
+// Exchanges of SECoP 1.0, with document 01's texts.
+pub fn exchanges_are_right() -> bool
+    ensures { λ r. ⌜ (r ≡ true) × ExchangesAreRight ⌝ }
+{
+    true
+}

@@ -1,0 +1,34 @@
+-- The examples, by computing. Assumes nothing.
+use mathlib.Core.Path.{_≡_, refl}
+use Rattle.examples.specs.Demo.{demo, noted, stage, oneModule, reported, onOff, kelvin, initial, small, counted}
+use Rattle.examples.specs.Theorems.{examples, exchanges, changing, pieceCalls, repliesTo, lastWritten, ExamplesAreRight, FiveMilliseconds, WholeReport, NotedReport, TablesAreGood, OutboxExample, ExchangesAreRight}
+use Rattle.examples.proofs.Computed.{computed}
+
+pub examples-are-right : ExamplesAreRight
+unfolding computed stage oneModule kelvin initial small counted examples pieceCalls repliesTo
+examples-are-right =
+    (refl, (refl, (refl, (refl, (refl, (refl, (refl, (refl, (refl, (refl, (refl, (refl, tt))))))))))))
+
+pub exchanges-are-right : ExchangesAreRight
+unfolding computed stage oneModule kelvin initial small counted exchanges pieceCalls repliesTo
+exchanges-are-right = (refl, (refl, (refl, (refl, (refl, (refl, (refl, (refl, (refl, tt)))))))))
+
+pub five-milliseconds : FiveMilliseconds
+unfolding computed
+five-milliseconds = refl
+
+pub whole-report : WholeReport
+unfolding computed demo oneModule reported onOff kelvin initial small counted
+whole-report = refl
+
+pub noted-report : NotedReport
+unfolding computed noted oneModule reported onOff kelvin initial small counted
+noted-report = refl
+
+pub tables-are-good : TablesAreGood
+unfolding computed demo noted stage oneModule reported onOff kelvin initial small counted
+tables-are-good = (refl, refl, refl)
+
+pub outbox-example : OutboxExample
+unfolding computed stage oneModule kelvin initial small counted changing lastWritten
+outbox-example = refl

@@ -1,0 +1,129 @@
+-- Document 01's examples to prove, and worked examples of document 01 and of SECoP 1.0. Assumes nothing.
+use Prim.Native.Nat.{ℕ}
+use mathlib.Core.List.{List, [], _∷_, _++_, map}
+use mathlib.Core.Path.{_≡_}
+use lib.ListN.{drop}
+use lib.IntN.{pos, negsuc}
+use Rattle.ascii.specs.Text.{bytes}
+use Rattle.ascii.specs.Numbers.{seconds}
+use Rattle.datainfo.specs.Datainfo.{Datainfo, double}
+use Rattle.datainfo.specs.Fit.{Verdict, fits, rangeError, wrongType, badJSON, verdict}
+use Rattle.message.specs.Reply.{replyLine}
+use Rattle.table.specs.Layout.{tableOf}
+use Rattle.report.specs.Report.{report}
+use Rattle.report.specs.Judge.{tableNumber}
+use Rattle.plain.specs.Node.{begin}
+use Rattle.plain.specs.Calls.{Call, Open, Piece}
+use Rattle.plain.specs.History.{answers, sent, sentBytes}
+use Rattle.rule.specs.Records.{repliesFor}
+use Rattle.examples.specs.Demo.{demo, noted, stage}
+
+-- ## E1 to E12: one list, one statement over it
+
+-- A text that is judged by a datainfo; or pieces of one client, with the lines of the replies to it.
+pub data Example : Type 0 where
+  judged : (datainfo : Datainfo) (text : List ℕ) (due : Verdict) → Example
+  replied : (pieces : List (List ℕ)) (due : List (List ℕ)) → Example
+
+-- "Double 0 to 300"; "max 250 power -2"
+abbrev pub to300 : Datainfo
+to300 = double (record { whole = pos 0; power = pos 0 }) (record { whole = pos 300; power = pos 0 })
+
+abbrev pub to2-50 : Datainfo
+to2-50 = double (record { whole = pos 0; power = pos 0 }) (record { whole = pos 250; power = negsuc 1 })
+
+unfoldable pub examples : List Example
+examples =
+    judged to300 (bytes "300") fits
+    ∷ judged to300 (bytes "3e2") fits
+    ∷ judged to300 (bytes "300.0000000000000000001") rangeError
+    ∷ judged to300 (bytes "-0") fits
+    ∷ judged to300 (bytes "\"1\"") wrongType
+    ∷ judged to300 (bytes "01") badJSON
+    ∷ judged to300 (bytes "0e100") rangeError
+    ∷ judged to2-50 (bytes "25e-1") fits
+    ∷ replied (bytes "activate t1:x\n" ∷ []) (bytes "active t1" ∷ [])
+    ∷ replied (bytes "ping\n" ∷ []) (bytes "pong  [null,{\"t\":1.500}]" ∷ [])
+    ∷ replied (bytes "\n" ∷ []) (bytes "error_  [\"ProtocolError\",\"malformed or unknown request\",{}]" ∷ [])
+    ∷ replied (bytes "ping x\r" ∷ bytes "\n" ∷ []) (bytes "pong x [null,{\"t\":1.500}]" ∷ [])
+    ∷ []
+
+-- a client opens and sends the pieces, at 1500, to the node of the outbox example
+unfoldable pub pieceCalls : List (List ℕ) → List Call
+pieceCalls ps = Open 2 0 16384 ∷ map (λ p. Piece 2 p 1500 16384 32768) ps
+
+unfoldable pub repliesTo : List (List ℕ) → List (List ℕ)
+repliesTo ps = map replyLine (repliesFor 2 (sent (answers stage (begin (tableOf stage) 0) (pieceCalls ps))))
+
+abbrev pub Right : Example → Type 0
+Right (judged d x v) = verdict d x ≡ v
+Right (replied ps ls) = repliesTo ps ≡ ls
+
+abbrev pub AllRight : List Example → Type 0
+AllRight [] = Unit {0}
+AllRight (e ∷ es) = Right e × AllRight es
+
+abbrev pub ExamplesAreRight : Type 0
+ExamplesAreRight = AllRight examples
+
+-- ## Times
+
+abbrev pub FiveMilliseconds : Type 0
+FiveMilliseconds = seconds 5 ≡ bytes "0.005"
+
+-- ## Reports
+
+abbrev pub WholeReport : Type 0
+WholeReport = report (tableOf demo) ≡ bytes "{\"modules\":{\"t1\":{\"interface_classes\":[],\"description\":\"stage\",\"accessibles\":{\"value\":{\"description\":\"reading\",\"readonly\":true,\"datainfo\":{\"type\":\"double\",\"min\":0,\"max\":300}},\"mode\":{\"description\":\"heater\",\"readonly\":false,\"datainfo\":{\"type\":\"enum\",\"members\":{\"off\":0,\"on\":1}}},\"stop\":{\"description\":\"stop\",\"datainfo\":{\"type\":\"command\"}}}}},\"equipment_id\":\"demo\",\"description\":\"one stage\"}"
+
+abbrev pub NotedReport : Type 0
+NotedReport = report (tableOf noted) ≡ bytes "{\"modules\":{\"t1\":{\"interface_classes\":[],\"description\":\"stage\",\"_note\":\"mind the gap\",\"accessibles\":{\"value\":{\"description\":\"reading\",\"readonly\":true,\"datainfo\":{\"type\":\"double\",\"min\":0,\"max\":300}},\"mode\":{\"description\":\"heater\",\"readonly\":false,\"datainfo\":{\"type\":\"enum\",\"members\":{\"off\":0,\"on\":1}}},\"stop\":{\"description\":\"stop\",\"datainfo\":{\"type\":\"command\"}}}}},\"equipment_id\":\"demo\",\"description\":\"one stage\"}"
+
+-- the tables of the examples are accepted
+abbrev pub TablesAreGood : Type 0
+TablesAreGood = (tableNumber demo ≡ 0) × (tableNumber noted ≡ 0) × (tableNumber stage ≡ 0)
+
+-- ## The outbox example: "client 2 sends `change t1:target 12` at 1500; clients 2 and 5 have t1 active; target is parameter 1"
+
+unfoldable pub changing : List Call
+changing =
+    Open 2 0 16384
+    ∷ Open 5 0 16384
+    ∷ Piece 2 (bytes "activate t1\n") 0 16384 32768
+    ∷ Piece 5 (bytes "activate t1\n") 0 16384 32768
+    ∷ Piece 2 (bytes "change t1:target 12\n") 1500 16384 32768
+    ∷ []
+
+-- what the last of these calls writes
+unfoldable pub lastWritten : List Call → List ℕ
+lastWritten h = sentBytes (drop 4 (answers stage (begin (tableOf stage) 0) h))
+
+abbrev pub OutboxExample : Type 0
+OutboxExample = lastWritten changing
+    ≡ (0x44 ∷ 0x52 ∷ 0x02 ∷ 0x00 ∷ 0x03 ∷ 0x01 ∷ 0x31 ∷ 0x32 ∷ [])
+    ++ (0x55 ∷ 0x50 ∷ 0x02 ∷ 0x00 ∷ 0x22 ∷ [])
+    ++ bytes "update t1:target [12,{\"t\":1.500}]\n"
+    ++ (0x55 ∷ 0x50 ∷ 0x05 ∷ 0x00 ∷ 0x22 ∷ [])
+    ++ bytes "update t1:target [12,{\"t\":1.500}]\n"
+    ++ (0x52 ∷ 0x50 ∷ 0x02 ∷ 0x00 ∷ 0x23 ∷ [])
+    ++ bytes "changed t1:target [12,{\"t\":1.500}]\n"
+
+-- ## Exchanges of SECoP 1.0, with document 01's error texts and times
+
+unfoldable pub exchanges : List Example
+exchanges =
+    replied (bytes "*IDN?\n" ∷ []) (bytes "ISSE&SINE2020,SECoP,V2019-09-16,v1.0" ∷ [])
+    ∷ replied (bytes "read t1:value\n" ∷ []) (bytes "reply t1:value [295.13,{\"t\":0.000}]" ∷ [])
+    ∷ replied
+    (bytes "do t1:stop\n" ∷ bytes "do t1:stop null\n" ∷ [])
+    (bytes "done t1:stop [null,{\"t\":1.500}]" ∷ bytes "done t1:stop [null,{\"t\":1.500}]" ∷ [])
+    ∷ replied (bytes "read tx:target\n" ∷ []) (bytes "error_read tx:target [\"NoSuchModule\",\"no such module\",{}]" ∷ [])
+    ∷ replied (bytes "change t1:level 12\n" ∷ []) (bytes "error_change t1:level [\"NoSuchParameter\",\"no such parameter\",{}]" ∷ [])
+    ∷ replied (bytes "change t1:target -9\n" ∷ []) (bytes "error_change t1:target [\"RangeError\",\"value is out of range\",{}]" ∷ [])
+    ∷ replied (bytes "meas:volt?\n" ∷ []) (bytes "error_meas:volt?  [\"ProtocolError\",\"malformed or unknown request\",{}]" ∷ [])
+    ∷ replied (bytes "change t1:value 1\n" ∷ []) (bytes "error_change t1:value [\"ReadOnly\",\"parameter is read only\",{}]" ∷ [])
+    ∷ replied (bytes "ping 123\r\n" ∷ []) (bytes "pong 123 [null,{\"t\":1.500}]" ∷ [])
+    ∷ []
+
+abbrev pub ExchangesAreRight : Type 0
+ExchangesAreRight = AllRight exchanges

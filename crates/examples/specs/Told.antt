@@ -1,0 +1,36 @@
+-- A history with the answers that are due. Assumes nothing.
+use Prim.Native.Nat.{ℕ}
+use mathlib.Core.List.{List, [], _∷_, map}
+use mathlib.Core.Path.{_≡_}
+use Rattle.table.specs.Layout.{tableOf}
+use Rattle.outbox.specs.Outbox.{encodeAll}
+use Rattle.plain.specs.Node.{begin}
+use Rattle.plain.specs.Calls.{Call, Answer, startNumber}
+use Rattle.plain.specs.History.{answers}
+
+-- what a caller is told: the number, the bytes used and the bytes written
+pub record Told : Type 0 where
+  pub number : ℕ
+  pub used : ℕ
+  pub written : List ℕ
+
+unfoldable pub tell : Answer → Told
+tell a = record { number = a .number; used = a .used; written = encodeAll (a .records) }
+
+-- a start and the calls after it, with what is due
+pub record History : Type 0 where
+  pub table : List ℕ
+  pub area : ℕ
+  pub time : ℕ
+  pub start : ℕ
+  pub calls : List Call
+  pub due : List Told
+
+-- the plain node tells what is due
+pub record AsDue (h : History) : Type 0 where
+  pub start : startNumber (h .table) (h .area) (h .time) ≡ h .start
+  pub calls : map tell (answers (h .table) (begin (tableOf (h .table)) (h .time)) (h .calls)) ≡ h .due
+
+abbrev pub AllAsDue : List History → Type 0
+AllAsDue [] = Unit {0}
+AllAsDue (h ∷ hs) = AsDue h × AllAsDue hs
