@@ -1,0 +1,9 @@
+ghost use mathlib.Core.Path.{_≡_};
+ghost use mathlib.Core.Bool.{true};
+ghost use Rattle.json.specs.Theorems.{CompactIsReadBack};
+// The compact text of a value that was read is read as the same value: nothing is run, the promise is the theorem.
+pub fn compact_is_read_back() -> bool
+    ensures { λ r. ⌜ (r ≡ true) × CompactIsReadBack ⌝ }
+{
+    true
+}
