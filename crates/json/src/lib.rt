@@ -1,0 +1,2 @@
+// JSON texts over the bytes 32 to 126.
+pub mod read;

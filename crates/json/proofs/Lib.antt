@@ -1,0 +1,5 @@
+pub mod Spaces
+pub mod Strings
+pub mod Rest
+pub mod Values
+pub mod Enough
