@@ -1,0 +1,2 @@
+// Decimals: the tokens that write them.
+pub mod token;
