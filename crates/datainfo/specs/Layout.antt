@@ -1,10 +1,9 @@
 -- How a datainfo lies in the table's bytes: "a type byte, then" what the type has. Assumes nothing.
 use Prim.Native.Nat.{ℕ, zero, suc}
-use mathlib.Core.Bool.{Bool, true, false, cond}
+use mathlib.Core.Bool.{cond}
 use mathlib.Core.List.{List, [], _∷_}
 use mathlib.Core.Option.{Option, none, some}
 use lib.Dec.{eqb}
-use lib.IntN.{ℤ}
 use Rattle.ascii.specs.Bytes.{_>>=_, part}
 use Rattle.ascii.specs.Numbers.{unsigned, signed}
 use Rattle.decimal.specs.Decimal.{Decimal}

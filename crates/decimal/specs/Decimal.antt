@@ -1,7 +1,7 @@
 -- Exact decimals. Document 01: "Comparisons are of exact decimals, as whole numbers times powers of ten, never rounded; limits
 -- may be negative." Assumes nothing.
-use Prim.Native.Nat.{ℕ, zero, suc, _+_, _*_, _-_, _^_}
-use mathlib.Core.Bool.{Bool, true, false, cond, not, _&&_}
+use Prim.Native.Nat.{ℕ, _+_, _*_, _-_, _^_}
+use mathlib.Core.Bool.{Bool, cond, not, _&&_}
 use mathlib.Core.List.{List, [], _∷_}
 use lib.ListN.{length}
 use lib.IntN.{ℤ, pos, negsuc, negℤ, _*ℤ_, _-ℤ_}

@@ -1,6 +1,6 @@
 -- A history with the answers that are due. Assumes nothing.
 use Prim.Native.Nat.{ℕ}
-use mathlib.Core.List.{List, [], _∷_, map}
+use mathlib.Core.List.{List, map}
 use mathlib.Core.Path.{_≡_}
 use Rattle.table.specs.Layout.{tableOf}
 use Rattle.outbox.specs.Outbox.{encodeAll}

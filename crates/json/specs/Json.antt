@@ -1,7 +1,7 @@
 -- JSON (RFC 8259) over the bytes 32 to 126: the value that a text is, by recursive descent, and a value's compact text.
 -- A reader gives what it read and the bytes that are left, or none. Assumes nothing.
 use Prim.Native.Nat.{ℕ, zero, suc, _-_}
-use mathlib.Core.Bool.{Bool, true, false, cond, _&&_, _||_}
+use mathlib.Core.Bool.{Bool, true, false, cond, _||_}
 use mathlib.Core.List.{List, [], _∷_, _++_}
 use mathlib.Core.Option.{Option, none, some}
 use lib.ListN.{length, take}

@@ -1,7 +1,7 @@
 -- What is proved of the definitions of this layer. Assumes nothing.
 use Prim.Native.Nat.{ℕ}
 use mathlib.Core.List.{List}
-use mathlib.Core.Option.{Option, some}
+use mathlib.Core.Option.{some}
 use mathlib.Core.Path.{_≡_}
 use Rattle.json.specs.Json.{Json, text, compact}
 

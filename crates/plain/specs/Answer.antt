@@ -1,6 +1,6 @@
 -- How a line is carried out and answered (document 01, "Lines"). Assumes nothing.
 use Prim.Native.Nat.{ℕ}
-use mathlib.Core.Bool.{Bool, true, false, cond, not, _&&_, _||_}
+use mathlib.Core.Bool.{Bool, true, cond, not, _&&_, _||_}
 use mathlib.Core.List.{List, [], _∷_, _++_}
 use mathlib.Core.Option.{Option, none, some}
 use lib.Dec.{eqb, ltb}
@@ -10,15 +10,15 @@ use Rattle.json.specs.Json as Json
 use Rattle.json.specs.Json.{Json, text}
 use Rattle.datainfo.specs.Datainfo.{Datainfo}
 use Rattle.datainfo.specs.Fit.{Verdict, fits, rangeError, wrongType, badJSON, verdict, storedForm}
-use Rattle.table.specs.Table.{Parameter, Command, Module, Table}
+use Rattle.table.specs.Table.{Parameter, Command, Table}
 use Rattle.table.specs.Search.{Placed, parameters, findModule, findParameter, findCommand}
 use Rattle.report.specs.Report.{report}
 use Rattle.message.specs.Line.{Parts, content, partsOf}
 use Rattle.message.specs.Request.{Request, identify, describe, ping, activate, deactivate, read, change, execute, malformed, request}
 use Rattle.message.specs.Error.{Class, ProtocolError, NoSuchModule, NoSuchParameter, NoSuchCommand, ReadOnly, BadJSON, WrongType, RangeError}
-use Rattle.message.specs.Reply.{Report, Reply, identification, describing, pong, active, inactive, reply, changed, done, error}
+use Rattle.message.specs.Reply.{Reply, identification, describing, pong, active, inactive, reply, changed, done, error}
 use Rattle.outbox.specs.Outbox.{Record, final, orderChange, orderCommand}
-use Rattle.plain.specs.Node.{Client, Value, Node, put, withClient, withValue, lineOf, isActive, emptied, activated, reportOf, clientNumbers, updatesTo, updatesOf}
+use Rattle.plain.specs.Node.{Value, Node, withClient, withValue, lineOf, isActive, emptied, activated, reportOf, clientNumbers, updatesTo, updatesOf}
 
 -- what a request comes to: an error, which changes nothing and sends nothing else, or the next node, the records that go before the
 -- reply, and the reply

@@ -2,9 +2,9 @@
 -- answers with"). Assumes nothing.
 use Prim.Native.Nat.{ℕ, zero, suc, _+_}
 use mathlib.Core.Bool.{Bool, true, false, cond, not}
-use mathlib.Core.List.{List, [], _∷_, _++_}
+use mathlib.Core.List.{List, [], _∷_}
 use mathlib.Core.Option.{Option, none, some}
-use lib.Dec.{ltb, leb, eqb}
+use lib.Dec.{ltb, eqb}
 use lib.ListN.{length, getElem?}
 use Rattle.ascii.specs.Bytes.{isSome}
 use Rattle.ascii.specs.Numbers.{latest}
@@ -14,7 +14,7 @@ use Rattle.table.specs.Layout.{tableOf}
 use Rattle.table.specs.Search.{Placed, parameters}
 use Rattle.report.specs.Judge.{fault, lowest, tableNumber}
 use Rattle.outbox.specs.Outbox.{Record}
-use Rattle.plain.specs.Node.{Client, closed, Value, Node, withClient, withValue, fresh, isOpen, receive, reportOf, clientNumbers, updatesTo}
+use Rattle.plain.specs.Node.{closed, Value, Node, withClient, withValue, fresh, isOpen, receive, reportOf, clientNumbers, updatesTo}
 use Rattle.plain.specs.Answer.{answer}
 
 -- A call after the start: client or parameter number, the bytes that are offered, the time, and the lengths of the values area and of

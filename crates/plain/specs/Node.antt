@@ -3,9 +3,9 @@ use Prim.Native.Nat.{ℕ, suc}
 use mathlib.Core.Bool.{Bool, true, false, cond}
 use mathlib.Core.List.{List, [], _∷_, _++_}
 use mathlib.Core.Option.{Option, none, some}
-use lib.Dec.{eqb, ltb}
-use lib.ListN.{length, getElem?}
-use Rattle.message.specs.Line.{Line, whole, overlong, with-byte}
+use lib.Dec.{eqb}
+use lib.ListN.{getElem?}
+use Rattle.message.specs.Line.{Line, whole, with-byte}
 use Rattle.message.specs.Reply.{Report}
 use Rattle.table.specs.Table.{Parameter, Table}
 use Rattle.table.specs.Search.{Placed, parameters}

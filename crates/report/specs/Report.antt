@@ -1,7 +1,7 @@
 -- The structure report: a JSON value that tells what the table has (document 01, "Outbox"; SECoP 1.0, 3.2.2). Assumes nothing.
 use Prim.Native.String.{String}
 use Prim.Native.Nat.{ℕ}
-use mathlib.Core.Bool.{Bool, true, false, cond}
+use mathlib.Core.Bool.{cond}
 use mathlib.Core.List.{List, [], _∷_, _++_}
 use mathlib.Core.Option.{Option, none, some}
 use lib.Dec.{eqb}
@@ -12,7 +12,7 @@ use Rattle.decimal.specs.Decimal.{Decimal}
 use Rattle.json.specs.Json.{Json, boolean, number, string, array, object, Items, no-items, item, Members, no-members, member, compact}
 use Rattle.datainfo.specs.Datainfo as Datainfo
 use Rattle.datainfo.specs.Datainfo.{Variant, Datainfo, Elements, no-elements, element, Fields, no-fields, field}
-use Rattle.table.specs.Table.{Parameter, Command, Accessible, parameter, command, Module, Table}
+use Rattle.table.specs.Table.{Accessible, parameter, command, Module, Table}
 
 -- a member of an object, by a key that is written here
 abbrev pub keyed : String → Json → Members → Members

@@ -1,8 +1,8 @@
 -- What the plain node holds and writes, in every history after an accepted start. Assumes nothing.
 use Prim.Native.Nat.{ℕ, _≤_, _<_}
-use mathlib.Core.Bool.{Bool, true, false, not}
+use mathlib.Core.Bool.{true, false, not}
 use mathlib.Core.List.{List, [], _∷_}
-use mathlib.Core.Option.{Option, some}
+use mathlib.Core.Option.{some}
 use mathlib.Core.Path.{_≡_}
 use lib.Dec.{eqb}
 use lib.ListN.{length, getElem?}
@@ -15,7 +15,7 @@ use Rattle.table.specs.Layout.{tableOf}
 use Rattle.table.specs.Search.{Placed, parameters}
 use Rattle.outbox.specs.Outbox.{encodeAll}
 use Rattle.outbox.specs.Theorems.{AllWellFormed}
-use Rattle.plain.specs.Node.{Client, closed, connected, Value, Node, isActive, begin}
+use Rattle.plain.specs.Node.{Client, closed, connected, Value, Node, begin}
 use Rattle.plain.specs.Calls.{Call, Answer, startNumber}
 use Rattle.plain.specs.History.{answers, finish}
 

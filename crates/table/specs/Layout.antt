@@ -10,7 +10,7 @@ use Rattle.ascii.specs.Bytes.{_>>=_, isSome, after, part}
 use Rattle.ascii.specs.Numbers.{unsigned}
 use Rattle.datainfo.specs.Datainfo.{Datainfo}
 use Rattle.datainfo.specs.Layout.{counted, datainfoAt}
-use Rattle.table.specs.Table.{Parameter, Command, Accessible, parameter, command, Module, Table, emptyTable}
+use Rattle.table.specs.Table.{Accessible, parameter, command, Module, Table, emptyTable}
 
 -- whether a mark stands at the front
 unfoldable pub begins : List ℕ → List ℕ → Bool

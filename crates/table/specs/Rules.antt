@@ -1,6 +1,6 @@
 -- What is asked of a table that can be read: numbers 2 to 5. Number 6 is the structure report's. Assumes nothing.
 use Prim.Native.Nat.{ℕ, _+_}
-use mathlib.Core.Bool.{Bool, true, false, _&&_}
+use mathlib.Core.Bool.{Bool, true, _&&_}
 use mathlib.Core.List.{List, [], _∷_, map}
 use mathlib.Core.Option.{Option, none, some}
 use lib.Dec.{leb}
@@ -11,7 +11,7 @@ use Rattle.datainfo.specs.Datainfo.{Datainfo}
 use Rattle.datainfo.specs.Rules as Datainfo
 use Rattle.datainfo.specs.Rules.{isBetween, goodNames}
 use Rattle.datainfo.specs.Fit.{isStored}
-use Rattle.table.specs.Table.{Parameter, Command, Accessible, parameter, command, Module, Table}
+use Rattle.table.specs.Table.{Accessible, parameter, command, Module, Table}
 
 unfoldable pub accessibleName : Accessible → List ℕ
 accessibleName (parameter p) = p .name

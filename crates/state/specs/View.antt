@@ -1,0 +1,68 @@
+-- The plain node that a state stands for, with the table and the values area that it is handed in with (document 01, "Numbers a call
+-- answers with"). Assumes nothing.
+use Prim.Native.Nat.{ℕ, _*_, _/_, _%_, _^_}
+use mathlib.Core.Bool.{Bool, cond, not}
+use mathlib.Core.List.{List, []}
+use mathlib.Core.Option.{Option, none, some}
+use lib.Dec.{eqb}
+use lib.ListN.{length, getD, take, drop, getElem?}
+use lib.Seq.{sets}
+use Rattle.message.specs.Line.{Line, whole, overlong}
+use Rattle.table.specs.Table.{Parameter}
+use Rattle.table.specs.Layout.{tableOf}
+use Rattle.table.specs.Search.{Placed, parameters}
+use Rattle.plain.specs.Node.{Client, closed, connected, Value, Node}
+use Rattle.state.specs.declared.Clients.{Clients}
+use Rattle.state.specs.declared.Settings.{Settings}
+use Rattle.state.specs.declared.State.{State}
+
+-- ## Clients
+
+-- a flag
+unfoldable pub isSet : List ℕ → ℕ → Bool
+isSet flags c = not (eqb (getD flags c 0) 0)
+
+-- bit i of a mask
+unfoldable pub bit : ℕ → ℕ → Bool
+bit mask i = eqb (mask / 2 ^ i % 2) 1
+
+-- the bytes of client c's unfinished line
+unfoldable pub lineBytes : Clients → ℕ → List ℕ
+lineBytes s c = take (getD (s .length) c 0) (drop (1024 * c) (s .lines))
+
+unfoldable pub lineAt : Clients → ℕ → Line
+lineAt s c = cond (isSet (s .overlong) c) overlong (whole (lineBytes s c))
+
+unfoldable pub clientAt : Clients → ℕ → Client
+clientAt s c = cond (isSet (s .open) c) (connected (lineAt s c) (bit (getD (s .active) c 0))) closed
+
+-- ## Values
+
+-- "Each parameter has 256 bytes of the values area, in order."
+abbrev pub placeOf : ℕ → ℕ
+placeOf p = 256 * p
+
+unfoldable pub storedText : Settings → List ℕ → ℕ → List ℕ
+storedText s values p = take (getD (s .length) p 0) (drop (placeOf p) values)
+
+-- "Length 0 means never set: the value shown is then the part of the table that holds its initial value, otherwise the part of the values
+-- area that holds the stored one"
+unfoldable pub shown : List ℕ → Settings → List ℕ → ℕ → Parameter → List ℕ
+shown table s values p x =
+    cond (eqb (getD (s .length) p 0) 0) (take (length (x .initial)) (drop (x .place) table)) (storedText s values p)
+
+-- past the last parameter nothing is looked at
+unfoldable pub valueAt : List ℕ → Settings → List ℕ → ℕ → Option (Placed Parameter) → Value
+valueAt table s values p none = record { text = []; time = 0 }
+valueAt table s values p (some x) = record { text = shown table s values p (x .it); time = getD (s .time) p 0 }
+
+unfoldable pub view : List ℕ → State → List ℕ → Node
+view table s values =
+    record {
+      clients = clientAt (s .clients);
+      values = λ p. valueAt table (s .settings) values p (getElem? (parameters (tableOf table)) p);
+    }
+
+-- "An accepted setting writes its stored form at the front of them and no other byte."
+unfoldable pub withStored : List ℕ → ℕ → List ℕ → List ℕ
+withStored values p text = sets values (placeOf p) text
