@@ -1,0 +1,2 @@
+// Number tokens and exact decimals.
+pub mod compare;

@@ -1,0 +1,4 @@
+pub mod Naturals
+pub mod Integers
+pub mod Limits
+pub mod Values
