@@ -1,1 +1,5 @@
 pub mod Tokens
+pub mod Naturals
+pub mod Integers
+pub mod Limits
+pub mod Values
