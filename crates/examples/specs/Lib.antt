@@ -1,3 +1,4 @@
 pub mod Demo
 pub mod Told
+pub mod Histories
 pub mod Theorems

@@ -17,6 +17,8 @@ use Rattle.plain.specs.Calls.{Call, Open, Piece}
 use Rattle.plain.specs.History.{answers, sent, sentBytes}
 use Rattle.rule.specs.Records.{repliesFor}
 use Rattle.examples.specs.Demo.{demo, noted, stage}
+use Rattle.examples.specs.Told.{AllAsDue}
+use Rattle.examples.specs.Histories.{histories}
 
 -- ## E1 to E12: one list, one statement over it
 
@@ -127,3 +129,8 @@ exchanges =
 
 abbrev pub ExchangesAreRight : Type 0
 ExchangesAreRight = AllRight exchanges
+
+-- ## Histories that the reference program generated
+
+abbrev pub HistoriesAreAsDue : Type 0
+HistoriesAreAsDue = AllAsDue histories

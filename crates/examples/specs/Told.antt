@@ -26,11 +26,14 @@ pub record History : Type 0 where
   pub calls : List Call
   pub due : List Told
 
--- the plain node tells what is due
-pub record AsDue (h : History) : Type 0 where
-  pub start : startNumber (h .table) (h .area) (h .time) ≡ h .start
-  pub calls : map tell (answers (h .table) (begin (tableOf (h .table)) (h .time)) (h .calls)) ≡ h .due
+-- what the plain node answers to a history's start, and tells of its calls
+unfoldable pub startOf : History → ℕ
+startOf h = startNumber (h .table) (h .area) (h .time)
 
-abbrev pub AllAsDue : List History → Type 0
-AllAsDue [] = Unit {0}
-AllAsDue (h ∷ hs) = AsDue h × AllAsDue hs
+unfoldable pub toldOf : History → List Told
+toldOf h = map tell (answers (h .table) (begin (tableOf (h .table)) (h .time)) (h .calls))
+
+-- that is what is due, of all these histories
+pub record AllAsDue (hs : List History) : Type 0 where
+  pub starts : map startOf hs ≡ map (λ (h : History). h .start) hs
+  pub calls : map toldOf hs ≡ map (λ (h : History). h .due) hs

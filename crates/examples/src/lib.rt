@@ -1,6 +1,6 @@
 ghost use mathlib.Core.Bool.{true};
 ghost use mathlib.Core.Path.{_≡_};
-ghost use Rattle.examples.specs.Theorems.{ExamplesAreRight, OutboxExample, WholeReport, NotedReport, TablesAreGood, FiveMilliseconds, ExchangesAreRight};
+ghost use Rattle.examples.specs.Theorems.{ExamplesAreRight, OutboxExample, WholeReport, NotedReport, TablesAreGood, FiveMilliseconds, ExchangesAreRight, HistoriesAreAsDue};
 
 // Each function here promises a theorem about the definitions. Nothing is run.
 
@@ -49,6 +49,13 @@ pub fn five_milliseconds() -> bool
 // Exchanges of SECoP 1.0, with document 01's texts.
 pub fn exchanges_are_right() -> bool
     ensures { λ r. ⌜ (r ≡ true) × ExchangesAreRight ⌝ }
+{
+    true
+}
+
+// Histories that the reference program generated are answered as it answers them.
+pub fn histories_are_as_due() -> bool
+    ensures { λ r. ⌜ (r ≡ true) × HistoriesAreAsDue ⌝ }
 {
     true
 }

@@ -9,9 +9,8 @@ use mathlib.Core.Option.{Option, none, some}
 use lib.ListN.{length, drop, length-drop}
 use lib.Dec.{eqb}
 use Rattle.ascii.specs.Bytes.{head, tail, _>>=_, isSome}
-use Rattle.ascii.specs.Reader.{Ends}
+use Rattle.ascii.specs.Reader.{Ends, rest}
 use Rattle.json.specs.Json.{Json, text, giving, skip, spaced, items, arrayEnd, key, members, objectEnd, bare, scalar, value}
-use Rattle.json.specs.Reader.{rest}
 use Rattle.ascii.specs.declared.Next.{Next}
 use Rattle.ascii.specs.declared.Next.the-variants.{At, Bad}
 

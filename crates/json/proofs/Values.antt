@@ -9,9 +9,8 @@ use Rattle.ascii.specs.declared.Next.{Next}
 use Rattle.ascii.specs.declared.Next.the-variants.{At, Bad}
 use Rattle.ascii.specs.Text.{bytes}
 use Rattle.ascii.specs.Bytes.{after}
-use Rattle.ascii.specs.Reader.{ByteAt, Left, Ends}
+use Rattle.ascii.specs.Reader.{ByteAt, Left, Ends, rest}
 use Rattle.json.specs.Json.{skip, stringEnd, scalar, items, arrayEnd, key, members, objectEnd, bare, value}
-use Rattle.json.specs.Reader.{rest}
 use Rattle.decimal.specs.Token.{number}
 use Rattle.ascii.proofs.Bytes.{tail-drop, is-byte, no-byte}
 use Rattle.json.proofs.Rest.{rest-giving, spaced-rest, items-rest, array-rest, members-rest, object-rest, bare-rest}

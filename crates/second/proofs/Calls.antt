@@ -1,0 +1,261 @@
+-- When a call is accepted, and that each call does what the items that it used do. Assumes nothing.
+use Prim.Native.Nat.{ℕ, zero, suc, _≤_}
+use mathlib.Core.Bool.{Bool, true, false, cond, not, _&&_, So, and-eq-true-iff, false≢true}
+use mathlib.Core.List.{List, [], _∷_, append-nil}
+use mathlib.Core.Path.{_≡_, refl, sym, _∙_, ap, ap₂, fun-ext}
+use mathlib.Core.Logic.{_↔_}
+use lib.Dec.{eqb, ltb}
+use lib.ListN.{getElem?}
+use native.Mathlib.Omega.{arith}
+use borrow.Author.Tests.{eq-eqb, eqb-true, le-ltb, ltb-false}
+use Rattle.ascii.specs.Bytes.{isSome, all}
+use Rattle.ascii.specs.Numbers.{latest}
+use Rattle.datainfo.specs.Fit.{isFit}
+use Rattle.table.specs.Table.{Table}
+use Rattle.table.specs.Layout.{tableOf}
+use Rattle.table.specs.Search.{parameters}
+use Rattle.report.specs.Judge.{fault, lowest, tableNumber}
+use Rattle.outbox.specs.Outbox.{Record}
+use Rattle.plain.specs.Node.{Client, closed, connected, Node, put, withClient, isOpen, receive}
+use Rattle.plain.specs.Answer.{answer}
+use Rattle.plain.specs.Calls.{Call, Open, Close, Piece, Reading, fault7, fault8, fault9, fault10, readingVerdict, callNumber, beforeFeed, hasFeed, ended, pieceEffect, effect, settle, stepIf}
+use Rattle.plain.specs.History.{step, Mark, feeds, opens, closes, reads, Item, byte, mark, markOf, itemOf, consIf, own, marks, pieceItems, itemsOf, kept, Roomy, standing}
+use Rattle.second.proofs.Items.{due, inOrder}
+use Rattle.second.proofs.Lines.{put-same}
+use Rattle.second.proofs.Runs.{outOf, after, run}
+
+-- ## Numbers
+
+-- a number that is too small, and the faults after it
+under : (k a m : ℕ) (ks : List ℕ) → (lowest (fault (suc k) (ltb a m) ∷ ks) ≡ 0) ↔ ((m ≤ a) × (lowest ks ≡ 0))
+unfolding lowest
+under k a m ks = go (ltb a m) refl
+  where
+    go : (b : Bool) → ltb a m ≡ b → (lowest (fault (suc k) b ∷ ks) ≡ 0) ↔ ((m ≤ a) × (lowest ks ≡ 0))
+    go true e = (λ h. absurd (omega arith), λ h. absurd (false≢true (sym (le-ltb a m (h .0)) ∙ e)))
+    go false e = (λ h. (ltb-false a m e, h), λ h. h .1)
+
+-- the last two
+two-faults : (j k : ℕ) (a b : Bool) → (lowest (fault (suc j) a ∷ fault (suc k) b ∷ []) ≡ 0) ↔ So (not a && not b)
+unfolding lowest
+two-faults j k true b = (λ e. absurd (omega arith), λ e. absurd (false≢true e))
+two-faults j k false true = (λ e. absurd (omega arith), λ e. absurd (false≢true e))
+two-faults j k false false = (λ e. refl, λ e. refl)
+
+module _ (table : List ℕ) where
+  -- a reading for a parameter that there is, with a value that fits it
+  abbrev pub readable : Mark → Bool
+  readable (feeds c t) = true
+  readable (opens c t) = true
+  readable (closes c t) = true
+  readable (reads p bs t) =
+      not (not (isSome (getElem? (parameters (tableOf table)) p)))
+      && not (not (isFit (readingVerdict (getElem? (parameters (tableOf table)) p) bs)))
+
+  -- what a call needs besides its buffers and its time
+  abbrev pub permitted : Node → Call → Bool
+  permitted n (Open c t a) = due c (isOpen (n .clients c)) (mark (opens c t))
+  permitted n (Close c t a) = due c (isOpen (n .clients c)) (mark (closes c t))
+  permitted n (Piece c bs t a o) = due c (isOpen (n .clients c)) (mark (feeds c t))
+  permitted n (Reading p bs t a o) = readable (reads p bs t)
+
+  -- the faults of the area and of the time, and two more
+  roomy : (a t j k : ℕ) (p q : Bool) → (lowest (fault8 a ∷ fault9 false ∷ fault10 t ∷ fault (suc j) p ∷ fault (suc k) q ∷ []) ≡ 0)
+      ↔ (((16384 ≤ a) × (t ≤ latest)) × So (not p && not q))
+  unfolding lowest
+  roomy a t j k p q =
+      let ks : List ℕ = fault (suc j) p ∷ fault (suc k) q ∷ [] in
+      let f = under 7 a 16384 (0 ∷ fault10 t ∷ ks) in
+      let g = under 9 latest t ks in
+      let h = two-faults j k p q in (
+        λ e. ((f .0 e .0, g .0 (f .0 e .1) .0), h .0 (g .0 (f .0 e .1) .1)),
+        λ r. f .1 (r .0 .0, g .1 (r .0 .1, h .1 (r .1))),
+      )
+
+  -- and of the outbox
+  roomier : (o a t j k : ℕ) (p q : Bool) → (lowest (fault7 o ∷ fault8 a ∷ fault9 false ∷ fault10 t ∷ fault (suc j) p ∷ fault (suc k) q ∷ []) ≡ 0)
+      ↔ (((32768 ≤ o) × (16384 ≤ a) × (t ≤ latest)) × So (not p && not q))
+  roomier o a t j k p q = (
+    λ e. let f = under 6 o 32768 _ .0 e in let g = roomy a t j k p q .0 (f .1) in ((f .0, g .0 .0, g .0 .1), g .1),
+    λ r. under 6 o 32768 _ .1 (r .0 .0, roomy a t j k p q .1 ((r .0 .1, r .0 .2), r .1)),
+  )
+
+  pub accepts : tableNumber table ≡ 0 → (n : Node) (e : Call) → (callNumber table false n e ≡ 0) ↔ (Roomy e × So (permitted n e))
+  unfolding callNumber lowest
+  accepts z n (Open c t a) = rw z (roomy a t 10 12 (ltb 7 c) (isOpen (n .clients c)))
+  accepts z n (Close c t a) = rw z (roomy a t 10 11 (ltb 7 c) (not (isOpen (n .clients c))))
+  accepts z n (Piece c bs t a o) = rw z (roomier o a t 10 11 (ltb 7 c) (not (isOpen (n .clients c))))
+  accepts z n (Reading p bs t a o) =
+      let x = getElem? (parameters (tableOf table)) p in
+      rw z (roomier o a t 13 14 (not (isSome x)) (not (isFit (readingVerdict x bs))))
+
+-- ## Items of an accepted call
+
+-- an item that is a client's, or another's, before items that are in order
+order-own : (d : ℕ) (b : Bool) (i : Item) (x : List Item) (q : Bool) → (So q → So (due d b i))
+    → So (inOrder d (standing b (i ∷ [])) x) → So (inOrder d b x) → So (inOrder d b (consIf q i x))
+unfolding consIf
+order-own d b i x true h k l = ap₂ _&&_ (h refl) k
+order-own d b i x false h k l = l
+
+own-order : (d : ℕ) (b : Bool) (i : Item) (x : List Item) (q : Bool) → So q → So (inOrder d b (consIf q i x)) → So (due d b i)
+unfolding consIf
+own-order d b i x true e h = and-eq-true-iff (due d b i) (inOrder d (standing b (i ∷ [])) x) .0 h .0
+own-order d b i x false e h = absurd (false≢true e)
+
+module _ (c t : ℕ) where
+  -- the items of a piece: none, or a first that decides
+  piece-order : (d : ℕ) (b : Bool) → (So (eqb d c) → So (due d b (mark (feeds c t)))) → (bs : List ℕ)
+      → So (inOrder d b (own d (pieceItems c t bs)))
+  unfolding pieceItems own itemOf markOf standing
+  piece-order d b h [] = refl
+  piece-order d b h (v ∷ bs) = go (eqb v 10) (piece-order d b h bs)
+    where
+      go : (q : Bool) → So (inOrder d b (own d (pieceItems c t bs)))
+          → So (inOrder d b (own d (cond q (mark (feeds c t) ∷ []) (byte c v ∷ pieceItems c t bs))))
+      go true k = order-own d b (mark (feeds c t)) [] (eqb d c) h refl refl
+      go false k = order-own d b (byte c v) (own d (pieceItems c t bs)) (eqb d c) h k k
+
+  order-piece : (b : Bool) (v : ℕ) (bs : List ℕ) → So (inOrder c b (own c (pieceItems c t (v ∷ bs)))) → So (due c b (mark (feeds c t)))
+  unfolding pieceItems own itemOf markOf
+  order-piece b v bs = go (eqb v 10)
+    where
+      go : (q : Bool) → So (inOrder c b (own c (cond q (mark (feeds c t) ∷ []) (byte c v ∷ pieceItems c t bs))))
+          → So (due c b (mark (feeds c t)))
+      go true h = own-order c b (mark (feeds c t)) [] (eqb c c) (eq-eqb c c refl) h
+      go false h = own-order c b (byte c v) (own c (pieceItems c t bs)) (eqb c c) (eq-eqb c c refl) h
+
+  piece-reads : (table bs : List ℕ) → So (all (readable table) (marks (pieceItems c t bs)))
+  unfolding pieceItems marks all
+  piece-reads table [] = refl
+  piece-reads table (v ∷ bs) = go (eqb v 10) (piece-reads table bs)
+    where
+      go : (q : Bool) → So (all (readable table) (marks (pieceItems c t bs)))
+          → So (all (readable table) (marks (cond q (mark (feeds c t) ∷ []) (byte c v ∷ pieceItems c t bs))))
+      go true h = refl
+      go false h = h
+
+module _ (table : List ℕ) (n : Node) where
+  at-client : (i : Item) (d c : ℕ) → So (due c (isOpen (n .clients c)) i) → So (eqb d c) → So (due d (isOpen (n .clients d)) i)
+  at-client i d c h e = ap (λ k. due k (isOpen (n .clients k)) i) (eqb-true d c e) ∙ h
+
+  call-order : (e : Call) → So (permitted table n e) → (d : ℕ) → So (inOrder d (isOpen (n .clients d)) (own d (itemsOf e)))
+  unfolding itemsOf own itemOf markOf consIf
+  call-order (Open c t a) h d =
+      order-own d _ (mark (opens c t)) [] (eqb d c) (at-client (mark (opens c t)) d c h) refl refl
+  call-order (Close c t a) h d =
+      order-own d _ (mark (closes c t)) [] (eqb d c) (at-client (mark (closes c t)) d c h) refl refl
+  call-order (Piece c bs t a o) h d = piece-order c t d _ (at-client (mark (feeds c t)) d c h) bs
+  call-order (Reading p bs t a o) h d = refl
+
+  call-reads : (e : Call) → So (permitted table n e) → So (all (readable table) (marks (itemsOf e)))
+  unfolding itemsOf marks all
+  call-reads (Open c t a) h = refl
+  call-reads (Close c t a) h = refl
+  call-reads (Piece c bs t a o) h = piece-reads c t table bs
+  call-reads (Reading p bs t a o) h = ap (_&& true) h
+
+  -- and back: an empty piece has no items, so that its client's due is asked for
+  pub order-call : (e : Call) → ((d : ℕ) → So (inOrder d (isOpen (n .clients d)) (own d (itemsOf e))))
+      → So (all (readable table) (marks (itemsOf e)))
+      → ((c t a o : ℕ) → e ≡ Piece c [] t a o → So (due c (isOpen (n .clients c)) (mark (feeds c t))))
+      → So (permitted table n e)
+  unfolding itemsOf own itemOf markOf marks all
+  order-call (Open c t a) h r k = own-order c _ (mark (opens c t)) [] (eqb c c) (eq-eqb c c refl) (h c)
+  order-call (Close c t a) h r k = own-order c _ (mark (closes c t)) [] (eqb c c) (eq-eqb c c refl) (h c)
+  order-call (Piece c [] t a o) h r k = k c t a o refl
+  order-call (Piece c (b ∷ bs) t a o) h r k = order-piece c t _ b bs (h c)
+  order-call (Reading p bs t a o) h r k = and-eq-true-iff (readable table (reads p bs t)) true .0 r .0
+
+-- ## Effects
+
+put-put : {A : Type 0} (f : ℕ → A) (c : ℕ) (x y : A) → put (put f c x) c y ≡ put f c y
+unfolding put
+put-put f c x y = fun-ext (λ d. go d (eqb d c))
+  where
+    go : (d : ℕ) (q : Bool) → cond q y (cond q x (f d)) ≡ cond q y (f d)
+    go d true = refl
+    go d false = refl
+
+put-at : {A : Type 0} (f : ℕ → A) (c : ℕ) (x : A) → put f c x c ≡ x
+unfolding put
+put-at f c x = ap (λ q. cond q x (f c)) (eq-eqb c c refl)
+
+receive-more : (x : Client) (b : ℕ) (bs : List ℕ) → receive x (b ∷ bs) ≡ receive (receive x (b ∷ [])) bs
+unfolding receive
+receive-more closed b [] = refl
+receive-more closed b (v ∷ bs) = refl
+receive-more (connected l a) b bs = refl
+
+module _ (w : Table) (c t : ℕ) where
+  -- a piece does what its items do
+  piece-run : (bs : List ℕ) (n : Node)
+      → ended w (withClient n c (receive (n .clients c) (beforeFeed bs))) c t (hasFeed bs) ≡ run w n (pieceItems c t bs)
+  unfolding beforeFeed hasFeed pieceItems ended receive
+  piece-run [] n = λ i. (record { clients = put-same (n .clients) c i; values = n .values }, [])
+  piece-run (b ∷ bs) n = go (eqb b 10) (piece-run bs (after w n (byte c b) .0))
+    where
+      go : (q : Bool)
+          → (let m = after w n (byte c b) .0 in
+          ended w (withClient m c (receive (m .clients c) (beforeFeed bs))) c t (hasFeed bs) ≡ run w m (pieceItems c t bs))
+          → ended w (withClient n c (receive (n .clients c) (cond q [] (b ∷ beforeFeed bs)))) c t (cond q true (hasFeed bs))
+          ≡ run w n (cond q (mark (feeds c t) ∷ []) (byte c b ∷ pieceItems c t bs))
+      go true h =
+          ap (λ f. answer w (record { clients = f; values = n .values }) c t) (put-same (n .clients) c)
+          ∙ λ i. (answer w n c t .0, sym (append-nil (answer w n c t .1)) i)
+      go false h =
+          let f = n .clients in
+          let x = receive (f c) (b ∷ []) in
+          ap
+          (λ g. ended w (record { clients = g; values = n .values }) c t (hasFeed bs))
+          (ap (put f c) (receive-more (f c) b (beforeFeed bs))
+          ∙ sym (put-put f c x (receive x (beforeFeed bs)))
+          ∙ ap (λ y. put (put f c x) c (receive y (beforeFeed bs))) (sym (put-at f c x)))
+          ∙ h
+
+effect-run : (w : Table) (n : Node) (e : Call) → outOf (effect w n e) ≡ run w n (itemsOf e)
+unfolding effect pieceEffect itemsOf
+effect-run w n (Open c t a) = refl
+effect-run w n (Close c t a) = refl
+effect-run w n (Piece c bs t a o) = piece-run w c t bs n
+effect-run w n (Reading p bs t a o) =
+    let r = after w n (mark (reads p bs t)) in
+    λ i. (r .0, sym (append-nil (r .1)) i)
+
+-- ## Steps
+
+-- what is to hold of the items x that were used from the node n on, with what they came to
+pub record Used (table : List ℕ) (n : Node) (x : List Item) (r : Node × List Record) : Type 0 where
+  pub ran : r ≡ run (tableOf table) n x
+  pub ordered : (d : ℕ) → So (inOrder d (isOpen (n .clients d)) (own d x))
+  pub readings : So (all (readable table) (marks x))
+
+pub none-used : (table : List ℕ) (n : Node) → Used table n [] (n, [])
+unfolding own marks all
+none-used table n = record { ran = refl; ordered = λ d. refl; readings = refl }
+
+module _ (table : List ℕ) (n : Node) (e : Call) where
+  pub step-number : step table n e .1 .number ≡ callNumber table false n e
+  unfolding step stepIf settle
+  step-number = go (callNumber table false n e)
+    where
+      go : (j : ℕ) → settle j n (effect (tableOf table) n e) .1 .number ≡ j
+      go zero = refl
+      go (suc j) = refl
+
+  -- Every call, accepted or not, does what the items that it used do.
+  pub step-used : tableNumber table ≡ 0
+      → Used table n (kept (step table n e .1 .number) (itemsOf e)) (step table n e .0, step table n e .1 .records)
+  unfolding step stepIf settle kept
+  step-used z = go (callNumber table false n e) refl
+    where
+      go : (j : ℕ) → callNumber table false n e ≡ j → let r = settle j n (effect (tableOf table) n e) in
+          Used table n (kept (r .1 .number) (itemsOf e)) (r .0, r .1 .records)
+      go zero q =
+          let h = accepts table z n e .0 q .1 in
+          record {
+            ran = effect-run (tableOf table) n e;
+            ordered = call-order table n e h;
+            readings = call-reads table n e h;
+          }
+      go (suc j) q = none-used table n

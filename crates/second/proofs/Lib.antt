@@ -1,0 +1,6 @@
+pub mod Items
+pub mod Lines
+pub mod Runs
+pub mod Calls
+pub mod Second
+pub mod Accepted

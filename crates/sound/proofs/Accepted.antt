@@ -1,0 +1,163 @@
+-- What an accepted call says of its table and its time, and what an accepted table says of its parameters and commands.
+-- Assumes nothing.
+use Prim.Native.Nat.{ℕ, zero, suc, _≤_}
+use mathlib.Core.Bool.{Bool, true, false, not, _&&_}
+use mathlib.Core.List.{List, [], _∷_, map}
+use mathlib.Core.Option.{Option, none, some}
+use mathlib.Core.Path.{_≡_, refl}
+use native.Mathlib.Omega.{arith}
+use lib.Dec.{leb, ltb}
+use lib.ListN.{length, getD, length-append, length-map}
+use borrow.Author.Tests.{leb-true, ltb-false, not-false}
+use Rattle.ascii.specs.Bytes.{all}
+use Rattle.ascii.specs.Names.{isName, isText, unique}
+use Rattle.ascii.specs.Numbers.{latest}
+use Rattle.datainfo.specs.Rules.{isBetween, goodNames}
+use Rattle.datainfo.specs.Fit.{isStored}
+use Rattle.table.specs.Table.{Parameter, Command, Accessible, parameter, command, Module, Table}
+use Rattle.table.specs.Layout.{readTable, orEmpty, tableOf}
+use Rattle.table.specs.Rules.{accessibleName, accessibleCount, countsGood, noteGood, accessibleNamesGood, moduleNamesGood, namesGood, initialGood, initialsGood}
+use Rattle.table.specs.Search.{Placed, parametersOf, commandsOf, placedFrom, parameters, commands}
+use Rattle.report.specs.Report.{report}
+use Rattle.report.specs.Judge.{fault, lowest, treeNumber, numberOf, tableNumber}
+use Rattle.plain.specs.Calls.{fault10, fault11}
+use Rattle.sound.proofs.Lists.{both, Each, each-append, each-both, each-all, each-map, map-each}
+
+-- ## Numbers
+
+-- where the lowest fault is none, none is there
+pub lowest-none : (ks : List ℕ) → lowest ks ≡ 0 → (j : ℕ) → getD ks j 0 ≡ 0
+unfolding lowest
+lowest-none [] e j = refl
+lowest-none (zero ∷ ks) e zero = refl
+lowest-none (zero ∷ ks) e (suc j) = lowest-none ks e j
+lowest-none (suc k ∷ ks) e j = absurd (omega arith)
+
+pub no-fault : (k : ℕ) (b : Bool) → fault (suc k) b ≡ 0 → b ≡ false
+no-fault k true e = absurd (omega arith)
+no-fault k false e = refl
+
+pub client-low : (c : ℕ) → fault11 c ≡ 0 → c ≤ 7
+client-low c e = ltb-false 7 c (no-fault 10 (ltb 7 c) e)
+
+pub time-low : (t : ℕ) → fault10 t ≡ 0 → t ≤ latest
+time-low t e = ltb-false latest t (no-fault 9 (ltb latest t) e)
+
+-- ## Parameters and commands
+
+-- good names, of a module and of what it has
+abbrev pub GoodNames : List ℕ → List ℕ → Type 0
+GoodNames m a = (isName m ≡ true) × (isName a ≡ true)
+
+abbrev GoodAccessible : Accessible → Type 0
+GoodAccessible a = (isName (accessibleName a) ≡ true) × (initialGood a ≡ true)
+
+abbrev GoodModule : Module → Type 0
+GoodModule m = (isName (m .name) ≡ true) × Each GoodAccessible (m .accessibles)
+
+abbrev pub GoodParameter : Placed Parameter → Type 0
+GoodParameter p = GoodNames (p .moduleName) (p .it .name) × (isStored (p .it .datainfo) (p .it .initial) ≡ true)
+
+abbrev pub GoodCommand : Placed Command → Type 0
+GoodCommand p = GoodNames (p .moduleName) (p .it .name)
+
+-- of what `of` takes out of a module's accessibles
+module _ {A : Type 0} (of : List Accessible → List A) where
+  placed : (P : Placed A → Type 0)
+      → ((n : ℕ) (name : List ℕ) → isName name ≡ true → (l : List Accessible) → Each GoodAccessible l
+      → Each (λ (a : A). P (record { home = n; moduleName = name; it = a })) (of l))
+      → (n : ℕ) (ms : List Module) → Each GoodModule ms → Each P (placedFrom of n ms)
+  unfolding placedFrom
+  placed P f n [] h = tt
+  placed P f n (m ∷ ms) h =
+      let place : A → Placed A = λ a. record { home = n; moduleName = m .name; it = a } in
+      each-append P (map place (of (m .accessibles))) (placedFrom of (suc n) ms)
+      (each-map P place (of (m .accessibles)) (f n (m .name) (h .0 .0) (m .accessibles) (h .0 .1)))
+      (placed P f (suc n) ms (h .1))
+
+  placed-count : ((l : List Accessible) → length (of l) ≤ length l)
+      → (n : ℕ) (ms : List Module) → length (placedFrom of n ms) ≤ accessibleCount ms
+  unfolding placedFrom accessibleCount
+  placed-count f n [] = omega arith
+  placed-count f n (m ∷ ms) =
+      simp (length-append, length-map) (omega (arith, f (m .accessibles), placed-count f (suc n) ms))
+
+parameters-count : (l : List Accessible) → length (parametersOf l) ≤ length l
+unfolding parametersOf
+parameters-count [] = omega arith
+parameters-count (parameter p ∷ l) = omega (arith, parameters-count l)
+parameters-count (command c ∷ l) = omega (arith, parameters-count l)
+
+parameters-good : (n : ℕ) (name : List ℕ) → isName name ≡ true → (l : List Accessible) → Each GoodAccessible l
+    → Each (λ (a : Parameter). GoodParameter (record { home = n; moduleName = name; it = a })) (parametersOf l)
+unfolding parametersOf accessibleName initialGood
+parameters-good n name e [] h = tt
+parameters-good n name e (parameter p ∷ l) h = (((e, h .0 .0), h .0 .1), parameters-good n name e l (h .1))
+parameters-good n name e (command c ∷ l) h = parameters-good n name e l (h .1)
+
+commands-good : (n : ℕ) (name : List ℕ) → isName name ≡ true → (l : List Accessible) → Each GoodAccessible l
+    → Each (λ (a : Command). GoodCommand (record { home = n; moduleName = name; it = a })) (commandsOf l)
+unfolding commandsOf accessibleName
+commands-good n name e [] h = tt
+commands-good n name e (parameter p ∷ l) h = commands-good n name e l (h .1)
+commands-good n name e (command c ∷ l) h = ((e, h .0 .0), commands-good n name e l (h .1))
+
+-- ## Accepted tables
+
+pub record Accepted (w : Table) : Type 0 where
+  pub allParameters : Each GoodParameter (parameters w)
+  pub allCommands : Each GoodCommand (commands w)
+  pub few : length (parameters w) ≤ 64
+  pub short : length (report w) ≤ 32000
+
+good-module : (m : Module) → isName (m .name) ≡ true → moduleNamesGood m ≡ true → all initialGood (m .accessibles) ≡ true
+    → GoodModule m
+unfolding moduleNamesGood goodNames
+good-module m e f g =
+    let l = m .accessibles in
+    let names = map accessibleName l in
+    let a = both (isText (m .description) && noteGood (m .note) && (all isName names && unique names)) (all accessibleNamesGood l) f .0 in
+    let b = both (isText (m .description) && noteGood (m .note)) (all isName names && unique names) a .1 in
+    let c = both (all isName names) (unique names) b .0 in
+    let named = map-each (λ k. isName k ≡ true) accessibleName l (each-all isName names c) in
+    (e, each-both (λ a. isName (accessibleName a) ≡ true) (λ a. initialGood a ≡ true) l named (each-all initialGood l g))
+
+good-modules : (ms : List Module) → all isName (map (λ (m : Module). m .name) ms) ≡ true → all moduleNamesGood ms ≡ true
+    → all (λ (m : Module). all initialGood (m .accessibles)) ms ≡ true → Each GoodModule ms
+unfolding all
+good-modules [] e f g = tt
+good-modules (m ∷ ms) e f g =
+    let a = both (isName (m .name)) (all isName (map (λ (m : Module). m .name) ms)) e in
+    let b = both (moduleNamesGood m) (all moduleNamesGood ms) f in
+    let c = both (all initialGood (m .accessibles)) (all (λ (m : Module). all initialGood (m .accessibles)) ms) g in
+    (good-module m (a .0) (b .0) (c .0), good-modules ms (a .1) (b .1) (c .1))
+
+accepted-tree : (w : Table) → treeNumber w ≡ 0 → Accepted w
+unfolding treeNumber countsGood namesGood goodNames initialsGood parameters commands
+accepted-tree w e =
+    let none-of = lowest-none _ e in
+    let h2 = not-false (countsGood w) (no-fault 1 (not (countsGood w)) (none-of 0)) in
+    let h3 = not-false (namesGood w) (no-fault 2 (not (namesGood w)) (none-of 1)) in
+    let h5 = not-false (initialsGood w) (no-fault 4 (not (initialsGood w)) (none-of 3)) in
+    let h6 = no-fault 5 (ltb 32000 (length (report w))) (none-of 4) in
+    let names = map (λ (m : Module). m .name) (w .modules) in
+    let texts = isText (w .equipmentId) && isText (w .description) in
+    let c = both (isBetween 1 16 (length (w .modules))) (leb (accessibleCount (w .modules)) 64) h2 in
+    let a = both (texts && (all isName names && unique names)) (all moduleNamesGood (w .modules)) h3 in
+    let b = both texts (all isName names && unique names) (a .0) in
+    let d = both (all isName names) (unique names) (b .1) in
+    let ms = good-modules (w .modules) (d .0) (a .1) h5 in
+    record {
+      allParameters = placed parametersOf GoodParameter parameters-good 0 (w .modules) ms;
+      allCommands = placed commandsOf GoodCommand commands-good 0 (w .modules) ms;
+      few = omega (arith, placed-count parametersOf parameters-count 0 (w .modules), leb-true (accessibleCount (w .modules)) 64 (c .1));
+      short = ltb-false 32000 (length (report w)) h6;
+    }
+
+pub accepted : (table : List ℕ) → tableNumber table ≡ 0 → Accepted (tableOf table)
+unfolding tableNumber tableOf numberOf orEmpty
+accepted table e = go (readTable table) e
+  where
+    go : (o : Option Table) → numberOf o ≡ 0 → Accepted (orEmpty o)
+    go none e = absurd (omega arith)
+    go (some w) e = accepted-tree w e

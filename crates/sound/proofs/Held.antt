@@ -1,0 +1,87 @@
+-- Small changes of a sound node leave it sound. Assumes nothing.
+use Prim.Native.Nat.{ℕ, _≤_, _<_}
+use mathlib.Core.Bool.{Bool, false, not, _&&_, _||_}
+use mathlib.Core.Option.{some}
+use mathlib.Core.Path.{_≡_, refl, sym, subst}
+use native.Mathlib.Omega.{arith}
+use lib.Dec.{eqb, ltb}
+use lib.ListN.{length, getElem?}
+use borrow.Author.Tests.{eqb-true, le-ltb}
+use Rattle.ascii.specs.Bytes.{all}
+use Rattle.ascii.specs.Numbers.{latest}
+use Rattle.table.specs.Table.{Parameter, Table}
+use Rattle.table.specs.Search.{Placed, parameters}
+use Rattle.plain.specs.Node.{Client, closed, connected, Value, Node, put, withClient, withValue, lineOf, isActive, emptied, activated, initially, begin}
+use Rattle.sound.specs.Theorems.{LineHeld, ClientHeld, ValueHeld, Sound}
+use Rattle.sound.proofs.Lists.{either, each-at}
+use Rattle.sound.proofs.Accepted.{Accepted, GoodParameter}
+
+-- what holds at every place still does with another value at one place
+put-held : {A : Type 0} (P : ℕ → A → Type 0) (f : ℕ → A) (k : ℕ) (a : A)
+    → P k a → ((j : ℕ) → P j (f j)) → (j : ℕ) → P j (put f k a j)
+unfolding put
+put-held P f k a h g j = either (P j) (eqb j k) (λ e. subst (λ i. P i a) (sym (eqb-true j k e)) h) (λ e. g j)
+
+module _ (w : Table) where
+  -- ## Nodes
+
+  pub with-client : (n : Node) (c : ℕ) (x : Client) → c ≤ 7 → ClientHeld w x → Sound w n → Sound w (withClient n c x)
+  with-client n c x h k s =
+      record {
+        values = s .values;
+        clients = put-held (λ j. ClientHeld w) (n .clients) c x k (s .clients);
+        above = put-held (λ j y. 7 < j → y ≡ closed) (n .clients) c x (λ i. absurd (omega arith)) (s .above);
+      }
+
+  pub with-value : (n : Node) (k : ℕ) (v : Value)
+      → ((p : Placed Parameter) → getElem? (parameters w) k ≡ some p → ValueHeld (p .it) v)
+      → Sound w n → Sound w (withValue n k v)
+  with-value n k v h s =
+      record {
+        values =
+            put-held (λ j y. (p : Placed Parameter) → getElem? (parameters w) j ≡ some p → ValueHeld (p .it) y) (n .values) k v h (s .values);
+        clients = s .clients;
+        above = s .above;
+      }
+
+  pub begun : Accepted w → (t : ℕ) → t ≤ latest → Sound w (begin w t)
+  unfolding begin initially
+  begun a t h =
+      record {
+        values = λ k p e. rw e (each-at GoodParameter (parameters w) (a .allParameters) k p e .1, h);
+        clients = λ c. tt;
+        above = λ c i. refl;
+      }
+
+  -- ## Clients
+
+  pub line-held : (x : Client) → ClientHeld w x → LineHeld (lineOf x)
+  unfolding lineOf all
+  line-held closed h = (omega arith, refl)
+  line-held (connected l a) h = h .0
+
+  pub emptied-held : (x : Client) → ClientHeld w x → ClientHeld w (emptied x)
+  unfolding emptied all
+  emptied-held closed h = tt
+  emptied-held (connected l a) h = ((omega arith, refl), h .1)
+
+  inactive-held : (x : Client) → ClientHeld w x → (i : ℕ) → length (w .modules) ≤ i → isActive x i ≡ false
+  unfolding isActive
+  inactive-held closed h i e = refl
+  inactive-held (connected l a) h i e = h .1 i e
+
+  activated-held : (f : ℕ → Bool) (x : Client) → ((i : ℕ) → length (w .modules) ≤ i → f i ≡ false)
+      → ClientHeld w x → ClientHeld w (activated f x)
+  unfolding activated
+  activated-held f closed g h = tt
+  activated-held f (connected l a) g h = (h .0, g)
+
+  pub more-active : (x : Client) (wanted : ℕ → Bool) → ClientHeld w x
+      → ClientHeld w (activated (λ i. isActive x i || (ltb i (length (w .modules)) && wanted i)) x)
+  more-active x wanted h =
+      activated-held (λ i. isActive x i || (ltb i (length (w .modules)) && wanted i)) x
+      (λ i e. rw (inactive-held x h i e, le-ltb i (length (w .modules)) e)) h
+
+  pub less-active : (x : Client) (wanted : ℕ → Bool) → ClientHeld w x
+      → ClientHeld w (activated (λ i. isActive x i && not (wanted i)) x)
+  less-active x wanted h = activated-held (λ i. isActive x i && not (wanted i)) x (λ i e. rw (inactive-held x h i e)) h

@@ -1,0 +1,8 @@
+pub mod Lists
+pub mod Accepted
+pub mod Values
+pub mod Records
+pub mod Lines
+pub mod Held
+pub mod Steps
+pub mod Histories

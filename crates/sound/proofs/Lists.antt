@@ -1,0 +1,83 @@
+-- What holds of each element of a list, and what tests and searches that pass say of it. Assumes nothing.
+use Prim.Native.Nat.{ℕ, zero, suc, _+_}
+use mathlib.Core.Bool.{Bool, true, false, cond, _&&_, and-eq-true-iff}
+use mathlib.Core.List.{List, [], _∷_, _++_, map}
+use mathlib.Core.Option.{some}
+use mathlib.Core.Path.{_≡_, refl, ap, subst}
+use native.Mathlib.Omega.{arith}
+use lib.ListN.{getElem?}
+use Rattle.ascii.specs.Bytes.{all, takeWhile}
+use Rattle.table.specs.Search.{firstFrom, first}
+
+-- both of two tests
+pub both : (a b : Bool) → a && b ≡ true → (a ≡ true) × (b ≡ true)
+both a b = and-eq-true-iff a b .0
+
+-- what holds of both ways of a choice
+pub either : {A : Type 0} (Q : A → Type 0) (b : Bool) {x y : A} → (b ≡ true → Q x) → (b ≡ false → Q y) → Q (cond b x y)
+either Q true f g = f refl
+either Q false f g = g refl
+
+module _ {A : Type 0} where
+  abbrev pub Each : (A → Type 0) → List A → Type 0
+  Each P [] = Unit {0}
+  Each P (x ∷ xs) = P x × Each P xs
+
+  pub each-at : (P : A → Type 0) (l : List A) → Each P l → (k : ℕ) (x : A) → getElem? l k ≡ some x → P x
+  each-at P [] h k x e = let z : _≡_ {A = ℕ} 0 1 = cc in absurd (omega arith)
+  each-at P (y ∷ l) h zero x e = subst P (cc) (h .0)
+  each-at P (y ∷ l) h (suc k) x e = each-at P l (h .1) k x e
+
+  pub each-append : (P : A → Type 0) (l m : List A) → Each P l → Each P m → Each P (l ++ m)
+  each-append P [] m h k = k
+  each-append P (x ∷ l) m h k = (h .0, each-append P l m (h .1) k)
+
+  pub each-both : (P Q : A → Type 0) (l : List A) → Each P l → Each Q l → Each (λ x. P x × Q x) l
+  each-both P Q [] h k = tt
+  each-both P Q (x ∷ l) h k = ((h .0, k .0), each-both P Q l (h .1) (k .1))
+
+  pub each-all : (p : A → Bool) (l : List A) → all p l ≡ true → Each (λ x. p x ≡ true) l
+  unfolding all
+  each-all p [] e = tt
+  each-all p (x ∷ l) e = let h = both (p x) (all p l) e in (h .0, each-all p l (h .1))
+
+  -- a search's find stands in the list at its number
+  first-from : (p : A → Bool) (n : ℕ) (l : List A) (r : ℕ × A)
+      → firstFrom p n l ≡ some r → (j : ℕ) × (r .0 ≡ n + j) × (getElem? l j ≡ some (r .1))
+  unfolding firstFrom
+  first-from p n [] r e = let z : _≡_ {A = ℕ} 0 1 = cc in absurd (omega arith)
+  first-from p n (x ∷ l) r e = go (p x) (first-from p (suc n) l r) e
+    where
+      Found : List A → ℕ → Type 0
+      Found l n = (j : ℕ) × (r .0 ≡ n + j) × (getElem? l j ≡ some (r .1))
+
+      go : (b : Bool) → (firstFrom p (suc n) l ≡ some r → Found l (suc n)) → cond b (some (n, x)) (firstFrom p (suc n) l) ≡ some r
+          → Found (x ∷ l) n
+      go true f e =
+          let q : _≡_ {A = ℕ × A} (n, x) r = cc in
+          (0, omega (arith, ap (λ (s : ℕ × A). s .0) q), ap (λ (s : ℕ × A). some (s .1)) q)
+      go false f e = let g : Found l (suc n) = f e in (suc (g .0), omega (arith, g .1), g .2)
+
+  pub first-at : (p : A → Bool) (l : List A) (r : ℕ × A) → first p l ≡ some r → getElem? l (r .0) ≡ some (r .1)
+  unfolding first
+  first-at p l r e =
+      let g = first-from p 0 l r e in
+      subst (λ j. getElem? l j ≡ some (r .1)) (omega (arith, g .1)) (g .2)
+
+  -- the front of a list that passes
+  pub all-takeWhile : (p : A → Bool) (l : List A) → all p (takeWhile p l) ≡ true
+  unfolding all takeWhile
+  all-takeWhile p [] = refl
+  all-takeWhile p (x ∷ l) = go (p x) refl (all-takeWhile p l)
+    where
+      go : (b : Bool) → p x ≡ b → all p (takeWhile p l) ≡ true → all p (cond b (x ∷ takeWhile p l) []) ≡ true
+      go true e h = rw (e, all) h
+      go false e h = refl
+
+pub each-map : {A B : Type 0} (P : B → Type 0) (f : A → B) (l : List A) → Each (λ a. P (f a)) l → Each P (map f l)
+each-map P f [] h = tt
+each-map P f (x ∷ l) h = (h .0, each-map P f l (h .1))
+
+pub map-each : {A B : Type 0} (P : B → Type 0) (f : A → B) (l : List A) → Each P (map f l) → Each (λ a. P (f a)) l
+map-each P f [] h = tt
+map-each P f (x ∷ l) h = (h .0, map-each P f l (h .1))

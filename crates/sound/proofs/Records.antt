@@ -1,0 +1,198 @@
+-- Records that are well formed, and the bytes that they take. Assumes nothing.
+use Prim.Native.Nat.{ℕ, zero, suc, _+_, _*_, _/_, _^_, _≤_, _<_}
+use mathlib.Core.Bool.{Bool, true, false, cond, not, _&&_}
+use mathlib.Core.List.{List, [], _∷_, _++_}
+use mathlib.Core.Option.{Option, none, some}
+use mathlib.Core.Path.{_≡_, refl, subst}
+use native.Mathlib.Nat.{add-zero}
+use native.Mathlib.Omega.{arith}
+use lib.Dec.{leb, ltb}
+use lib.ListN.{length, getElem?, length-append}
+use borrow.Author.Tests.{leb-true, ltb-false}
+use Rattle.ascii.specs.Text.{bytes}
+use Rattle.ascii.specs.Bytes.{all, head, isDigit}
+use Rattle.ascii.specs.Names.{isName, isNameByte}
+use Rattle.ascii.specs.Numbers.{twoBytes, digitsIn, decimal, seconds, latest}
+use Rattle.message.specs.Error.{Class, ProtocolError, NoSuchModule, NoSuchParameter, NoSuchCommand, ReadOnly, BadJSON, WrongType, RangeError, className, classText}
+use Rattle.message.specs.Reply.{Report, Reply, identification, describing, pong, active, inactive, reply, changed, done, error, dataReport, reportText, errorReport, optionally, replyLine, updateLine}
+use Rattle.outbox.specs.Outbox.{Record, final, update, orderChange, orderCommand, mark, body, encode, encodeAll}
+use Rattle.outbox.specs.Theorems.{Word, Named, WellFormed, WellFormedReply, AllWellFormed}
+use Rattle.table.specs.Table.{Parameter}
+use Rattle.table.specs.Search.{Placed}
+use Rattle.plain.specs.Node.{Client, Value, isActive, reportOf, updatesTo, updatesOf}
+use Rattle.sound.proofs.Lists.{both}
+use Rattle.sound.proofs.Accepted.{GoodNames}
+
+-- ## Texts
+
+digits-short : (k j n : ℕ) → n < 10 ^ suc j → length (digitsIn k n) ≤ suc j
+unfolding digitsIn
+digits-short zero j n h = omega arith
+digits-short (suc k) j n h = go (ltb n 10) refl j h (digits-short k)
+  where
+    go : (b : Bool) → ltb n 10 ≡ b → (j : ℕ) → n < 10 ^ suc j
+        → ((j m : ℕ) → m < 10 ^ suc j → length (digitsIn k m) ≤ suc j)
+        → length (digitsIn (suc k) n) ≤ suc j
+    go true e j h f = rw (e, digitsIn) (omega arith)
+    go false e zero h f = absurd (omega (arith, ltb-false n 10 e))
+    go false e (suc j) h f = rw (e, digitsIn) (simp length-append (omega (arith, f j (n / 10) (omega arith))))
+
+pub seconds-short : (t : ℕ) → t ≤ latest → length (seconds t) ≤ 14
+unfolding seconds decimal bytes
+seconds-short t h = simp length-append (omega (arith, digits-short (suc (t / 1000)) 9 (t / 1000) (omega arith)))
+
+pub name-short : (xs : List ℕ) → isName xs ≡ true → length xs ≤ 63
+unfolding isName
+name-short xs e =
+    let a = both (leb 1 (length xs) && leb (length xs) 63 && not (isDigit (head xs))) (all isNameByte xs) e .0 in
+    let b = both (leb 1 (length xs) && leb (length xs) 63) (not (isDigit (head xs))) a .0 in
+    leb-true (length xs) 63 (both (leb 1 (length xs)) (leb (length xs) 63) b .1)
+
+-- a report by good names, of a value of at most 256 bytes, at a time within the limit
+pub record Fine (r : Report) : Type 0 where
+  pub names : GoodNames (r .moduleName) (r .accessible)
+  pub small : length (r .value) ≤ 256
+  pub inTime : r .time ≤ latest
+
+data-short : (v : List ℕ) (t : ℕ) → t ≤ latest → length (dataReport v t) ≤ length v + 23
+unfolding dataReport bytes
+data-short v t h = simp length-append (omega (arith, seconds-short t h))
+
+report-short : (r : Report) → Fine r → length (reportText r) ≤ 407
+unfolding reportText bytes
+report-short r f =
+    simp length-append
+    (omega (
+      arith,
+      f .small,
+      data-short (r .value) (r .time) (f .inTime),
+      name-short (r .moduleName) (f .names .0),
+      name-short (r .accessible) (f .names .1),
+    ))
+
+class-short : (e : Class) → length (errorReport e) ≤ 64
+unfolding errorReport className classText bytes
+class-short ProtocolError = omega arith
+class-short NoSuchModule = omega arith
+class-short NoSuchParameter = omega arith
+class-short NoSuchCommand = omega arith
+class-short ReadOnly = omega arith
+class-short BadJSON = omega arith
+class-short WrongType = omega arith
+class-short RangeError = omega arith
+
+-- ## Replies
+
+-- a reply that is well formed, and at most k bytes
+abbrev pub Says : Reply → ℕ → Type 0
+Says r k = WellFormedReply r × (length (replyLine r) ≤ k)
+
+pub says-identification : Says identification 36
+unfolding replyLine bytes
+says-identification = (tt, omega arith)
+
+pub says-describing : (xs : List ℕ) → length xs ≤ 32000 → Says (describing xs) 32013
+unfolding replyLine bytes
+says-describing xs h = (tt, omega arith)
+
+pub says-pong : (xs : List ℕ) (t : ℕ) → Word xs → length xs ≤ 1024 → t ≤ latest → Says (pong xs t) 1057
+unfolding replyLine bytes
+says-pong xs t e h i = (e, simp length-append (omega (arith, data-short (bytes "null") t i)))
+
+optionally-short : (w : List ℕ) (m : Option (List ℕ)) → Named m → length (optionally w m) ≤ length w + 64
+unfolding optionally bytes
+optionally-short w none e = omega arith
+optionally-short w (some m) e = simp length-append (omega (arith, name-short m e))
+
+pub says-active : (m : Option (List ℕ)) → Named m → Says (active m) 70
+unfolding replyLine bytes
+says-active m e = (e, omega (arith, optionally-short (bytes "active") m e))
+
+pub says-inactive : (m : Option (List ℕ)) → Named m → Says (inactive m) 72
+unfolding replyLine bytes
+says-inactive m e = (e, omega (arith, optionally-short (bytes "inactive") m e))
+
+pub says-reply : (r : Report) → Fine r → Says (reply r) 415
+unfolding replyLine bytes
+says-reply r f = (f .names, omega (arith, report-short r f))
+
+pub says-changed : (r : Report) → Fine r → Says (changed r) 415
+unfolding replyLine bytes
+says-changed r f = (f .names, omega (arith, report-short r f))
+
+pub says-done : (r : Report) → Fine r → Says (done r) 415
+unfolding replyLine bytes
+says-done r f = (f .names, omega (arith, report-short r f))
+
+pub says-error : (a s : List ℕ) (e : Class) → Word a → Word s → length a ≤ 1024 → length s ≤ 1024 → Says (error a s e) 2120
+unfolding replyLine bytes
+says-error a s e p q h i = ((p, q), simp length-append (omega (arith, class-short e)))
+
+-- ## Records
+
+-- records that are well formed, and at most k bytes
+pub record Written (rs : List Record) (k : ℕ) : Type 0 where
+  pub formed : AllWellFormed rs
+  pub short : length (encodeAll rs) ≤ k
+
+pub written-none : Written [] 0
+unfolding encodeAll
+written-none = record { formed = tt; short = omega arith }
+
+pub written-one : (r : Record) (k : ℕ) → WellFormed r → length (body r) + 5 ≤ k → Written (r ∷ []) k
+unfolding encodeAll encode twoBytes
+written-one r k w h = record { formed = (w, tt); short = simp length-append (omega (arith, mark-two r)) }
+  where
+    mark-two : (r : Record) → length (mark r) ≡ 2
+    mark-two (final c r) = unfold mark bytes in refl
+    mark-two (update c r) = unfold mark bytes in refl
+    mark-two (orderChange c p v) = unfold mark bytes in refl
+    mark-two (orderCommand c p v) = unfold mark bytes in refl
+
+formed-append : (rs ss : List Record) → AllWellFormed rs → AllWellFormed ss → AllWellFormed (rs ++ ss)
+formed-append [] ss h k = k
+formed-append (r ∷ rs) ss h k = (h .0, formed-append rs ss (h .1) k)
+
+encode-append : (rs ss : List Record) → length (encodeAll (rs ++ ss)) ≡ length (encodeAll rs) + length (encodeAll ss)
+unfolding encodeAll
+encode-append [] ss = omega arith
+encode-append (r ∷ rs) ss = simp length-append (omega (arith, encode-append rs ss))
+
+pub written-append : (rs ss : List Record) (j k : ℕ) → Written rs j → Written ss k → Written (rs ++ ss) (j + k)
+written-append rs ss j k h i =
+    record { formed = formed-append rs ss (h .formed) (i .formed); short = rw encode-append (omega (arith, h .short, i .short)) }
+
+pub written-within : {rs : List Record} {j : ℕ} (k : ℕ) → j ≤ k → Written rs j → Written rs k
+written-within k e h = record { formed = h .formed; short = omega (arith, h .short) }
+
+-- a final reply
+pub written-final : (c : ℕ) (r : Reply) (k : ℕ) → Says r k → Written (final c r ∷ []) (k + 6)
+unfolding body bytes
+written-final c r k h = written-one (final c r) (k + 6) (h .0) (simp length-append (omega (arith, h .1)))
+
+-- ## Updates
+
+-- one update or none, before others
+written-update : (b : Bool) (c : ℕ) (r : Report) → Fine r → (rs : List Record) (j : ℕ) → Written rs (j * 420)
+    → Written (cond b (update c r ∷ []) [] ++ rs) (suc j * 420)
+unfolding body updateLine bytes
+written-update false c r f rs j h = written-within (suc j * 420) (omega arith) h
+written-update true c r f rs j h =
+    let one = written-one (update c r) 420 (f .names) (simp length-append (omega (arith, report-short r f))) in
+    written-within (suc j * 420) (omega arith) (written-append (update c r ∷ []) rs 420 (j * 420) one h)
+
+pub written-to : (f : ℕ → Client) (i : ℕ) (r : Report) → Fine r → (cs : List ℕ)
+    → Written (updatesTo f i r cs) (length cs * 420)
+unfolding updatesTo
+written-to f i r g [] = written-none
+written-to f i r g (c ∷ cs) = written-update (isActive (f c) i) c r g (updatesTo f i r cs) (length cs) (written-to f i r g cs)
+
+pub written-of : (c : ℕ) (wanted : ℕ → Bool) (values : ℕ → Value) (k : ℕ) (ps : List (Placed Parameter))
+    → ((j : ℕ) (p : Placed Parameter) → getElem? ps j ≡ some p → Fine (reportOf p (values (k + j))))
+    → Written (updatesOf c wanted values k ps) (length ps * 420)
+unfolding updatesOf
+written-of c wanted values k [] h = written-none
+written-of c wanted values k (p ∷ ps) h =
+    let here : Fine (reportOf p (values k)) = rw add-zero at (h 0 p refl) in
+    written-update (wanted (p .home)) c (reportOf p (values k)) here (updatesOf c wanted values (suc k) ps) (length ps)
+    (written-of c wanted values (suc k) ps λ j q e. subst (λ i. Fine (reportOf q (values i))) (omega arith) (h (suc j) q e))

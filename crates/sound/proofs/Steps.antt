@@ -1,0 +1,256 @@
+-- One call: an accepted one leaves a sound node, and writes well-formed records of at most 32,019 bytes. Assumes nothing.
+use Prim.Native.Nat.{ℕ, zero, suc, _+_, _*_, _≤_}
+use mathlib.Core.Bool.{Bool, true, false, not}
+use mathlib.Core.List.{List, [], _∷_, _++_}
+use mathlib.Core.Option.{Option, none, some}
+use mathlib.Core.Path.{_≡_, refl, subst}
+use native.Mathlib.Nat.{zero-add}
+use native.Mathlib.Omega.{arith}
+use lib.Dec.{eqb}
+use lib.ListN.{length, getElem?}
+use borrow.Author.Tests.{not-false}
+use Rattle.ascii.specs.Text.{bytes}
+use Rattle.ascii.specs.Bytes.{all}
+use Rattle.ascii.specs.Numbers.{latest}
+use Rattle.datainfo.specs.Datainfo.{Datainfo}
+use Rattle.datainfo.specs.Fit.{Verdict, fits, rangeError, wrongType, badJSON, severity, verdict, storedForm, isFit}
+use Rattle.message.specs.Line.{Parts, content, partsOf}
+use Rattle.message.specs.Request.{Request, identify, describe, ping, activate, deactivate, read, change, execute, malformed, request}
+use Rattle.message.specs.Error.{Class, NoSuchModule, NoSuchParameter, NoSuchCommand}
+use Rattle.message.specs.Reply.{Report, Reply, identification, describing, pong, active, inactive, reply, changed, done, error}
+use Rattle.outbox.specs.Outbox.{Record, final, orderChange, orderCommand, body}
+use Rattle.outbox.specs.Theorems.{Named}
+use Rattle.table.specs.Table.{Parameter, Command, Table}
+use Rattle.table.specs.Layout.{tableOf}
+use Rattle.table.specs.Search.{Placed, parameters, commands, first, findModule, findParameter, findCommand}
+use Rattle.report.specs.Report.{report}
+use Rattle.plain.specs.Node.{closed, Value, Node, withClient, withValue, fresh, lineOf, receive, emptied, reportOf, clientNumbers, updatesTo}
+use Rattle.plain.specs.Answer.{Outcome, refused, carried, found, letIn, argumentVerdict, argumentForm, activates, deactivates, inScope, reads, sets, changes, does, outcome, conclude, answerParts, answer}
+use Rattle.plain.specs.Calls.{Call, Open, Close, Piece, Reading, readingVerdict, callNumber, beforeFeed, hasFeed, ended, pieceEffect, readingEffect, effect, settle, stepIf}
+use Rattle.plain.specs.History.{step}
+use Rattle.sound.specs.Theorems.{ValueHeld, Sound}
+use Rattle.sound.proofs.Lists.{either, each-at, first-at}
+use Rattle.sound.proofs.Accepted.{Accepted, GoodParameter, GoodCommand, lowest-none, no-fault, client-low, time-low}
+use Rattle.sound.proofs.Values.{stored, stored-short, short-stored}
+use Rattle.sound.proofs.Records.{Fine, Says, says-identification, says-describing, says-pong, says-active, says-inactive, says-reply, says-changed, says-done, says-error, Written, written-none, written-one, written-append, written-within, written-final, written-to, written-of}
+use Rattle.sound.proofs.Lines.{before-feed, received, content-short, ShortWord, parts-words, Asked, asked}
+use Rattle.sound.proofs.Held.{with-client, with-value, line-held, emptied-held, more-active, less-active}
+
+-- a node that is left, and the records that are written
+pub record Kept (w : Table) (n : Node) (rs : List Record) : Type 0 where
+  pub sound : Sound w n
+  pub written : Written rs 32019
+
+-- what is left and written where a request comes to this; an error is for `concluded`
+abbrev Comes : Table → ℕ → Outcome → Type 0
+Comes w c (refused e) = Unit {0}
+Comes w c (carried m rs r) = Kept w m (rs ++ (final c r ∷ []))
+
+-- ## Lines, on an accepted table, at a sound node
+
+module _ (w : Table) (a : Accepted w) (n : Node) (s : Sound w n) where
+  fine : (k : ℕ) (p : Placed Parameter) → getElem? (parameters w) k ≡ some p → (v : Value) → ValueHeld (p .it) v
+      → Fine (reportOf p v)
+  fine k p e v h =
+      record {
+        names = each-at GoodParameter (parameters w) (a .allParameters) k p e .0;
+        small = short-stored (p .it .datainfo) (v .text) (h .0);
+        inTime = h .1;
+      }
+
+  -- a value that fits is stored
+  module _ (k : ℕ) (p : Placed Parameter) (e : getElem? (parameters w) k ≡ some p) (bs : List ℕ)
+      (f : isFit (verdict (p .it .datainfo) bs) ≡ true) (t : ℕ) (h : t ≤ latest) where
+    abbrev new : Value
+    new = record { text = storedForm bs; time = t }
+
+    new-value : ValueHeld (p .it) new
+    new-value = (stored (p .it .datainfo) bs f, h)
+
+    new-node : Sound w (withValue n k new)
+    new-node = with-value w n k new (λ q j. let i : p ≡ q = cc in subst (λ q. ValueHeld (q .it) new) i new-value) s
+
+    new-updates : Written (updatesTo (n .clients) (p .home) (reportOf p new) clientNumbers) 3360
+    new-updates = written-to (n .clients) (p .home) (reportOf p new) (fine k p e new new-value) clientNumbers
+
+  -- requests of client c at the time t
+  module _ (c : ℕ) (low : c ≤ 7) (t : ℕ) (h : t ≤ latest) where
+    comes : (m : Node) (rs : List Record) (r : Reply) (j k : ℕ) → Sound w m → Written rs j → Says r k → j + (k + 6) ≤ 32019
+        → Comes w c (carried m rs r)
+    comes m rs r j k u v x i =
+        record {
+          sound = u;
+          written = written-within 32019 i (written-append rs (final c r ∷ []) j (k + 6) v (written-final c r k x));
+        }
+
+    only : (r : Reply) (k : ℕ) → Says r k → k ≤ 32013 → Comes w c (carried n [] r)
+    only r k x i = comes n [] r 0 k s written-none x (omega arith)
+
+    comes-found : {A : Type 0} (e : Class) (o : Option A) (f : A → Outcome) → ((x : A) → o ≡ some x → Comes w c (f x))
+        → Comes w c (found e o f)
+    unfolding found
+    comes-found e none f g = tt
+    comes-found e (some x) f g = g x refl
+
+    -- a module that is found, and what is found in it
+    comes-placed : {A : Type 0} (m : List ℕ) (e : Class) (p : A → Bool) (l : List A) (f : ℕ × A → Outcome)
+        → ((k : ℕ × A) → getElem? l (k .0) ≡ some (k .1) → Comes w c (f k))
+        → Comes w c (found NoSuchModule (findModule w m) λ x. found e (first p l) f)
+    comes-placed m e p l f i =
+        comes-found NoSuchModule (findModule w m) (λ x. found e (first p l) f) λ x q.
+        comes-found e (first p l) f λ k z. i k (first-at p l k z)
+
+    comes-letIn : (v : Verdict) (o : Outcome) → (isFit v ≡ true → Comes w c o) → Comes w c (letIn v o)
+    unfolding letIn isFit severity
+    comes-letIn fits o g = g refl
+    comes-letIn rangeError o g = tt
+    comes-letIn wrongType o g = tt
+    comes-letIn badJSON o g = tt
+
+    comes-activates : (wanted : ℕ → Bool) (m : Option (List ℕ)) → Named m → Comes w c (activates w n c t wanted m)
+    unfolding activates
+    comes-activates wanted m e =
+        let there : (j : ℕ) (p : Placed Parameter) → getElem? (parameters w) j ≡ some p → Fine (reportOf p (n .values (0 + j))) =
+        λ j p q. rw zero-add (fine j p q (n .values j) (s .values j p q)) in
+        comes _ _ (active m) (length (parameters w) * 420) 70
+        (with-client w n c _ low (more-active w (n .clients c) wanted (s .clients c)) s)
+        (written-of c wanted (n .values) 0 (parameters w) there) (says-active m e) (omega (arith, a .few))
+
+    comes-deactivates : (wanted : ℕ → Bool) (m : Option (List ℕ)) → Named m → Comes w c (deactivates w n c t wanted m)
+    unfolding deactivates
+    comes-deactivates wanted m e =
+        comes _ [] (inactive m) 0 72
+        (with-client w n c _ low (less-active w (n .clients c) wanted (s .clients c)) s) written-none (says-inactive m e) (omega arith)
+
+    comes-inScope : (f : (ℕ → Bool) → Option (List ℕ) → Outcome)
+        → ((wanted : ℕ → Bool) (m : Option (List ℕ)) → Named m → Comes w c (f wanted m))
+        → (m : Option (List ℕ)) → Named m → Comes w c (inScope w n c t f m)
+    unfolding inScope
+    comes-inScope f g none e = g (λ i. true) none e
+    comes-inScope f g (some m) e =
+        comes-found NoSuchModule (findModule w m) (λ x. f (λ i. eqb i (x .0)) (some m)) λ x q. g (λ i. eqb i (x .0)) (some m) e
+
+    comes-reads : (k : ℕ × Placed Parameter) → getElem? (parameters w) (k .0) ≡ some (k .1) → Comes w c (reads w n c t k)
+    unfolding reads
+    comes-reads k e =
+        let v = n .values (k .0) in
+        only (reply (reportOf (k .1) v)) 415
+        (says-reply (reportOf (k .1) v) (fine (k .0) (k .1) e v (s .values (k .0) (k .1) e))) (omega arith)
+
+    comes-changes : (v : List ℕ) (k : ℕ × Placed Parameter) → getElem? (parameters w) (k .0) ≡ some (k .1)
+        → Comes w c (changes w n c t v k)
+    unfolding changes sets body
+    comes-changes v k e =
+        either (Comes w c) (k .1 .it .readonly) (λ q. tt) λ q.
+        comes-letIn (verdict (k .1 .it .datainfo) v) (sets w n c t k (storedForm v)) λ f.
+        let x : Value = record { text = storedForm v; time = t } in
+        let r = reportOf (k .1) x in
+        let order = orderChange c (k .0) (storedForm v) in
+        let updates = updatesTo (n .clients) (k .1 .home) r clientNumbers in
+        let told = written-one order 262 tt (omega (arith, stored-short (k .1 .it .datainfo) v f)) in
+        comes (withValue n (k .0) x) (order ∷ updates) (changed r) 3622 415
+        (new-node (k .0) (k .1) e v f t h)
+        (written-append (order ∷ []) updates 262 3360 told (new-updates (k .0) (k .1) e v f t h))
+        (says-changed r (fine (k .0) (k .1) e x (new-value (k .0) (k .1) e v f t h)))
+        (omega arith)
+
+    argument-short : (d : Option Datainfo) (v : List ℕ) → isFit (argumentVerdict d v) ≡ true → length (argumentForm d v) ≤ 256
+    unfolding argumentVerdict argumentForm
+    argument-short none v e = omega arith
+    argument-short (some d) v e = stored-short d v e
+
+    comes-does : (v : List ℕ) (k : ℕ × Placed Command) → getElem? (commands w) (k .0) ≡ some (k .1)
+        → Comes w c (does w n c t v k)
+    unfolding does body bytes
+    comes-does v k e =
+        let x = argumentForm (k .1 .it .argument) v in
+        let r : Report = record { moduleName = k .1 .moduleName; accessible = k .1 .it .name; value = bytes "null"; time = t } in
+        comes-letIn (argumentVerdict (k .1 .it .argument) v) (carried n (orderCommand c (k .0) x ∷ []) (done r)) λ f.
+        let told = written-one (orderCommand c (k .0) x) 262 tt (omega (arith, argument-short (k .1 .it .argument) v f)) in
+        let names = each-at GoodCommand (commands w) (a .allCommands) (k .0) (k .1) e in
+        comes n (orderCommand c (k .0) x ∷ []) (done r) 262 415 s told
+        (says-done r (record { names = names; small = omega arith; inTime = h })) (omega arith)
+
+    comes-outcome : (r : Request) → Asked r → Comes w c (outcome w n c t r)
+    unfolding outcome findParameter findCommand
+    comes-outcome identify q = only identification 36 says-identification (omega arith)
+    comes-outcome describe q = only (describing (report w)) 32013 (says-describing (report w) (a .short)) (omega arith)
+    comes-outcome (ping token) q = only (pong token t) 1057 (says-pong token t (q .0) (q .1) h) (omega arith)
+    comes-outcome (activate m) q = comes-inScope (activates w n c t) comes-activates m q
+    comes-outcome (deactivate m) q = comes-inScope (deactivates w n c t) comes-deactivates m q
+    comes-outcome (read m x) q = comes-placed m NoSuchParameter _ (parameters w) (reads w n c t) comes-reads
+    comes-outcome (change m x v) q = comes-placed m NoSuchParameter _ (parameters w) (changes w n c t v) (comes-changes v)
+    comes-outcome (execute m x v) q = comes-placed m NoSuchCommand _ (commands w) (does w n c t v) (comes-does v)
+    comes-outcome malformed q = tt
+
+    concluded : (p : Parts) → ShortWord (p .action) × ShortWord (p .specifier) → (o : Outcome) → Comes w c o
+        → Kept w (conclude w n c t p o .0) (conclude w n c t p o .1)
+    unfolding conclude
+    concluded p q (refused e) i =
+        comes n [] (error (p .action) (p .specifier) e) 0 2120 s written-none
+        (says-error (p .action) (p .specifier) e (q .0 .0) (q .1 .0) (q .0 .1) (q .1 .1)) (omega arith)
+    concluded p q (carried m rs r) i = i
+
+    answered-parts : (p : Parts) → ShortWord (p .action) × ShortWord (p .specifier)
+        → Kept w (answerParts w n c t p .0) (answerParts w n c t p .1)
+    unfolding answerParts
+    answered-parts p q = concluded p q (outcome w n c t (request p)) (comes-outcome (request p) (asked p (q .1)))
+
+-- ## Calls, on an accepted table, at a sound node
+
+module _ (w : Table) (a : Accepted w) (n : Node) (s : Sound w n) where
+  quiet : Kept w n []
+  quiet = record { sound = s; written = written-within 32019 (omega arith) written-none }
+
+  -- a line feed, or none yet
+  answered : (c t : ℕ) → c ≤ 7 → t ≤ latest → (b : Bool) → Kept w (ended w n c t b .0) (ended w n c t b .1)
+  unfolding ended answer
+  answered c t low h false = quiet
+  answered c t low h true =
+      let l = lineOf (n .clients c) in
+      answered-parts w a (withClient n c (emptied (n .clients c)))
+      (with-client w n c (emptied (n .clients c)) low (emptied-held w (n .clients c) (s .clients c)) s) c low t h
+      (partsOf (content l)) (parts-words (content l) (content-short l (line-held w (n .clients c) (s .clients c))))
+
+  read-in : (k : ℕ) (o : Option (Placed Parameter)) → getElem? (parameters w) k ≡ o
+      → (bs : List ℕ) (t : ℕ) → t ≤ latest → isFit (readingVerdict o bs) ≡ true
+      → Kept w (readingEffect n k o bs t .next) (readingEffect n k o bs t .records)
+  unfolding readingEffect readingVerdict
+  read-in k none e bs t h f = quiet
+  read-in k (some p) e bs t h f =
+      record {
+        sound = new-node w a n s k p e bs f t h;
+        written = written-within 32019 (omega arith) (new-updates w a n s k p e bs f t h);
+      }
+
+module _ (table : List ℕ) (a : Accepted (tableOf table)) where
+  abbrev w : Table
+  w = tableOf table
+
+  module _ (n : Node) (s : Sound w n) where
+    effected : (e : Call) → callNumber table false n e ≡ 0 → Kept w (effect w n e .next) (effect w n e .records)
+    unfolding callNumber effect pieceEffect all
+    effected (Open c t o) z =
+        let low = client-low c (lowest-none _ z 4) in
+        quiet w a (withClient n c fresh) (with-client w n c fresh low ((omega arith, refl), λ i e. refl) s)
+    effected (Close c t o) z =
+        let low = client-low c (lowest-none _ z 4) in
+        quiet w a (withClient n c closed) (with-client w n c closed low tt s)
+    effected (Piece c bs t o b) z =
+        let low = client-low c (lowest-none _ z 5) in
+        let x = receive (n .clients c) (beforeFeed bs) in
+        let h = received w (n .clients c) (beforeFeed bs) (before-feed bs) (s .clients c) in
+        answered w a (withClient n c x) (with-client w n c x low h s) c t low (time-low t (lowest-none _ z 4)) (hasFeed bs)
+    effected (Reading k bs t o b) z =
+        let x = getElem? (parameters w) k in
+        let f = isFit (readingVerdict x bs) in
+        read-in w a n s k x refl bs t (time-low t (lowest-none _ z 4)) (not-false f (no-fault 14 (not f) (lowest-none _ z 6)))
+
+    pub stepped : (e : Call) → Kept w (step table n e .0) (step table n e .1 .records)
+    unfolding step stepIf settle
+    stepped e = go (callNumber table false n e) (effected e)
+      where
+        go : (k : ℕ) → (k ≡ 0 → Kept w (effect w n e .next) (effect w n e .records))
+            → Kept w (settle k n (effect w n e) .0) (settle k n (effect w n e) .1 .records)
+        go zero f = f refl
+        go (suc k) f = quiet w a n s

@@ -1,0 +1,106 @@
+//! Histories in the notation of the crates' definitions, with the answers due:
+//! a list that the proofs go through by computing.
+
+use crate::history::{Answer, Call, History};
+
+const HEADER: &str = "\
+-- Histories that the reference program generated, with the answers that it gives. Printed by it; not edited by hand. Assumes nothing.
+use mathlib.Core.List.{List, [], _∷_}
+use Rattle.ascii.specs.Text.{bytes}
+use Rattle.plain.specs.Calls.{Open, Close, Piece, Reading}
+use Rattle.examples.specs.Told.{History}
+";
+
+/// A file that defines the histories, each accepted from its start on and
+/// started once. `None` for any other history.
+pub fn print(histories: &[History]) -> Option<String> {
+    let mut text = HEADER.to_string();
+    for (at, history) in histories.iter().enumerate() {
+        text += &format!("\n{}", definition(at + 1, history)?);
+    }
+    let names = (1..=histories.len())
+        .map(|number| format!("history-{number} ∷ "))
+        .collect::<String>();
+    Some(text + &format!("\nunfoldable pub histories : List History\nhistories = {names}[]\n"))
+}
+
+fn definition(number: usize, history: &History) -> Option<String> {
+    let answers = history.run()?.answers;
+    let (Call::Start { values_len, time }, calls) = history.calls.split_first()? else {
+        return None;
+    };
+    let calls: Option<Vec<String>> = calls.iter().map(call).collect();
+    let due: Vec<String> = answers[1..].iter().map(answer).collect();
+    Some(format!(
+        "unfoldable pub history-{number} : History\n\
+         history-{number} =\n    record {{\n      table = {};\n      area = {values_len};\n      time = {time};\n      start = {};\n      \
+         calls =\n          {};\n      due =\n          {};\n    }}\n",
+        bytes(&history.table),
+        answers[0].number,
+        list(&calls?),
+        list(&due),
+    ))
+}
+
+fn list(items: &[String]) -> String {
+    items
+        .iter()
+        .map(|item| format!("{item}\n          ∷ "))
+        .collect::<String>()
+        + "[]"
+}
+
+fn call(call: &Call) -> Option<String> {
+    Some(match call {
+        Call::Start { .. } => return None,
+        Call::Open {
+            client,
+            values_len,
+            time,
+        } => format!("Open {client} {time} {values_len}"),
+        Call::Close {
+            client,
+            values_len,
+            time,
+        } => format!("Close {client} {time} {values_len}"),
+        Call::Piece {
+            client,
+            values_len,
+            outbox_len,
+            time,
+            bytes: offered,
+        } => format!(
+            "Piece {client} ({}) {time} {values_len} {outbox_len}",
+            bytes(offered)
+        ),
+        Call::Reading {
+            parameter,
+            values_len,
+            outbox_len,
+            time,
+            text,
+        } => format!(
+            "Reading {parameter} ({}) {time} {values_len} {outbox_len}",
+            bytes(text)
+        ),
+    })
+}
+
+fn answer(answer: &Answer) -> String {
+    format!(
+        "record {{ number = {}; used = {}; written = {} }}",
+        answer.number,
+        answer.used,
+        bytes(&answer.outbox)
+    )
+}
+
+/// A text in which each character stands for one byte.
+fn bytes(bytes: &[u8]) -> String {
+    let text: String = bytes
+        .iter()
+        .flat_map(|&byte| char::from(byte).escape_default())
+        .collect();
+    let text = text.replace("\\'", "'").replace("\\u{0}", "\\0");
+    format!("bytes \"{text}\"")
+}

@@ -1,0 +1,208 @@
+//! Tables on both sides of each limit.
+
+use super::datainfos;
+use super::encode;
+use crate::datainfo::{Datainfo, Limit};
+use crate::report;
+use crate::table::{Accessible, Kind, Module, Table};
+
+/// A table at a border, with the number due.
+#[derive(Clone, Debug)]
+pub struct Border {
+    pub name: &'static str,
+    pub bytes: Vec<u8>,
+    pub number: u8,
+}
+
+/// All borders.
+pub fn all() -> Vec<Border> {
+    let mut borders = Vec::new();
+    let mut add = |name, table: &Table, number| {
+        borders.push(Border {
+            name,
+            bytes: encode::table(table),
+            number,
+        })
+    };
+    add("table of 16,384 bytes", &of_length(16_384), 0);
+    add("table of 16,385 bytes", &of_length(16_385), 1);
+    add("no module", &with_modules(0), 2);
+    add("1 module", &with_modules(1), 0);
+    add("16 modules", &with_modules(16), 0);
+    add("17 modules", &with_modules(17), 2);
+    add("64 accessibles", &with_accessibles(64), 0);
+    add("65 accessibles", &with_accessibles(65), 2);
+    add("64 parameters", &with_parameters(64), 0);
+    add("65 parameters", &with_parameters(65), 2);
+    add("name of 63 bytes", &with_name(63), 0);
+    add("name of 64 bytes", &with_name(64), 3);
+    add("initial value of 256 bytes", &with_initial(256), 0);
+    add("initial value of 257 bytes", &with_initial(257), 5);
+    add("report of 32,000 bytes", &with_report(32_000), 0);
+    add("report of 32,001 bytes", &with_report(32_001), 6);
+    for (name, datainfo, number) in arguments() {
+        add(name, &table(vec![command("c", Some(datainfo))]), number);
+    }
+    borders
+}
+
+/// Datainfos at a border, with the number due.
+fn arguments() -> Vec<(&'static str, Datainfo, u8)> {
+    let enumeration = |count: i32| {
+        let members = (0..count).map(|at| (format!("n{at}").into_bytes(), at));
+        Datainfo::Enum(members.collect())
+    };
+    let tuple = |count| Datainfo::Tuple(vec![Datainfo::Bool; count]);
+    let structure = |count: usize| {
+        let members = (0..count).map(|at| (format!("n{at}").into_bytes(), Datainfo::Bool));
+        Datainfo::Struct(members.collect())
+    };
+    let double = |min: i8, max: i8| Datainfo::Double {
+        min: Limit {
+            mantissa: -1,
+            power: min,
+        },
+        max: Limit {
+            mantissa: 1,
+            power: max,
+        },
+    };
+    let int = |min, max| Datainfo::Int { min, max };
+    let string = |minchars, maxchars| Datainfo::String { minchars, maxchars };
+    vec![
+        ("enum of none", enumeration(0), 4),
+        ("enum of 1", enumeration(1), 0),
+        ("enum of 32", enumeration(32), 0),
+        ("enum of 33", enumeration(33), 4),
+        ("tuple of none", tuple(0), 4),
+        ("tuple of 8", tuple(8), 0),
+        ("tuple of 9", tuple(9), 4),
+        ("tuple of 255", tuple(255), 4),
+        ("struct of none", structure(0), 4),
+        ("struct of 8", structure(8), 0),
+        ("struct of 9", structure(9), 4),
+        ("powers -30 and 30", double(-30, 30), 0),
+        ("power -31", double(-31, 30), 4),
+        ("power 31", double(-30, 31), 4),
+        ("limits of an int equal", int(7, 7), 0),
+        ("limits of an int at the ends", int(i64::MIN, i64::MAX), 0),
+        ("limits of an int swapped", int(8, 7), 4),
+        ("limits of a string equal", string(9, 9), 0),
+        ("limits of a string swapped", string(10, 9), 4),
+        ("four levels", nested(4), 0),
+        ("five levels", nested(5), 1),
+    ]
+}
+
+fn nested(levels: usize) -> Datainfo {
+    match levels {
+        1 => Datainfo::Bool,
+        _ => Datainfo::Array {
+            minlen: 0,
+            maxlen: 1,
+            members: Box::new(nested(levels - 1)),
+        },
+    }
+}
+
+fn module(name: &str, accessibles: Vec<Accessible>) -> Module {
+    Module {
+        name: name.as_bytes().to_vec(),
+        description: Vec::new(),
+        note: None,
+        accessibles,
+    }
+}
+
+fn table(accessibles: Vec<Accessible>) -> Table {
+    Table {
+        equipment_id: b"border".to_vec(),
+        description: Vec::new(),
+        modules: vec![module("m", accessibles)],
+    }
+}
+
+fn command(name: &str, argument: Option<Datainfo>) -> Accessible {
+    Accessible {
+        name: name.as_bytes().to_vec(),
+        description: Vec::new(),
+        kind: Kind::Command { argument },
+    }
+}
+
+fn parameter(name: &str, datainfo: Datainfo, initial: &[u8]) -> Accessible {
+    Accessible {
+        name: name.as_bytes().to_vec(),
+        description: Vec::new(),
+        kind: Kind::Parameter {
+            readonly: false,
+            datainfo,
+            initial: initial.to_vec(),
+        },
+    }
+}
+
+fn with_modules(count: usize) -> Table {
+    Table {
+        modules: (0..count)
+            .map(|at| module(&format!("m{at}"), Vec::new()))
+            .collect(),
+        ..table(Vec::new())
+    }
+}
+
+fn with_accessibles(count: usize) -> Table {
+    table(
+        (0..count)
+            .map(|at| command(&format!("c{at}"), None))
+            .collect(),
+    )
+}
+
+fn with_parameters(count: usize) -> Table {
+    let parameters = (0..count).map(|at| parameter(&format!("p{at}"), Datainfo::Bool, b"true"));
+    table(parameters.collect())
+}
+
+fn with_name(length: usize) -> Table {
+    table(vec![command(&"n".repeat(length), None)])
+}
+
+fn with_initial(length: usize) -> Table {
+    let datainfo = Datainfo::String {
+        minchars: 0,
+        maxchars: 1_000,
+    };
+    let initial = format!("\"{}\"", "x".repeat(length - 2));
+    table(vec![parameter("p", datainfo, initial.as_bytes())])
+}
+
+/// A table of so many bytes with a report well below its limit.
+fn of_length(length: usize) -> Table {
+    let mut table = with_parameters(64);
+    let missing = length - encode::table(&table).len();
+    lengthen_descriptions(&mut table, missing);
+    table
+}
+
+/// A short table with a report of so many bytes.
+fn with_report(length: usize) -> Table {
+    let bulky = |name| command(name, Some(datainfos::bulky(4)));
+    let more = (0..8).map(|at| command(&format!("d{at}"), None));
+    let mut table = table(vec![bulky("a"), bulky("b"), bulky("c")]);
+    table.modules[0].accessibles.extend(more);
+    let missing = length - report::write(&table).len();
+    lengthen_descriptions(&mut table, missing);
+    table
+}
+
+/// Adds so many characters to the accessibles' descriptions; each of them is
+/// one byte more in the table and one more in the report.
+fn lengthen_descriptions(table: &mut Table, mut missing: usize) {
+    for accessible in &mut table.modules[0].accessibles {
+        let count = missing.min(255);
+        accessible.description = vec![b'd'; count];
+        missing -= count;
+    }
+    assert_eq!(missing, 0, "the descriptions are too short for that");
+}

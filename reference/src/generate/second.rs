@@ -1,0 +1,257 @@
+//! Another history with the same course: the same bytes of each client, the
+//! same order of line feeds, readings, opens and closes with their times, but
+//! cut and mingled in another way. Refused calls are left out.
+
+use crate::history::{Call, History};
+use crate::line::LINE_FEED;
+use crate::node::{CLIENTS, MAX_TIME, MIN_VALUES};
+use crate::outbox::MIN_OUTBOX;
+use crate::random::Random;
+use std::collections::VecDeque;
+
+/// What both histories have in the same order.
+enum Event {
+    Open {
+        client: u64,
+        time: u64,
+    },
+    Close {
+        client: u64,
+        time: u64,
+    },
+    LineFeed {
+        client: u64,
+        time: u64,
+    },
+    Reading {
+        parameter: u64,
+        time: u64,
+        text: Vec<u8>,
+    },
+}
+
+/// The bytes of a client between two of its events. They may arrive at any
+/// time after the first and before the second.
+#[derive(Default)]
+struct Stretch {
+    bytes: Vec<u8>,
+    /// Whether the second event is a line feed.
+    is_line: bool,
+}
+
+/// A history's course: its start, its events, and for each client the
+/// stretches before its first event, between its events and after its last.
+struct Course {
+    start: Call,
+    events: Vec<Event>,
+    stretches: [Vec<Stretch>; CLIENTS],
+}
+
+/// A second history for a first one. `None` if that has no accepted start, or
+/// more than one.
+pub fn second(first: &History, seed: u64) -> Option<History> {
+    let course = course(first)?;
+    let mut writer = Writer {
+        random: Random::new(seed),
+        calls: vec![course.start],
+        waiting: course.stretches.map(VecDeque::from),
+        open: [false; CLIENTS],
+    };
+    for event in &course.events {
+        writer.mingle();
+        writer.write(event);
+    }
+    writer.finish();
+    Some(History {
+        table: first.table.clone(),
+        calls: writer.calls,
+    })
+}
+
+/// Takes a history apart. Unused bytes are no part of its course.
+fn course(history: &History) -> Option<Course> {
+    let answers = history.run()?.answers;
+    let accepted = history.calls.iter().zip(&answers);
+    let accepted = accepted.filter(|(_, answer)| answer.is_accepted());
+    let mut accepted = accepted.map(|(call, answer)| (call, answer.used));
+    let (start, _) = accepted.next()?;
+    let mut course = Course {
+        start: start.clone(),
+        events: Vec::new(),
+        stretches: std::array::from_fn(|_| vec![Stretch::default()]),
+    };
+    for (call, used) in accepted {
+        course.add(call, used)?;
+    }
+    matches!(course.start, Call::Start { .. }).then_some(course)
+}
+
+impl Course {
+    fn add(&mut self, call: &Call, used: usize) -> Option<()> {
+        match call {
+            Call::Start { .. } => return None,
+            Call::Open { client, time, .. } => {
+                let (client, time) = (*client, *time);
+                self.end_stretch(client, Event::Open { client, time });
+            }
+            Call::Close { client, time, .. } => {
+                let (client, time) = (*client, *time);
+                self.end_stretch(client, Event::Close { client, time });
+            }
+            Call::Reading {
+                parameter,
+                time,
+                text,
+                ..
+            } => self.events.push(Event::Reading {
+                parameter: *parameter,
+                time: *time,
+                text: text.clone(),
+            }),
+            Call::Piece {
+                client,
+                time,
+                bytes,
+                ..
+            } => self.add_bytes(*client, *time, &bytes[..used]),
+        }
+        Some(())
+    }
+
+    fn add_bytes(&mut self, client: u64, time: u64, used: &[u8]) {
+        let line = used.strip_suffix(&[LINE_FEED]);
+        if let Some(stretch) = self.stretches[client as usize].last_mut() {
+            stretch.bytes.extend_from_slice(line.unwrap_or(used));
+            stretch.is_line = line.is_some();
+        }
+        if line.is_some() {
+            self.end_stretch(client, Event::LineFeed { client, time });
+        }
+    }
+
+    fn end_stretch(&mut self, client: u64, event: Event) {
+        self.events.push(event);
+        self.stretches[client as usize].push(Stretch::default());
+    }
+}
+
+/// Writes the second history.
+struct Writer {
+    random: Random,
+    calls: Vec<Call>,
+    /// Each client's stretches that are still to come; there is one more than
+    /// the client has events.
+    waiting: [VecDeque<Stretch>; CLIENTS],
+    open: [bool; CLIENTS],
+}
+
+impl Writer {
+    /// Lets some clients' bytes arrive early, or an empty piece come.
+    fn mingle(&mut self) {
+        for _ in 0..self.random.below(4) {
+            let client = self.random.below(CLIENTS);
+            if self.open[client] {
+                let length = self.waiting[client][0].bytes.len();
+                let count = self.random.between(0, length);
+                self.send_front(client, count);
+            }
+        }
+    }
+
+    fn write(&mut self, event: &Event) {
+        match event {
+            Event::Open { client, time } => {
+                self.end_stretch(*client);
+                self.open[*client as usize] = true;
+                let values_len = self.length(MIN_VALUES);
+                self.calls.push(Call::Open {
+                    client: *client,
+                    values_len,
+                    time: *time,
+                });
+            }
+            Event::Close { client, time } => {
+                self.send_rest(*client);
+                self.end_stretch(*client);
+                self.open[*client as usize] = false;
+                let values_len = self.length(MIN_VALUES);
+                self.calls.push(Call::Close {
+                    client: *client,
+                    values_len,
+                    time: *time,
+                });
+            }
+            Event::LineFeed { client, time } => self.end_line(*client, *time),
+            Event::Reading {
+                parameter,
+                time,
+                text,
+            } => {
+                let (values_len, outbox_len) = (self.length(MIN_VALUES), self.length(MIN_OUTBOX));
+                self.calls.push(Call::Reading {
+                    parameter: *parameter,
+                    values_len,
+                    outbox_len,
+                    time: *time,
+                    text: text.clone(),
+                });
+            }
+        }
+    }
+
+    /// The rest of a line with its line feed. What the client sends next may
+    /// be offered behind it; it is not used and comes again.
+    fn end_line(&mut self, client: u64, time: u64) {
+        let mut bytes = self.end_stretch(client).bytes;
+        bytes.push(LINE_FEED);
+        if self.random.one_in(3) {
+            let next = &self.waiting[client as usize][0];
+            bytes.extend_from_slice(&next.bytes);
+            bytes.extend(next.is_line.then_some(LINE_FEED));
+        }
+        self.piece(client, time, bytes);
+    }
+
+    /// What no event follows must have arrived as well.
+    fn finish(&mut self) {
+        (0..CLIENTS as u64).for_each(|client| self.send_rest(client));
+    }
+
+    fn send_rest(&mut self, client: u64) {
+        let client = client as usize;
+        while !self.waiting[client][0].bytes.is_empty() {
+            let length = self.waiting[client][0].bytes.len();
+            let count = self.random.between(1, length);
+            self.send_front(client, count);
+        }
+    }
+
+    /// Sends so many bytes without a line feed; their time counts for nothing.
+    fn send_front(&mut self, client: usize, count: usize) {
+        let bytes = self.waiting[client][0].bytes.drain(..count).collect();
+        let time = self.random.whole(0, i128::from(MAX_TIME)) as u64;
+        self.piece(client as u64, time, bytes);
+    }
+
+    fn piece(&mut self, client: u64, time: u64, bytes: Vec<u8>) {
+        let (values_len, outbox_len) = (self.length(MIN_VALUES), self.length(MIN_OUTBOX));
+        self.calls.push(Call::Piece {
+            client,
+            values_len,
+            outbox_len,
+            time,
+            bytes,
+        });
+    }
+
+    fn end_stretch(&mut self, client: u64) -> Stretch {
+        self.waiting[client as usize]
+            .pop_front()
+            .unwrap_or_default()
+    }
+
+    /// A length that is long enough.
+    fn length(&mut self, least: usize) -> usize {
+        least + *self.random.pick(&[0, 0, 1, 1_000])
+    }
+}

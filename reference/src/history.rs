@@ -1,0 +1,167 @@
+//! Histories: a table and a list of calls, and what a plain node answers.
+
+use crate::node::{Node, State};
+use crate::refusal::{Refusal, ACCEPTED};
+
+/// A call with its arguments. Of the values area and the outbox only the
+/// length counts.
+#[derive(Clone, Debug, PartialEq)]
+pub enum Call {
+    Start {
+        values_len: usize,
+        time: u64,
+    },
+    Open {
+        client: u64,
+        values_len: usize,
+        time: u64,
+    },
+    Close {
+        client: u64,
+        values_len: usize,
+        time: u64,
+    },
+    Piece {
+        client: u64,
+        values_len: usize,
+        outbox_len: usize,
+        time: u64,
+        bytes: Vec<u8>,
+    },
+    Reading {
+        parameter: u64,
+        values_len: usize,
+        outbox_len: usize,
+        time: u64,
+        text: Vec<u8>,
+    },
+}
+
+/// What a call answers: its number, and for pieces the bytes used, for pieces
+/// and readings the bytes written.
+#[derive(Clone, Debug, Default, PartialEq)]
+pub struct Answer {
+    pub number: u8,
+    pub used: usize,
+    pub outbox: Vec<u8>,
+}
+
+/// A table and calls over it; the first call is a start.
+#[derive(Clone, Debug, PartialEq)]
+pub struct History {
+    pub table: Vec<u8>,
+    pub calls: Vec<Call>,
+}
+
+/// The answers to a history's calls, and what the node holds at the end.
+#[derive(Clone, Debug, PartialEq)]
+pub struct Outcome {
+    pub answers: Vec<Answer>,
+    pub end: State,
+}
+
+impl Answer {
+    pub fn is_accepted(&self) -> bool {
+        self.number == ACCEPTED
+    }
+
+    /// A refusal uses no bytes and writes none.
+    fn refused(refusal: Refusal) -> Answer {
+        Answer {
+            number: refusal.number(),
+            ..Answer::default()
+        }
+    }
+
+    fn plain(result: Result<(), Refusal>) -> Answer {
+        result.map_or_else(Answer::refused, |()| Answer::default())
+    }
+}
+
+/// A node that is fed calls one by one.
+pub struct Player {
+    table: Vec<u8>,
+    node: Option<Node>,
+}
+
+impl Player {
+    pub fn new(table: &[u8]) -> Player {
+        Player {
+            table: table.to_vec(),
+            node: None,
+        }
+    }
+
+    /// The node, once there was a start.
+    pub fn node(&self) -> Option<&Node> {
+        self.node.as_ref()
+    }
+
+    /// Makes a call. `None` if a start is still missing.
+    pub fn call(&mut self, call: &Call) -> Option<Answer> {
+        if let Call::Start { values_len, time } = call {
+            let (node, result) = Node::start(&self.table, *values_len, *time);
+            self.node = Some(node);
+            return Some(Answer::plain(result));
+        }
+        self.node.as_mut().map(|node| answer(node, call))
+    }
+}
+
+fn answer(node: &mut Node, call: &Call) -> Answer {
+    match call {
+        Call::Start { .. } => unreachable!("the player makes a new node for a start"),
+        Call::Open {
+            client,
+            values_len,
+            time,
+        } => Answer::plain(node.open(*client, *values_len, *time)),
+        Call::Close {
+            client,
+            values_len,
+            time,
+        } => Answer::plain(node.close(*client, *values_len, *time)),
+        Call::Piece {
+            client,
+            values_len,
+            outbox_len,
+            time,
+            bytes,
+        } => match node.piece(*client, *values_len, *outbox_len, *time, bytes) {
+            Ok(taken) => Answer {
+                number: ACCEPTED,
+                used: taken.used,
+                outbox: taken.outbox,
+            },
+            Err(refusal) => Answer::refused(refusal),
+        },
+        Call::Reading {
+            parameter,
+            values_len,
+            outbox_len,
+            time,
+            text,
+        } => match node.reading(*parameter, *values_len, *outbox_len, *time, text) {
+            Ok(outbox) => Answer {
+                number: ACCEPTED,
+                used: 0,
+                outbox,
+            },
+            Err(refusal) => Answer::refused(refusal),
+        },
+    }
+}
+
+impl History {
+    /// Runs the history. `None` if it doesn't begin with a start.
+    pub fn run(&self) -> Option<Outcome> {
+        let mut player = Player::new(&self.table);
+        let answers = self
+            .calls
+            .iter()
+            .map(|call| player.call(call))
+            .collect::<Option<Vec<_>>>()?;
+        let end = player.node()?.state().clone();
+        Some(Outcome { answers, end })
+    }
+}

@@ -1,0 +1,32 @@
+//! The plain node of document 01 as an ordinary Rust program.
+//!
+//! It is written from the documents alone and shares nothing with the proved
+//! core, so that the two can be compared. Trees, `Vec` and plain recursion
+//! are used wherever they make a rule easy to see; speed is no aim.
+//!
+//! * [`table`] reads and judges the table, [`report`] writes its structure
+//!   report;
+//! * [`json`], [`decimal`], [`datainfo`] and [`value`] judge values;
+//! * [`mod@line`] parts a request, [`error`] names the error classes, [`outbox`]
+//!   holds the records that are sent;
+//! * [`node`] is the plain node itself;
+//! * [`history`] runs a list of calls, [`text`] reads and prints it;
+//! * [`random`] and [`generate`] make tables, values and histories.
+
+pub mod datainfo;
+pub mod decimal;
+pub mod definitions;
+pub mod error;
+pub mod generate;
+pub mod history;
+pub mod json;
+pub mod line;
+pub mod name;
+pub mod node;
+pub mod outbox;
+pub mod random;
+pub mod refusal;
+pub mod report;
+pub mod table;
+pub mod text;
+pub mod value;

@@ -1,0 +1,141 @@
+//! Which values fit a datainfo, and what is stored of them.
+
+use crate::datainfo::Datainfo;
+use crate::decimal::Decimal;
+use crate::json::{self, Json, Number, Text};
+
+/// The longest stored form.
+pub const MAX_STORED: usize = 256;
+
+/// The longest number token.
+const MAX_TOKEN: usize = 32;
+
+/// Why a value is refused.
+#[derive(Clone, Copy, Debug, PartialEq, Eq)]
+pub enum ValueFault {
+    BadJson,
+    WrongType,
+    RangeError,
+}
+
+/// The judgement on a tree and all its parts. The order is that of weight: of
+/// several, the heaviest stands, so that a type fault anywhere wins over a
+/// range fault anywhere.
+#[derive(Clone, Copy, Debug, PartialEq, Eq, PartialOrd, Ord)]
+enum Verdict {
+    Fits,
+    OutOfRange,
+    WrongType,
+}
+
+/// Judges a text for a datainfo; the answer is its stored form.
+pub fn judge(datainfo: &Datainfo, text: &[u8]) -> Result<Vec<u8>, ValueFault> {
+    let value = json::read(text).ok_or(ValueFault::BadJson)?;
+    match verdict(datainfo, &value) {
+        Verdict::WrongType => Err(ValueFault::WrongType),
+        Verdict::OutOfRange => Err(ValueFault::RangeError),
+        Verdict::Fits => Some(value.stored_form())
+            .filter(|stored| stored.len() <= MAX_STORED)
+            .ok_or(ValueFault::RangeError),
+    }
+}
+
+/// Judges the data of a command that declares no argument: only null will do.
+pub fn judge_no_argument(text: &[u8]) -> Result<(), ValueFault> {
+    match json::read(text) {
+        None => Err(ValueFault::BadJson),
+        Some(Json::Null) => Ok(()),
+        Some(_) => Err(ValueFault::WrongType),
+    }
+}
+
+/// Whether a text fits and is already in stored form, as initial values are.
+pub fn is_stored_form(datainfo: &Datainfo, text: &[u8]) -> bool {
+    judge(datainfo, text).is_ok_and(|stored| stored == text)
+}
+
+fn verdict(datainfo: &Datainfo, value: &Json) -> Verdict {
+    match (datainfo, value) {
+        (Datainfo::Bool, Json::Bool(_)) => Verdict::Fits,
+        (Datainfo::Double { min, max }, Json::Number(number)) => number_verdict(number, |value| {
+            (min.decimal()..=max.decimal()).contains(&value)
+        }),
+        (Datainfo::Int { min, max }, Json::Number(number)) if number.is_whole() => {
+            number_verdict(number, |value| (whole(*min)..=whole(*max)).contains(&value))
+        }
+        (Datainfo::Enum(members), Json::Number(number)) if number.is_whole() => {
+            number_verdict(number, |value| {
+                members
+                    .iter()
+                    .any(|(_, member)| value == whole(i64::from(*member)))
+            })
+        }
+        (Datainfo::String { minchars, maxchars }, Json::String(text)) => {
+            string_verdict(text, *minchars, *maxchars)
+        }
+        (
+            Datainfo::Array {
+                minlen,
+                maxlen,
+                members,
+            },
+            Json::Array(elements),
+        ) => {
+            let count_fits = is_within(elements.len(), *minlen, *maxlen);
+            elements
+                .iter()
+                .map(|element| verdict(members, element))
+                .fold(in_range(count_fits), Verdict::max)
+        }
+        (Datainfo::Tuple(members), Json::Array(elements)) if members.len() == elements.len() => {
+            members
+                .iter()
+                .zip(elements)
+                .map(|(member, element)| verdict(member, element))
+                .fold(Verdict::Fits, Verdict::max)
+        }
+        (Datainfo::Struct(members), Json::Object(sent)) if members.len() == sent.len() => members
+            .iter()
+            .map(|(name, member)| member_verdict(name, member, sent))
+            .fold(Verdict::Fits, Verdict::max),
+        _ => Verdict::WrongType,
+    }
+}
+
+fn whole(number: i64) -> Decimal {
+    Decimal::whole(number)
+}
+
+fn in_range(holds: bool) -> Verdict {
+    if holds {
+        Verdict::Fits
+    } else {
+        Verdict::OutOfRange
+    }
+}
+
+fn is_within(count: usize, min: u16, max: u16) -> bool {
+    (usize::from(min)..=usize::from(max)).contains(&count)
+}
+
+/// For the three number types alike: the token's length, its written power,
+/// then the value.
+fn number_verdict(number: &Number, fits: impl Fn(Decimal) -> bool) -> Verdict {
+    let short_enough = number.token.len() <= MAX_TOKEN;
+    in_range(short_enough && number.decimal().is_some_and(fits))
+}
+
+fn string_verdict(text: &Text, minchars: u16, maxchars: u16) -> Verdict {
+    let characters = text.characters();
+    let all_ascii = characters.iter().all(|&character| character <= 0x7F);
+    in_range(all_ascii && is_within(characters.len(), minchars, maxchars))
+}
+
+/// A struct's member must be among the keys sent, raw byte by raw byte. As
+/// many keys are sent as there are members and names are unique, so each key
+/// is then there exactly once.
+fn member_verdict(name: &[u8], member: &Datainfo, sent: &[(Text, Json)]) -> Verdict {
+    sent.iter()
+        .find(|(key, _)| key.raw == name)
+        .map_or(Verdict::WrongType, |(_, value)| verdict(member, value))
+}

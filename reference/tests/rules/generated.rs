@@ -1,0 +1,405 @@
+//! What the generators make, and how the node stands up to it.
+
+use crate::build::line_of;
+use crate::watch::{watch, Seen};
+use reference::error::ErrorClass;
+use reference::generate::{borders, datainfos, encode, histories, second, small, tables, values};
+use reference::history::{Call, History};
+use reference::json;
+use reference::outbox::{Mark, Record};
+use reference::random::Random;
+use reference::table::Table;
+use reference::value::{judge, ValueFault};
+
+fn number(table: &[u8]) -> u8 {
+    Table::judge(table).map_or_else(|refusal| refusal.number(), |_| 0)
+}
+
+#[test]
+fn good_tables_are_good_and_are_read_back() {
+    for seed in 0..300 {
+        let table = tables::good(&mut Random::new(seed));
+        assert_eq!(Table::judge(&encode::table(&table)), Ok(table), "{seed}");
+    }
+}
+
+#[test]
+fn good_tables_have_everything() {
+    let all: Vec<Table> = (0..300)
+        .map(|seed| tables::good(&mut Random::new(seed)))
+        .collect();
+    let any = |holds: &dyn Fn(&Table) -> bool| all.iter().any(holds);
+    assert!(any(&|table| table.modules.len() == 16));
+    assert!(any(&|table| table
+        .modules
+        .iter()
+        .any(|module| module.note.is_some())));
+    assert!(any(&|table| table
+        .modules
+        .iter()
+        .any(|module| module.accessibles.is_empty())));
+    assert!(any(&|table| table
+        .modules
+        .iter()
+        .any(|module| module.name.len() == 63)));
+    assert!(any(&|table| table
+        .parameters()
+        .iter()
+        .any(|one| one.initial.len() == 256)));
+    assert!(any(&|table| table.parameters().len()
+        + table.commands().len()
+        == 64));
+    assert!(any(&|table| table
+        .commands()
+        .iter()
+        .any(|one| one.argument.is_some())));
+    assert!(any(&|table| table
+        .commands()
+        .iter()
+        .any(|one| one.argument.is_none())));
+    for first_byte in 1..=8 {
+        assert!(any(&|table| table
+            .parameters()
+            .iter()
+            .any(|one| encode::datainfo(one.datainfo)[0] == first_byte)));
+    }
+}
+
+#[test]
+fn faulty_tables_have_the_number_they_are_made_for() {
+    for seed in 0..80 {
+        for lowest in 1..=6 {
+            let made = tables::with_faults(&mut Random::new(seed), &[lowest]);
+            assert_eq!(
+                (made.number, number(&made.bytes)),
+                (Some(lowest), lowest),
+                "{seed}"
+            );
+        }
+        let made = tables::faulty(&mut Random::new(seed));
+        assert_eq!(made.number, Some(number(&made.bytes)), "{seed}");
+        let made = tables::with_faults(&mut Random::new(seed), &[6, 3, 5, 4]);
+        assert_eq!((made.number, number(&made.bytes)), (Some(3), 3), "{seed}");
+    }
+}
+
+#[test]
+fn borders_have_the_number_due() {
+    for border in borders::all() {
+        assert_eq!(number(&border.bytes), border.number, "{}", border.name);
+    }
+    let lengths: Vec<usize> = borders::all().iter().map(|one| one.bytes.len()).collect();
+    assert!(lengths.contains(&16_384) && lengths.contains(&16_385));
+}
+
+#[test]
+fn any_tables_have_the_number_that_is_known() {
+    let mut random = Random::new(7);
+    for _ in 0..400 {
+        let made = tables::any(&mut random);
+        let number = number(&made.bytes);
+        assert!(number <= 6);
+        assert_eq!(made.number.unwrap_or(number), number);
+    }
+}
+
+/// A datainfo with its own generator.
+fn some_datainfos(count: u64) -> impl Iterator<Item = (reference::datainfo::Datainfo, Random)> {
+    (0..count).map(|seed| {
+        let mut random = Random::new(seed);
+        let levels = random.between(1, 4);
+        (datainfos::good(&mut random, levels), random)
+    })
+}
+
+#[test]
+fn fitting_values_fit_with_or_without_spaces() {
+    for (datainfo, mut random) in some_datainfos(3_000) {
+        let value = values::fitting(&mut random, &datainfo);
+        let spaced = values::with_spaces(&mut random, &value);
+        let expected = if value.len() <= 256 {
+            Ok(value.clone())
+        } else {
+            Err(ValueFault::RangeError)
+        };
+        assert_eq!(judge(&datainfo, &value), expected, "{datainfo:?}");
+        assert_eq!(judge(&datainfo, &spaced), expected, "{datainfo:?}");
+    }
+}
+
+#[test]
+fn values_of_256_bytes_fit_and_those_of_257_do_not() {
+    let mut made = 0;
+    for (datainfo, mut random) in some_datainfos(1_000) {
+        if let Some(value) = values::fitting_of_length(&mut random, &datainfo, 256) {
+            assert_eq!(judge(&datainfo, &value), Ok(value));
+            made += 1;
+        }
+        if let Some(value) = values::fitting_of_length(&mut random, &datainfo, 257) {
+            assert_eq!(value.len(), 257);
+            assert_eq!(judge(&datainfo, &value), Err(ValueFault::RangeError));
+        }
+    }
+    assert!(made > 100, "{made}");
+}
+
+/// The text without spaces outside strings, found without reading JSON.
+fn without_spaces(text: &[u8]) -> Vec<u8> {
+    let (mut in_string, mut escaped) = (false, false);
+    text.iter()
+        .copied()
+        .filter(|&byte| {
+            let kept = in_string || byte != b' ';
+            if byte == b'"' && !escaped {
+                in_string = !in_string;
+            }
+            escaped = in_string && byte == b'\\' && !escaped;
+            kept
+        })
+        .collect()
+}
+
+#[test]
+fn any_values_get_every_judgement() {
+    let mut counts = [0; 4];
+    for (datainfo, mut random) in some_datainfos(6_000) {
+        let value = values::any(&mut random, &datainfo);
+        match judge(&datainfo, &value) {
+            Ok(stored) => {
+                assert_eq!(stored, without_spaces(&value));
+                assert_eq!(judge(&datainfo, &stored), Ok(stored));
+                counts[0] += 1;
+            }
+            Err(ValueFault::BadJson) => {
+                assert_eq!(json::read(&value), None);
+                counts[1] += 1;
+            }
+            Err(ValueFault::WrongType) => counts[2] += 1,
+            Err(ValueFault::RangeError) => counts[3] += 1,
+        }
+    }
+    assert!(counts.iter().all(|&count| count > 300), "{counts:?}");
+}
+
+/// The histories that the tests below look at.
+fn some_histories() -> impl Iterator<Item = History> {
+    (0..400).map(|seed| histories::history(seed, 60))
+}
+
+#[test]
+fn histories_hold_together() {
+    let mut all = Seen::default();
+    for history in some_histories() {
+        let seen = watch(&history);
+        all.numbers.extend(seen.numbers);
+        all.records.extend(seen.records);
+    }
+    for number in (0..=15).filter(|&number| number != 9) {
+        assert!(all.numbers.contains(&number), "{number} never came");
+    }
+    assert!(!all.numbers.contains(&9));
+    assert_records_of_all_kinds(&all.records);
+}
+
+fn assert_records_of_all_kinds(records: &[Record]) {
+    for mark in [
+        Mark::Reply,
+        Mark::Update,
+        Mark::DriverChange,
+        Mark::DriverCommand,
+    ] {
+        assert!(records.iter().any(|record| record.mark == mark), "{mark:?}");
+    }
+    let replies: Vec<String> = records
+        .iter()
+        .filter(|record| record.mark == Mark::Reply)
+        .map(line_of)
+        .collect();
+    let fronts = [
+        "ISSE&SINE2020,",
+        "describing . {",
+        "pong ",
+        "active",
+        "inactive",
+        "reply ",
+        "changed ",
+        "done ",
+    ];
+    for front in fronts {
+        assert!(
+            replies.iter().any(|line| line.starts_with(front)),
+            "{front}"
+        );
+    }
+    let classes = [
+        ErrorClass::ProtocolError,
+        ErrorClass::NoSuchModule,
+        ErrorClass::NoSuchParameter,
+        ErrorClass::NoSuchCommand,
+        ErrorClass::ReadOnly,
+        ErrorClass::BadJson,
+        ErrorClass::WrongType,
+        ErrorClass::RangeError,
+    ];
+    for class in classes {
+        let report = class.report();
+        assert!(
+            replies.iter().any(|line| line.ends_with(&report)),
+            "{report}"
+        );
+    }
+}
+
+#[test]
+fn histories_cut_pieces_everywhere() {
+    let pieces: Vec<Vec<u8>> = some_histories()
+        .flat_map(|history| history.calls)
+        .filter_map(|call| match call {
+            Call::Piece { bytes, .. } => Some(bytes),
+            _ => None,
+        })
+        .collect();
+    let any = |holds: fn(&[u8]) -> bool| pieces.iter().any(|bytes| holds(bytes));
+    assert!(any(|bytes| bytes.is_empty()));
+    assert!(any(|bytes| bytes.ends_with(b"\r")));
+    assert!(any(|bytes| bytes.starts_with(b"\n")));
+    assert!(any(|bytes| bytes.ends_with(b"\r\r\n")));
+    assert!(any(|bytes| bytes
+        .iter()
+        .filter(|&&byte| byte == b'\n')
+        .count()
+        > 1));
+    for length in 1_023..=1_026 {
+        let lines = pieces
+            .iter()
+            .flat_map(|bytes| bytes.split_inclusive(|&byte| byte == b'\n'));
+        let with_length: Vec<&[u8]> = lines.filter(|line| line.len() == length + 1).collect();
+        assert!(
+            with_length.iter().any(|line| line.ends_with(b"\r\n")),
+            "{length}"
+        );
+        assert!(
+            with_length.iter().any(|line| line.ends_with(b"x\n")),
+            "{length}"
+        );
+    }
+}
+
+/// The bytes used, one list for each client and time that it was opened, and
+/// the events in their order.
+fn course(history: &History) -> (Vec<Vec<Vec<u8>>>, Vec<String>) {
+    let outcome = history.run().expect("it begins with a start");
+    let mut streams = vec![Vec::new(); 8];
+    let mut events = Vec::new();
+    for (call, answer) in history.calls.iter().zip(&outcome.answers) {
+        match call {
+            _ if !answer.is_accepted() => {}
+            Call::Start { time, .. } => events.push(format!("start {time}")),
+            Call::Open { client, time, .. } => {
+                streams[*client as usize].push(Vec::new());
+                events.push(format!("open {client} {time}"));
+            }
+            Call::Close { client, time, .. } => events.push(format!("close {client} {time}")),
+            Call::Reading {
+                parameter,
+                time,
+                text,
+                ..
+            } => {
+                events.push(format!("reading {parameter} {time} {text:?}"));
+            }
+            Call::Piece {
+                client,
+                time,
+                bytes,
+                ..
+            } => {
+                let used = &bytes[..answer.used];
+                streams[*client as usize]
+                    .last_mut()
+                    .unwrap()
+                    .extend_from_slice(used);
+                if used.ends_with(b"\n") {
+                    events.push(format!("line feed {client} {time}"));
+                }
+            }
+        }
+    }
+    (streams, events)
+}
+
+#[test]
+fn second_histories_send_the_same_and_end_the_same() {
+    let (mut compared, mut mingled) = (0, 0);
+    for (seed, first) in some_histories().enumerate() {
+        let Some(second) = second::second(&first, seed as u64) else {
+            continue;
+        };
+        let (one, other) = (first.run().unwrap(), second.run().unwrap());
+        assert!(other.answers.iter().all(|answer| answer.is_accepted()));
+        assert_eq!(course(&first), course(&second));
+        let sent = |answers: &[reference::history::Answer]| -> Vec<u8> {
+            answers
+                .iter()
+                .flat_map(|answer| answer.outbox.clone())
+                .collect()
+        };
+        assert_eq!(sent(&one.answers), sent(&other.answers));
+        assert_eq!(one.end, other.end);
+        compared += 1;
+        mingled += usize::from(first.calls != second.calls);
+    }
+    assert!(compared > 250 && mingled > 250, "{compared} {mingled}");
+}
+
+#[test]
+fn a_history_without_an_accepted_start_has_no_second() {
+    let start = |values_len, time| Call::Start { values_len, time };
+    let history = |calls| History {
+        table: crate::build::lab(),
+        calls,
+    };
+    assert!(second::second(&history(vec![start(0, 0)]), 1).is_none());
+    let twice = history(vec![start(16_384, 0), start(16_384, 1)]);
+    assert!(second::second(&twice, 1).is_none());
+    let after_refused = history(vec![start(0, 0), start(16_384, 1)]);
+    let second = second::second(&after_refused, 1).expect("one accepted start");
+    assert_eq!(second.calls, [start(16_384, 1)]);
+}
+
+#[test]
+fn small_histories_are_small_and_various() {
+    let mut all = Seen::default();
+    for seed in 0..320 {
+        let history = small::history(seed);
+        assert!(
+            history.table.len() <= 250,
+            "{seed}: {}",
+            history.table.len()
+        );
+        assert!((3..=8).contains(&history.calls.len()), "{seed}");
+        let seen = watch(&history);
+        assert_eq!(seen.numbers[0], 0);
+        all.numbers.extend(seen.numbers);
+        all.records.extend(seen.records);
+    }
+    for number in [0, 7, 8, 10, 11, 12, 13, 14, 15] {
+        assert!(all.numbers.contains(&number), "{number} never came");
+    }
+    assert_records_of_all_kinds(&all.records);
+    let updates = |pair: &[Record]| {
+        pair.iter().all(|record| record.mark == Mark::Update) && pair[0].client != pair[1].client
+    };
+    assert!(
+        all.records.windows(2).any(updates),
+        "updates to two clients"
+    );
+}
+
+#[test]
+fn the_same_seed_gives_the_same_and_another_seed_another() {
+    assert_eq!(histories::history(3, 50), histories::history(3, 50));
+    assert_ne!(histories::history(3, 50), histories::history(4, 50));
+    assert_eq!(small::history(3), small::history(3));
+    assert_ne!(small::history(3), small::history(3 + 16));
+}

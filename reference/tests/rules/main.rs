@@ -1,0 +1,13 @@
+//! The rules of document 01, one by one. What is expected is taken from the
+//! documents or worked out by hand from them.
+
+mod build;
+mod calls;
+mod examples;
+mod generated;
+mod lines;
+mod program;
+mod reports;
+mod tables;
+mod values;
+mod watch;

@@ -1,0 +1,432 @@
+//! Which values fit, and what is stored of them.
+
+use crate::build::*;
+use reference::datainfo::Datainfo;
+use reference::table::{Kind, Table};
+use reference::value::{judge, ValueFault};
+
+/// The datainfo that the bytes describe.
+fn datainfo(bytes: &[u8]) -> Datainfo {
+    let table = Table::judge(&one_module(&[cm_with("c", "", bytes)])).expect("a good datainfo");
+    match &table.modules[0].accessibles[0].kind {
+        Kind::Command {
+            argument: Some(datainfo),
+        } => datainfo.clone(),
+        other => panic!("{other:?}"),
+    }
+}
+
+fn judged(bytes: &[u8], text: &str) -> Result<String, ValueFault> {
+    judge(&datainfo(bytes), text.as_bytes()).map(|stored| String::from_utf8(stored).expect("ASCII"))
+}
+
+/// Each text fits and is stored as it is.
+fn assert_fit(bytes: &[u8], texts: &[&str]) {
+    for text in texts {
+        assert_eq!(judged(bytes, text), Ok(text.to_string()), "{text}");
+    }
+}
+
+fn assert_faults(bytes: &[u8], fault: ValueFault, texts: &[&str]) {
+    for text in texts {
+        assert_eq!(judged(bytes, text), Err(fault), "{text}");
+    }
+}
+
+use ValueFault::{BadJson, RangeError, WrongType};
+
+#[test]
+fn what_is_no_json_is_no_json_for_any_type() {
+    let deep_array = format!("{}{}", "[".repeat(9), "]".repeat(9));
+    let deep_object = format!("{}1{}", "{\"a\":".repeat(9), "}".repeat(9));
+    let texts = [
+        "",
+        " ",
+        "01",
+        "-01",
+        "00",
+        "1.",
+        ".5",
+        "-.5",
+        "-",
+        "+1",
+        "1e",
+        "1e+",
+        "1e1.5",
+        "1 2",
+        "0x10",
+        "NaN",
+        "Infinity",
+        "tru",
+        "truee",
+        "True",
+        "nul",
+        "'a'",
+        "\"",
+        "\"a",
+        "\"\\\"",
+        "\"\\a\"",
+        "\"\\u12\"",
+        "\"\\u00g0\"",
+        "\"\\U0041\"",
+        "\"\u{1f}\"",
+        "\"\u{7f}\"",
+        "\"\u{80}\"",
+        "\t1",
+        "1\r",
+        "[1,]",
+        "[,1]",
+        "[1 2]",
+        "[",
+        "]",
+        "[1",
+        "[1}",
+        "{",
+        "{}}",
+        "{\"a\"}",
+        "{\"a\":}",
+        "{\"a\":1,}",
+        "{a:1}",
+        "{1:1}",
+        "{\"a\":1 \"b\":2}",
+        "[]]",
+        "1,",
+        &deep_array,
+        &deep_object,
+    ];
+    for bytes in [
+        boolean(),
+        double((0, 0), (9, 0)),
+        string(0, 9),
+        array(0, 9, &boolean()),
+    ] {
+        assert_faults(&bytes, BadJson, &texts);
+    }
+}
+
+#[test]
+fn eight_levels_are_json() {
+    let deep_array = format!("{}{}", "[".repeat(8), "]".repeat(8));
+    let deep_object = format!("{}1{}", "{\"a\":".repeat(8), "}".repeat(8));
+    let mixed = format!("{}1{}", "[{\"a\":".repeat(4), "}]".repeat(4));
+    assert_faults(&boolean(), WrongType, &[&deep_array, &deep_object, &mixed]);
+    assert_faults(&boolean(), BadJson, &[&format!("[{mixed}]")]);
+    assert_faults(&boolean(), BadJson, &[&format!("[0,{mixed}]")]);
+}
+
+#[test]
+fn bool_takes_the_two_words_only() {
+    assert_fit(&boolean(), &["true", "false"]);
+    let texts = [
+        "null",
+        "0",
+        "1",
+        "\"true\"",
+        "[]",
+        "{}",
+        "[true]",
+        "\"\\u0080\"",
+    ];
+    assert_faults(&boolean(), WrongType, &texts);
+}
+
+#[test]
+fn double_compares_exactly() {
+    let to_300 = double((0, 0), (300, 0));
+    assert_fit(
+        &to_300,
+        &[
+            "0",
+            "-0",
+            "-0.0",
+            "-0e0",
+            "0e99",
+            "0E-99",
+            "300",
+            "300.0",
+            "3e2",
+            "3E+2",
+            "3e+02",
+            "3e0000000000000000002",
+            "30000e-2",
+            "0.3e3",
+            "1.5e-99",
+            "299.9999999999999999999",
+            "0.00000000000000000000000000001",
+            "300.0000000000000000000000000000",
+        ],
+    );
+    assert_faults(
+        &to_300,
+        RangeError,
+        &[
+            "301",
+            "-1",
+            "-1e-99",
+            "300.0000000000000000001",
+            "3.0000000000000000000000001e2",
+            "1e3",
+            "0e100",
+            "0e-100",
+            "0.0e100",
+            "10e-100",
+            "1e99999999999999999999",
+        ],
+    );
+    assert_faults(&to_300, WrongType, &["null", "\"1\"", "true", "[1]", "{}"]);
+}
+
+#[test]
+fn double_limits_may_be_negative_and_have_powers() {
+    let narrow = double((-3, -30), (-1, -30));
+    assert_fit(&narrow, &["-1e-30", "-3e-30", "-0.2e-29", "-30e-31"]);
+    assert_faults(
+        &narrow,
+        RangeError,
+        &["0", "-0.9999e-30", "-3.00001e-30", "2e-30", "-4e-30"],
+    );
+    let wide = double((i64::MIN, 30), (i64::MAX, 30));
+    assert_fit(
+        &wide,
+        &[
+            "9223372036854775807e30",
+            "-9223372036854775808e30",
+            "-9.2e48",
+        ],
+    );
+    assert_faults(
+        &wide,
+        RangeError,
+        &["9223372036854775808e30", "-9223372036854775809e30", "1e99"],
+    );
+    let same = double((3, 2), (300, 0));
+    assert_fit(&same, &["300", "0.3e3"]);
+    assert_faults(&same, RangeError, &["299.999", "300.001"]);
+}
+
+#[test]
+fn a_token_has_at_most_32_bytes() {
+    let to_300 = double((0, 0), (300, 0));
+    let bytes_32 = "0.000000000000000000000000000000";
+    assert_eq!(bytes_32.len(), 32);
+    let bytes_33 = format!("{bytes_32}0");
+    let signed_33 = format!("-{bytes_32}");
+    let power_33 = "1e0000000000000000000000000000001";
+    assert_eq!(power_33.len(), 33);
+    assert_fit(&to_300, &[bytes_32, &power_33.replacen("00", "0", 1)]);
+    assert_faults(&to_300, RangeError, &[&bytes_33, &signed_33, power_33]);
+    // For ints a dot or an exponent is a type fault at any length.
+    assert_faults(&int(0, 9), WrongType, &[&bytes_33, power_33]);
+    let digits_33 = format!("1{}", "0".repeat(32));
+    assert_faults(&int(0, 9), RangeError, &[&digits_33]);
+    assert_faults(&enumeration(&[("a", 1)]), RangeError, &[&digits_33]);
+    assert_faults(&boolean(), WrongType, &[&digits_33]);
+}
+
+#[test]
+fn int_takes_whole_tokens_within_its_limits() {
+    let full = int(i64::MIN, i64::MAX);
+    assert_fit(
+        &full,
+        &["0", "-0", "9223372036854775807", "-9223372036854775808"],
+    );
+    assert_faults(
+        &full,
+        RangeError,
+        &[
+            "9223372036854775808",
+            "-9223372036854775809",
+            "99999999999999999999999999999999",
+        ],
+    );
+    assert_faults(
+        &full,
+        WrongType,
+        &[
+            "1.0", "1e0", "1E2", "-0.0", "0e100", "\"1\"", "null", "false",
+        ],
+    );
+    let low = int(-3, -2);
+    assert_fit(&low, &["-3", "-2"]);
+    assert_faults(&low, RangeError, &["-4", "-1", "0", "-0", "2", "3"]);
+}
+
+#[test]
+fn enum_takes_the_numbers_of_its_members() {
+    let members = enumeration(&[("off", 0), ("on", 1), ("low", i32::MIN), ("high", i32::MAX)]);
+    assert_fit(&members, &["0", "-0", "1", "-2147483648", "2147483647"]);
+    assert_faults(
+        &members,
+        RangeError,
+        &[
+            "2",
+            "-1",
+            "2147483648",
+            "-2147483649",
+            "4294967296",
+            "18446744073709551617",
+        ],
+    );
+    assert_faults(
+        &members,
+        WrongType,
+        &["\"on\"", "1.0", "1e0", "true", "null"],
+    );
+}
+
+#[test]
+fn string_counts_each_escape_as_one_character() {
+    let three = string(3, 3);
+    assert_fit(
+        &three,
+        &[
+            "\"abc\"",
+            "\"   \"",
+            "\"\\\"\\\\\\/\"",
+            "\"\\b\\f\\n\"",
+            "\"\\r\\t\\u0041\"",
+            "\"\\u0000\\u007F\\u007f\"",
+            "\"[{:\"",
+            "\"u00\"",
+        ],
+    );
+    assert_faults(
+        &three,
+        RangeError,
+        &[
+            "\"\"",
+            "\"ab\"",
+            "\"abcd\"",
+            "\"ab\\u0080\"",
+            "\"ab\\uD800\"",
+            "\"a\\ud83d\\ude00\"",
+            "\"\\uFFFF\"",
+            "\"a\\u0041\"",
+        ],
+    );
+    assert_faults(&three, WrongType, &["3", "null", "[\"abc\"]", "{}", "true"]);
+    assert_fit(&string(0, 0), &["\"\""]);
+}
+
+#[test]
+fn array_counts_its_elements_and_judges_all() {
+    let two_ints = array(1, 2, &int(0, 9));
+    assert_fit(&two_ints, &["[1]", "[0,9]"]);
+    assert_faults(
+        &two_ints,
+        RangeError,
+        &["[]", "[1,2,3]", "[10]", "[1,2,10]"],
+    );
+    assert_faults(
+        &two_ints,
+        WrongType,
+        &[
+            "1",
+            "null",
+            "{}",
+            "\"[1]\"",
+            "[true]",
+            "[10,true]",
+            "[1,2,true]",
+            "[1,2,3,[4]]",
+        ],
+    );
+    assert_fit(&array(0, 0, &int(0, 9)), &["[]"]);
+}
+
+#[test]
+fn tuple_has_exactly_its_count() {
+    let pair = tuple(&[int(0, 9), boolean()]);
+    assert_fit(&pair, &["[1,true]"]);
+    assert_faults(&pair, RangeError, &["[10,true]"]);
+    assert_faults(
+        &pair,
+        WrongType,
+        &["[]", "[1]", "[1,true,2]", "[true,1]", "[10,1]", "{}", "1"],
+    );
+}
+
+#[test]
+fn struct_has_every_member_exactly_once() {
+    let settings = structure(&[("p", int(0, 9)), ("Q", boolean())]);
+    assert_fit(&settings, &[r#"{"p":1,"Q":true}"#, r#"{"Q":true,"p":1}"#]);
+    assert_faults(&settings, RangeError, &[r#"{"p":10,"Q":true}"#]);
+    assert_faults(
+        &settings,
+        WrongType,
+        &[
+            "{}",
+            r#"{"p":1}"#,
+            r#"{"p":1,"q":true}"#,
+            r#"{"p":1,"p":1}"#,
+            r#"{"p":1,"Q":true,"p":1}"#,
+            r#"{"p":1,"Q":true,"r":0}"#,
+            r#"{"\u0070":1,"Q":true}"#,
+            r#"{"p":10,"Q":1}"#,
+            r#"{"p":10,"\u0080":true}"#,
+            "[1,true]",
+            "null",
+        ],
+    );
+}
+
+#[test]
+fn a_type_fault_anywhere_wins_over_a_range_fault_anywhere() {
+    let nested = array(0, 1, &tuple(&[int(0, 9), string(0, 1)]));
+    assert_faults(
+        &nested,
+        WrongType,
+        &[r#"[[10,"ab"],[1,2]]"#, r#"[[1,"a"],[1]]"#, r#"[["",10]]"#],
+    );
+    assert_faults(
+        &nested,
+        RangeError,
+        &[
+            r#"[[10,"ab"]]"#,
+            r#"[[1,"a"],[1,"a"]]"#,
+            r#"[[1,"\u0080"]]"#,
+        ],
+    );
+}
+
+#[test]
+fn the_stored_form_has_no_spaces_outside_strings() {
+    let settings = structure(&[("p", array(0, 9, &int(0, 9))), ("q", string(0, 9))]);
+    assert_eq!(
+        judged(&settings, r#"  { "q" : " \" a " , "p" : [ 1 , -0 ] }  "#),
+        Ok(r#"{"q":" \" a ","p":[1,-0]}"#.to_string())
+    );
+    assert_eq!(judged(&boolean(), "  true "), Ok("true".to_string()));
+    assert_eq!(
+        judged(&string(0, 9), r#" " \\" "#),
+        Ok(r#"" \\""#.to_string())
+    );
+    assert_eq!(
+        judged(&array(0, 9, &boolean()), "[ ]"),
+        Ok("[]".to_string())
+    );
+}
+
+#[test]
+fn a_stored_form_over_256_bytes_is_out_of_range() {
+    let long = string(0, 1000);
+    let of_length = |length: usize| format!("\"{}\"", "x".repeat(length - 2));
+    assert_fit(&long, &[&of_length(255), &of_length(256)]);
+    assert_faults(&long, RangeError, &[&of_length(257)]);
+    // Spaces around don't count, those inside do.
+    let with_spaces = format!("   {}   ", of_length(256));
+    assert_eq!(judged(&long, &with_spaces), Ok(of_length(256)));
+    assert_faults(&long, RangeError, &[&format!("\"{}\"", " ".repeat(255))]);
+    // Escapes count as they are written: 43 of six bytes are 258.
+    assert_faults(
+        &long,
+        RangeError,
+        &[&format!("\"{}\"", "\\u0041".repeat(43))],
+    );
+    // A type fault wins over the length.
+    let strings = array(0, 9, &long);
+    let mixed = format!("[{},1]", of_length(257));
+    assert_faults(&strings, WrongType, &[&mixed]);
+    assert_faults(&strings, RangeError, &[&format!("[{}]", of_length(255))]);
+    assert_fit(&strings, &[&format!("[{}]", of_length(254))]);
+}

@@ -1,0 +1,253 @@
+//! A watcher that follows a history from outside, by what is sent alone, and
+//! finds out when something is sent that should not be.
+
+use crate::build::line_of;
+use reference::history::{Answer, Call, History, Player};
+use reference::node::{seconds, CLIENTS};
+use reference::outbox::{self, Mark, Record};
+use reference::table::Table;
+
+/// What the watcher knows.
+struct Watcher {
+    /// The modules' names.
+    modules: Vec<String>,
+    /// For each parameter its specifier and its data report.
+    parameters: Vec<(String, String)>,
+    open: [bool; CLIENTS],
+    /// For each client, which modules it has active.
+    active: [Vec<bool>; CLIENTS],
+}
+
+/// What a history was seen to contain.
+#[derive(Default)]
+pub struct Seen {
+    pub numbers: Vec<u8>,
+    pub records: Vec<Record>,
+}
+
+/// Follows a whole history.
+pub fn watch(history: &History) -> Seen {
+    let mut player = Player::new(&history.table);
+    let mut watcher = None;
+    let mut seen = Seen::default();
+    for call in &history.calls {
+        let before = player.node().map(|node| node.state().clone());
+        let answer = player.call(call).expect("a start comes first");
+        let records = outbox::read(&answer.outbox).expect("nothing but records");
+        if let Call::Start { time, .. } = call {
+            let start_time = if answer.is_accepted() { *time } else { 0 };
+            watcher = Table::judge(&history.table)
+                .ok()
+                .map(|table| Watcher::new(&table, start_time));
+            assert!(records.is_empty());
+        } else if !answer.is_accepted() {
+            assert_eq!((answer.used, answer.outbox.len()), (0, 0));
+            assert_eq!(before.as_ref(), player.node().map(|node| node.state()));
+        } else {
+            let watcher = watcher.as_mut().expect("a good table");
+            watcher.follow(call, &answer, &records);
+        }
+        assert!(answer.outbox.len() <= 32_019);
+        seen.numbers.push(answer.number);
+        seen.records.extend(records);
+    }
+    seen
+}
+
+impl Watcher {
+    fn new(table: &Table, start_time: u64) -> Watcher {
+        let text = |bytes: &[u8]| String::from_utf8(bytes.to_vec()).expect("ASCII");
+        let parameters = table.parameters();
+        let parameters = parameters.iter().map(|one| {
+            let specifier = format!("{}:{}", text(one.module_name), text(one.name));
+            let report = format!("[{},{{\"t\":{}}}]", text(one.initial), seconds(start_time));
+            (specifier, report)
+        });
+        Watcher {
+            modules: table.modules.iter().map(|one| text(&one.name)).collect(),
+            parameters: parameters.collect(),
+            open: [false; CLIENTS],
+            active: std::array::from_fn(|_| vec![false; table.modules.len()]),
+        }
+    }
+
+    fn follow(&mut self, call: &Call, answer: &Answer, records: &[Record]) {
+        match call {
+            Call::Start { .. } => unreachable!("starts are followed elsewhere"),
+            Call::Open { client, .. } => self.set_open(*client as usize, true, records),
+            Call::Close { client, .. } => self.set_open(*client as usize, false, records),
+            Call::Reading {
+                parameter,
+                time,
+                text,
+                ..
+            } => self.follow_reading(*parameter as usize, *time, text, records),
+            Call::Piece {
+                client,
+                time,
+                bytes,
+                ..
+            } => {
+                let line_feed = bytes.iter().position(|&byte| byte == b'\n');
+                let expected = line_feed.map_or(bytes.len(), |at| at + 1);
+                assert_eq!(answer.used, expected, "up to the first line feed");
+                match line_feed {
+                    Some(_) => self.follow_line(*client as u8, *time, records),
+                    None => assert!(records.is_empty()),
+                }
+            }
+        }
+    }
+
+    fn set_open(&mut self, client: usize, open: bool, records: &[Record]) {
+        assert!(records.is_empty());
+        assert_ne!(self.open[client], open);
+        self.open[client] = open;
+        self.active[client].fill(false);
+    }
+
+    fn follow_reading(&mut self, parameter: usize, time: u64, text: &[u8], records: &[Record]) {
+        // A value without spaces is stored as it is.
+        if !text.contains(&b' ') {
+            let value = String::from_utf8(text.to_vec()).expect("ASCII");
+            self.parameters[parameter].1 = format!("[{value},{{\"t\":{}}}]", seconds(time));
+        } else if let Some(update) = records.first() {
+            self.learn_report(parameter, time, &line_of(update));
+        } else {
+            self.parameters[parameter].1.clear();
+        }
+        self.expect_updates(parameter, records);
+    }
+
+    /// Takes a report over from a line that ends in it, if its time is right.
+    fn learn_report(&mut self, parameter: usize, time: u64, line: &str) {
+        let report = line.splitn(3, ' ').nth(2).expect("a report");
+        assert!(report.ends_with(&format!(",{{\"t\":{}}}]", seconds(time))));
+        self.parameters[parameter].1 = report.to_string();
+    }
+
+    /// Exactly the open clients that have the module active, lowest first.
+    fn expect_updates(&self, parameter: usize, records: &[Record]) {
+        let (specifier, report) = &self.parameters[parameter];
+        let module = self.module_of(specifier);
+        let expected: Vec<u8> = (0..CLIENTS as u8)
+            .filter(|&client| self.open[client as usize] && self.active[client as usize][module])
+            .collect();
+        let clients: Vec<u8> = records.iter().map(|record| record.client).collect();
+        assert_eq!(clients, expected);
+        for record in records {
+            assert_eq!(record.mark, Mark::Update);
+            assert_eq!(line_of(record), format!("update {specifier} {report}"));
+        }
+    }
+
+    fn module_of(&self, specifier: &str) -> usize {
+        let (name, _) = specifier.split_once(':').expect("a colon");
+        self.modules
+            .iter()
+            .position(|module| module == name)
+            .expect("a module of the table")
+    }
+
+    /// One reply to the sender, at the end; what comes before depends on it.
+    fn follow_line(&mut self, client: u8, time: u64, records: &[Record]) {
+        let (reply, before) = records.split_last().expect("a reply");
+        assert_eq!((reply.mark, reply.client), (Mark::Reply, client));
+        let line = line_of(reply);
+        let words: Vec<&str> = line.splitn(3, ' ').collect();
+        match words[..] {
+            ["active"] => self.follow_activation(client, &self.modules.clone(), true, before),
+            ["active", module] => {
+                self.follow_activation(client, &[module.to_string()], true, before)
+            }
+            ["inactive"] => self.follow_activation(client, &self.modules.clone(), false, before),
+            ["inactive", module] => {
+                self.follow_activation(client, &[module.to_string()], false, before)
+            }
+            ["changed", specifier, report] => {
+                self.follow_change(specifier, report, time, client, before)
+            }
+            ["done", _, report] => {
+                assert_eq!(report, format!("[null,{{\"t\":{}}}]", seconds(time)));
+                assert_eq!(before.len(), 1);
+                assert_eq!(
+                    (before[0].mark, before[0].client),
+                    (Mark::DriverCommand, client)
+                );
+            }
+            ["reply", specifier, report] => {
+                assert!(before.is_empty());
+                let known = &self.parameters[self.number_of(specifier)].1;
+                assert!(known.is_empty() || known == report, "{known} {report}");
+            }
+            ["pong", _, report] => {
+                assert!(before.is_empty());
+                assert_eq!(report, format!("[null,{{\"t\":{}}}]", seconds(time)));
+            }
+            _ => {
+                let identification = line.starts_with("ISSE&SINE2020,SECoP,");
+                let description = line.starts_with("describing . {\"modules\":{");
+                let error = line.starts_with("error_") && line.ends_with("\",{}]");
+                assert!(identification || description || error, "{line}");
+                assert!(before.is_empty());
+            }
+        }
+    }
+
+    fn number_of(&self, specifier: &str) -> usize {
+        self.parameters
+            .iter()
+            .position(|(known, _)| known == specifier)
+            .expect("a parameter of the table")
+    }
+
+    fn follow_change(
+        &mut self,
+        specifier: &str,
+        report: &str,
+        time: u64,
+        client: u8,
+        before: &[Record],
+    ) {
+        let number = self.number_of(specifier);
+        let (order, updates) = before.split_first().expect("the driver's order");
+        assert_eq!((order.mark, order.client), (Mark::DriverChange, client));
+        let value = String::from_utf8(order.body[1..].to_vec()).expect("ASCII");
+        assert_eq!(usize::from(order.body[0]), number);
+        assert_eq!(report, format!("[{value},{{\"t\":{}}}]", seconds(time)));
+        self.parameters[number].1 = report.to_string();
+        self.expect_updates(number, updates);
+    }
+
+    /// An activation sends the known reports of its modules' parameters.
+    fn follow_activation(
+        &mut self,
+        client: u8,
+        modules: &[String],
+        activate: bool,
+        before: &[Record],
+    ) {
+        for name in modules {
+            let module = self.module_of(&format!("{name}:"));
+            self.active[client as usize][module] = activate;
+        }
+        let of_modules = |specifier: &str| {
+            modules
+                .iter()
+                .any(|name| specifier.starts_with(&format!("{name}:")))
+        };
+        let mut expected = self
+            .parameters
+            .iter()
+            .filter(|(specifier, _)| activate && of_modules(specifier));
+        for record in before {
+            let (specifier, report) = expected.next().expect("no update too many");
+            assert_eq!((record.mark, record.client), (Mark::Update, client));
+            let line = line_of(record);
+            let front = format!("update {specifier} ");
+            assert!(line.starts_with(&front));
+            assert!(report.is_empty() || line == front + report);
+        }
+        assert_eq!(expected.next(), None, "no update missing");
+    }
+}
