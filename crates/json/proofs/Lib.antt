@@ -5,3 +5,4 @@ pub mod Spaces
 pub mod Strings
 pub mod Rest
 pub mod Values
+pub mod Escapes
