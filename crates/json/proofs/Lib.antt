@@ -6,3 +6,5 @@ pub mod Strings
 pub mod Rest
 pub mod Values
 pub mod Escapes
+pub mod Strip
+pub mod Copied

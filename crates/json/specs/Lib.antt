@@ -1,3 +1,4 @@
 pub mod Json
 pub mod Characters
+pub mod Compacted
 pub mod Theorems

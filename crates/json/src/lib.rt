@@ -4,6 +4,7 @@ ghost use mathlib.Core.Bool.{true};
 ghost use Rattle.json.specs.Theorems.{CompactIsReadBack};
 
 pub mod characters;
+pub mod compact;
 pub mod read;
 
 // The compact text of a value that was read is read as the same value: nothing is run, the promise is the theorem.
