@@ -1,6 +1,6 @@
 -- Laws about searches, records and the clients' parts of a node. Assumes nothing.
 use Prim.Native.Nat.{ℕ, zero, suc, _+_, _<_, _≤_}
-use mathlib.Core.Bool.{Bool, true, false, cond, _&&_, _||_, not}
+use mathlib.Core.Bool.{Bool, true, false, cond, _&&_, _||_, not, false≢true}
 use mathlib.Core.List.{List, [], _∷_, _++_, map, append-assoc, List·Memᴰ, List·Memᴰ·append-cases, List·Memᴰ·cases-cons, List·Memᴰ·not-nil, List·Memᴰ·eq-of-singleton}
 use mathlib.Core.Logic.{_⊎_, ⊎-elim}
 use mathlib.Core.Option.{Option, none, some, Option·some-injective}
@@ -9,7 +9,7 @@ use lib.Dec.{eqb, ltb}
 use lib.ListN.{length, getElem?, replicate}
 use native.Mathlib.Nat.{add-comm, zero-add}
 use native.Mathlib.Numerals.{add-one}
-use Rattle.ascii.specs.Bytes.{count}
+use Rattle.ascii.specs.Bytes.{count, same}
 use native.Mathlib.Omega.{arith}
 use borrow.Author.Tests.{eqb-true, eq-eqb, ne-eqb}
 use Rattle.table.specs.Table.{Parameter, Command, Accessible, Module, Table}
@@ -17,7 +17,13 @@ use Rattle.table.specs.Search.{Placed, placedFrom, parametersOf, parameters, fi
 use Rattle.message.specs.Reply.{Report, Reply}
 use Rattle.outbox.specs.Outbox.{Record, final, update, orderChange, orderCommand}
 use Rattle.plain.specs.Node.{Client, closed, connected, Value, Node, put, isOpen, isActive, receive, emptied, activated, reportOf, clientNumbers, updatesTo, updatesOf}
-use Rattle.rule.specs.Records.{updatesFor, repliesFor}
+use Rattle.rule.specs.Records.{updatesFor, repliesFor, reportsOf}
+
+-- both of two tests that passed
+both : (a b : Bool) → (a && b) ≡ true → (a ≡ true) × (b ≡ true)
+both true true e = (refl, refl)
+both true false e = absurd (false≢true e)
+both false b e = absurd (false≢true e)
 
 -- ## Searches
 
@@ -45,6 +51,34 @@ module _ {A : Type 0} (p : A → Bool) where
       let h = first-from 0 xs (k .0) (k .1) e in
       let q : h .0 ≡ k .0 = omega (arith, h .1) in
       subst (λ i. getElem? xs i ≡ some (k .1)) q (h .2)
+
+-- and passes its test
+module _ {A : Type 0} (p : A → Bool) where
+  first-passes : (n : ℕ) (xs : List A) (k : ℕ × A) → firstFrom p n xs ≡ some k → p (k .1) ≡ true
+  unfolding firstFrom
+  first-passes n [] k e = let z : _≡_ {A = ℕ} 0 1 = cc in absurd (omega arith)
+  first-passes n (y ∷ ys) k e = go (p y) refl (λ e′. first-passes (suc n) ys k e′) e
+    where
+      go : (q : Bool) → p y ≡ q → (firstFrom p (suc n) ys ≡ some k → p (k .1) ≡ true)
+          → cond q (some (n, y)) (firstFrom p (suc n) ys) ≡ some k → p (k .1) ≡ true
+      go true h r e′ = ap (λ (x : ℕ × A). p (x .1)) (sym (Option·some-injective (n, y) k e′)) ∙ h
+      go false h r e′ = r e′
+
+same-is : (xs ys : List ℕ) → same xs ys ≡ true → xs ≡ ys
+unfolding same
+same-is [] [] e = refl
+same-is [] (y ∷ ys) e = absurd (false≢true e)
+same-is (x ∷ xs) [] e = absurd (false≢true e)
+same-is (x ∷ xs) (y ∷ ys) e =
+    let h = both (eqb x y) (same xs ys) e in
+    ap₂ _∷_ (eqb-true x y (h .0)) (same-is xs ys (h .1))
+
+pub parameter-named : (w : Table) (m a : List ℕ) (k : ℕ × Placed Parameter)
+    → findParameter w m a ≡ some k → (m ≡ k .1 .moduleName) × (a ≡ k .1 .it .name)
+unfolding findParameter first
+parameter-named w m a k e =
+    let h = both (same m (k .1 .moduleName)) (same a (k .1 .it .name)) (first-passes _ 0 (parameters w) k e) in
+    (same-is m (k .1 .moduleName) (h .0), same-is a (k .1 .it .name) (h .1))
 
 pub parameter-there : (w : Table) (m a : List ℕ) (k : ℕ × Placed Parameter)
     → findParameter w m a ≡ some k → getElem? (parameters w) (k .0) ≡ some (k .1)
@@ -100,13 +134,27 @@ module _ {A : Type 0} where
       go true e = subst (λ i. P i a) (sym (eqb-true j k e)) h
       go false e = g j
 
+module _ {A : Type 0} (f : ℕ → A) (k : ℕ) where
+  -- of two changes at a place the second stays
+  pub put-put : (a b : A) → put (put f k a) k b ≡ put f k b
+  unfolding put
+  put-put a b = fun-ext (λ j. go (eqb j k) j)
+    where
+      go : (q : Bool) (j : ℕ) → cond q b (cond q a (f j)) ≡ cond q b (f j)
+      go true j = refl
+      go false j = refl
+
+  pub put-other : (a : A) (j : ℕ) → (j ≡ k → ⊥) → put f k a j ≡ f j
+  unfolding put
+  put-other a j h = ap (λ q. cond q a (f j)) (ne-eqb j k h)
+
 -- ## What a line's bytes, and its end, leave of a client
 
-pub receive-open : (bs : List ℕ) (x : Client) → isOpen (receive x bs) ≡ isOpen x
-unfolding receive isOpen
-receive-open [] x = refl
-receive-open (b ∷ bs) closed = refl
-receive-open (b ∷ bs) (connected l a) = receive-open bs (connected _ a)
+pub emptied-received : (bs : List ℕ) (x : Client) → emptied (receive x bs) ≡ emptied x
+unfolding receive emptied
+emptied-received [] x = refl
+emptied-received (b ∷ bs) closed = refl
+emptied-received (b ∷ bs) (connected l a) = emptied-received bs (connected _ a)
 
 pub receive-active : (bs : List ℕ) (x : Client) (i : ℕ) → isActive (receive x bs) i ≡ isActive x i
 unfolding receive isActive
@@ -123,11 +171,6 @@ pub emptied-active : (x : Client) (i : ℕ) → isActive (emptied x) i ≡ isAct
 unfolding emptied isActive
 emptied-active closed i = refl
 emptied-active (connected l a) i = refl
-
-pub activated-open : (f : ℕ → Bool) (x : Client) → isOpen (activated f x) ≡ isOpen x
-unfolding activated isOpen
-activated-open f closed = refl
-activated-open f (connected l a) = refl
 
 pub activated-active : (f : ℕ → Bool) (x : Client) (i : ℕ) → isOpen x ≡ true → isActive (activated f x) i ≡ f i
 unfolding activated isActive isOpen
@@ -340,3 +383,28 @@ module _ (f : ℕ → Client) (i : ℕ) (r : Report) (d : ℕ) where
       go : (q : Bool) → _≡_ {A = List Report} (cond q [] []) []
       go true = refl
       go false = refl
+
+-- ## The initial updates of one client
+
+pub updates-of-for : (c : ℕ) (wanted : ℕ → Bool) (values : ℕ → Value) (ps : List (Placed Parameter)) (k d : ℕ)
+    → updatesFor d (updatesOf c wanted values k ps) ≡ cond (eqb d c) (reportsOf wanted values k ps) []
+unfolding updatesFor updatesOf reportsOf
+updates-of-for c wanted values [] k d = both-ways (eqb d c)
+  where
+    both-ways : (q : Bool) → _≡_ {A = List Report} [] (cond q [] [])
+    both-ways true = refl
+    both-ways false = refl
+updates-of-for c wanted values (p ∷ ps) k d =
+    updates-append d (cond (wanted (p .home)) (update c (reportOf p (values k)) ∷ []) []) (updatesOf c wanted values (suc k) ps)
+    ∙ ap
+    (updatesFor d (cond (wanted (p .home)) (update c (reportOf p (values k)) ∷ []) []) ++_)
+    (updates-of-for c wanted values ps (suc k) d)
+    ∙ go (wanted (p .home)) (eqb d c) refl
+  where
+    go : (q e : Bool) → eqb d c ≡ e
+        → updatesFor d (cond q (update c (reportOf p (values k)) ∷ []) []) ++ cond e (reportsOf wanted values (suc k) ps) []
+        ≡ cond e (cond q (reportOf p (values k) ∷ []) [] ++ reportsOf wanted values (suc k) ps) []
+    go true true h = rw h
+    go true false h = rw h
+    go false true h = refl
+    go false false h = refl

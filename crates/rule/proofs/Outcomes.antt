@@ -3,7 +3,7 @@ use Prim.Native.Nat.{ℕ}
 use mathlib.Core.Bool.{Bool, true, false, cond}
 use mathlib.Core.List.{List, [], _∷_}
 use mathlib.Core.Option.{Option, none, some}
-use mathlib.Core.Path.{_≡_, refl}
+use mathlib.Core.Path.{_≡_, refl, sym, ap, ap₂, subst, fun-ext}
 use lib.Dec.{eqb}
 use lib.ListN.{getElem?}
 use Rattle.datainfo.specs.Fit.{Verdict, fits, rangeError, wrongType, badJSON, verdict, storedForm}
@@ -15,7 +15,8 @@ use Rattle.message.specs.Reply.{Report, Reply, identification, describing, pong
 use Rattle.outbox.specs.Outbox.{Record, orderCommand}
 use Rattle.plain.specs.Node.{Node, reportOf}
 use Rattle.plain.specs.Answer.{Outcome, refused, carried, found, letIn, argumentVerdict, argumentForm, activates, deactivates, inScope, reads, sets, changes, does, outcome}
-use Rattle.rule.proofs.Laws.{parameter-there}
+use Rattle.rule.specs.Records.{inScopeOf, numberIs}
+use Rattle.rule.proofs.Laws.{parameter-there, parameter-named}
 
 -- replies that come with no other record and no change
 pub data Simple : Reply → Type 0 where
@@ -25,56 +26,84 @@ pub data Simple : Reply → Type 0 where
   by-read : {r : Report} → Simple (reply r)
 
 module _ (P : Outcome → Type 0) (bad : (x : Class) → P (refused x)) where
-  pub found-holds : {A : Type 0} (x : Class) (o : Option A) (f : A → Outcome) → ((a : A) → o ≡ some a → P (f a)) → P (found x o f)
+  found-holds : {A : Type 0} (x : Class) (o : Option A) (f : A → Outcome) → ((a : A) → o ≡ some a → P (f a)) → P (found x o f)
   unfolding found
   found-holds x none f h = bad x
   found-holds x (some a) f h = h a refl
 
-  pub let-in-holds : (v : Verdict) (o : Outcome) → P o → P (letIn v o)
+  let-in-holds : (v : Verdict) (o : Outcome) → (v ≡ fits → P o) → P (letIn v o)
   unfolding letIn
-  let-in-holds fits o h = h
+  let-in-holds fits o h = h refl
   let-in-holds rangeError o h = bad RangeError
   let-in-holds wrongType o h = bad WrongType
   let-in-holds badJSON o h = bad BadJSON
 
-  cond-holds : (q : Bool) (o : Outcome) → P o → P (cond q (refused ReadOnly) o)
-  cond-holds true o h = bad ReadOnly
-  cond-holds false o h = h
+  writable-holds : (q : Bool) (o : Outcome) → (q ≡ false → P o) → P (cond q (refused ReadOnly) o)
+  writable-holds true o h = bad ReadOnly
+  writable-holds false o h = h refl
 
-  module _ (w : Table) (n : Node) (c now : ℕ)
-      (simply : (r : Reply) → Simple r → P (carried n [] r))
-      (activating : (wanted : ℕ → Bool) (m : Option (List ℕ)) → P (activates w n c now wanted m))
-      (deactivating : (wanted : ℕ → Bool) (m : Option (List ℕ)) → P (deactivates w n c now wanted m))
-      (setting : (k : ℕ × Placed Parameter) → getElem? (parameters w) (k .0) ≡ some (k .1) → (v : List ℕ) → P (sets w n c now k v))
-      (doing : (k : ℕ) (v : List ℕ) (r : Report) → P (carried n (orderCommand c k v ∷ []) (done r))) where
-    scope-holds : (f : (ℕ → Bool) → Option (List ℕ) → Outcome) → ((wanted : ℕ → Bool) (m : Option (List ℕ)) → P (f wanted m))
-        → (m : Option (List ℕ)) → P (inScope w n c now f m)
-    unfolding inScope
-    scope-holds f h none = h (λ i. true) none
-    scope-holds f h (some m) = found-holds NoSuchModule (findModule w m) _ (λ x e. h (λ i. eqb i (x .0)) (some m))
+-- the modules in scope, once it is known which module is named
+scope-is : (w : Table) (m : List ℕ) (x : ℕ × Module) → findModule w m ≡ some x → inScopeOf w (some m) ≡ λ i. eqb i (x .0)
+unfolding inScopeOf numberIs
+scope-is w m x e = fun-ext (λ i. ap (λ o. numberIs o i) e)
 
-    pub outcome-holds : (r : Request) → P (outcome w n c now r)
-    unfolding outcome reads changes does
-    outcome-holds identify = simply identification by-identify
-    outcome-holds describe = simply _ by-describe
-    outcome-holds (ping x) = simply _ by-ping
-    outcome-holds (activate m) = scope-holds (activates w n c now) activating m
-    outcome-holds (deactivate m) = scope-holds (deactivates w n c now) deactivating m
-    outcome-holds (read m a) =
-        found-holds NoSuchModule (findModule w m) _ (λ x e.
-        found-holds NoSuchParameter (findParameter w m a) (reads w n c now) (λ k q. simply _ by-read))
-    outcome-holds (change m a v) =
-        found-holds NoSuchModule (findModule w m) _ (λ x e.
-        found-holds NoSuchParameter (findParameter w m a) (changes w n c now v) (λ k q.
-        cond-holds
-        (k .1 .it .readonly)
-        (letIn (verdict (k .1 .it .datainfo) v) (sets w n c now k (storedForm v)))
-        (let-in-holds
-        (verdict (k .1 .it .datainfo) v)
-        (sets w n c now k (storedForm v))
-        (setting k (parameter-there w m a k q) (storedForm v)))))
-    outcome-holds (execute m a v) =
-        found-holds NoSuchModule (findModule w m) _ (λ x e.
-        found-holds NoSuchCommand (findCommand w m a) (does w n c now v) (λ k q.
-        let-in-holds (argumentVerdict (k .1 .it .argument) v) _ (doing (k .0) (argumentForm (k .1 .it .argument) v) _)))
-    outcome-holds malformed = bad ProtocolError
+all-is : (w : Table) → inScopeOf w none ≡ λ i. true
+unfolding inScopeOf
+all-is w = refl
+
+-- a change that was asked for and is let in: of parameter k, to the text v
+pub record LetIn (w : Table) (k : ℕ × Placed Parameter) (v : List ℕ) : Type 0 where
+  pub there : getElem? (parameters w) (k .0) ≡ some (k .1)
+  pub writable : k .1 .it .readonly ≡ false
+  pub fitting : verdict (k .1 .it .datainfo) v ≡ fits
+
+module _ (P : Request → Outcome → Type 0) (w : Table) (n : Node) (c now : ℕ)
+    (bad : (r : Request) (x : Class) → P r (refused x))
+    (simply : (r : Request) (s : Reply) → Simple s → P r (carried n [] s))
+    (activating : (m : Option (List ℕ)) → P (activate m) (activates w n c now (inScopeOf w m) m))
+    (deactivating : (m : Option (List ℕ)) → P (deactivate m) (deactivates w n c now (inScopeOf w m) m))
+    (setting : (k : ℕ × Placed Parameter) (v : List ℕ) → LetIn w k v
+    → P (change (k .1 .moduleName) (k .1 .it .name) v) (sets w n c now k (storedForm v)))
+    (doing : (r : Request) (k : ℕ) (v : List ℕ) (s : Report) → P r (carried n (orderCommand c k v ∷ []) (done s))) where
+  scope-holds : (r : Request) (f : (ℕ → Bool) → Option (List ℕ) → Outcome) (m : Option (List ℕ)) → P r (f (inScopeOf w m) m)
+      → P r (inScope w n c now f m)
+  unfolding inScope
+  scope-holds r f none h = subst (λ g. P r (f g none)) (all-is w) h
+  scope-holds r f (some m) h =
+      found-holds (P r) (bad r) NoSuchModule (findModule w m) _ (λ x e. subst (λ g. P r (f g (some m))) (scope-is w m x e) h)
+
+  change-holds : (m a v : List ℕ) (k : ℕ × Placed Parameter) → findParameter w m a ≡ some k → P (change m a v) (changes w n c now v k)
+  unfolding changes
+  change-holds m a v k q =
+      let r : Request = change m a v in
+      let h = parameter-named w m a k q in
+      let e : change (k .1 .moduleName) (k .1 .it .name) v ≡ r = ap₂ (λ x y. change x y v) (sym (h .0)) (sym (h .1)) in
+      writable-holds (P r) (bad r) (k .1 .it .readonly) _ (λ o.
+      let-in-holds (P r) (bad r) (verdict (k .1 .it .datainfo) v) _ (λ f.
+      subst
+      (λ x. P x (sets w n c now k (storedForm v)))
+      e
+      (setting k v (record { there = parameter-there w m a k q; writable = o; fitting = f }))))
+
+  pub outcome-holds : (r : Request) → P r (outcome w n c now r)
+  unfolding outcome reads does
+  outcome-holds identify = simply identify identification by-identify
+  outcome-holds describe = simply describe _ by-describe
+  outcome-holds (ping x) = simply (ping x) _ by-ping
+  outcome-holds (activate m) = scope-holds (activate m) (activates w n c now) m (activating m)
+  outcome-holds (deactivate m) = scope-holds (deactivate m) (deactivates w n c now) m (deactivating m)
+  outcome-holds (read m a) =
+      let r : Request = read m a in
+      found-holds (P r) (bad r) NoSuchModule (findModule w m) _ (λ x e.
+      found-holds (P r) (bad r) NoSuchParameter (findParameter w m a) (reads w n c now) (λ k q. simply r _ by-read))
+  outcome-holds (change m a v) =
+      let r : Request = change m a v in
+      found-holds (P r) (bad r) NoSuchModule (findModule w m) _ (λ x e.
+      found-holds (P r) (bad r) NoSuchParameter (findParameter w m a) (changes w n c now v) (change-holds m a v))
+  outcome-holds (execute m a v) =
+      let r : Request = execute m a v in
+      found-holds (P r) (bad r) NoSuchModule (findModule w m) _ (λ x e.
+      found-holds (P r) (bad r) NoSuchCommand (findCommand w m a) (does w n c now v) (λ k q.
+      let-in-holds (P r) (bad r) (argumentVerdict (k .1 .it .argument) v) _ (λ f.
+      doing r (k .0) (argumentForm (k .1 .it .argument) v) _)))
+  outcome-holds malformed = bad malformed ProtocolError

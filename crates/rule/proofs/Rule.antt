@@ -1,471 +1,500 @@
--- The user's rule, of every call on every node. Assumes nothing.
+-- The user's rule: updates, settings, activations and errors. Assumes nothing.
 use Prim.Native.Nat.{ℕ, zero, suc, _+_, _<_, _≤_}
 use mathlib.Core.Bool.{Bool, true, false, cond, not, _&&_, _||_, true≢false, or-true}
-use mathlib.Core.List.{List, [], _∷_, _++_, append-nil, List·Memᴰ, List·Memᴰ·append-cases, List·Memᴰ·cases-cons, List·Memᴰ·not-nil, List·Memᴰ·eq-of-singleton, Memᴰ·cast}
-use mathlib.Core.Logic.{_⊎_, ⊎-elim}
+use mathlib.Core.List.{List, [], _∷_, _++_, append-nil, append-assoc, List·Memᴰ, List·Memᴰ·append-cases, List·Memᴰ·cases-cons, List·Memᴰ·not-nil, List·Memᴰ·eq-of-singleton, List·Memᴰ·head, Memᴰ·append-right}
+use mathlib.Core.Logic.{_⊎_, inl, inr, ⊎-elim}
 use mathlib.Core.Option.{Option, none, some}
-use mathlib.Core.Path.{_≡_, refl, sym, _∙_, ap, ap₂, subst, fun-ext}
+use mathlib.Core.Path.{_≡_, refl, sym, _∙_, ap, subst}
 use lib.Dec.{eqb, ltb}
-use lib.ListN.{length, getElem?, take}
+use lib.ListN.{length, getElem?}
 use native.Mathlib.Omega.{arith}
-use borrow.Author.Tests.{eqb-true, eq-eqb, ne-eqb, lt-ltb}
-use Rattle.ascii.specs.Bytes.{isSome}
-use Rattle.datainfo.specs.Fit.{storedForm}
-use Rattle.table.specs.Table.{Parameter, Command, Module, Table}
+use borrow.Author.Tests.{lt-ltb, ne-eqb, eq-eqb, eqb-true}
+use Rattle.datainfo.specs.Fit.{fits, verdict, storedForm}
+use Rattle.table.specs.Table.{Parameter, Module, Table}
 use Rattle.table.specs.Layout.{tableOf}
 use Rattle.table.specs.Search.{Placed, parameters}
-use Rattle.report.specs.Judge.{fault, lowest, tableNumber}
-use Rattle.message.specs.Line.{Parts, content, partsOf}
-use Rattle.message.specs.Request.{Request, request}
+use Rattle.message.specs.Line.{Parts}
+use Rattle.message.specs.Request.{Request, change}
 use Rattle.message.specs.Error.{Class}
 use Rattle.message.specs.Reply.{Report, Reply, identification, describing, pong, active, inactive, reply, changed, done, error}
 use Rattle.outbox.specs.Outbox.{Record, final, update, orderChange, orderCommand}
-use Rattle.plain.specs.Node.{Client, closed, connected, Value, Node, put, withClient, withValue, isOpen, isActive, lineOf, receive, emptied, activated, reportOf, clientNumbers, updatesTo, updatesOf}
-use Rattle.plain.specs.Answer.{Outcome, refused, carried, outcome, activates, deactivates, sets, conclude, answerParts, answer}
-use Rattle.plain.specs.Calls.{Call, Open, Close, Piece, Reading, Answer, Effect, callNumber, beforeFeed, hasFeed, usedOf, ended, pieceEffect, readingEffect, effect, settle, stepIf}
+use Rattle.plain.specs.Node.{Client, closed, fresh, Value, Node, put, withClient, withValue, isOpen, isActive, receive, emptied, activated, reportOf, clientNumbers, updatesTo, updatesOf}
+use Rattle.plain.specs.Answer.{Outcome, refused, carried, outcome, activates, deactivates, sets}
+use Rattle.plain.specs.Calls.{Call, Open, Close, Piece, Reading, Answer, beforeFeed}
 use Rattle.plain.specs.History.{step}
-use Rattle.rule.specs.Records.{updatesFor, repliesFor, feedCount, feedsUsed}
-use Rattle.rule.specs.Theorems.{Tells, ToActive, UpdatesGoToActiveClients, SentToAll, ChangesAreSentToAll, ReadingsAreSentToAll, OneReplyForEachLine, AltersNothing, ErrorsAlterNothing}
-use Rattle.rule.proofs.Laws.{parameter-home, put-same, put-all, receive-open, receive-active, emptied-open, emptied-active, activated-open, activated-active, active-open, updates-append, replies-append, NotFinal, NoFinal, no-final-append, no-final-replies, updates-to-no-final, updates-of-no-final, final-not-in, updates-to-member, updates-of-member, Initial, sent-once, sent-never}
-use Rattle.rule.proofs.Outcomes.{Simple, by-identify, by-describe, by-ping, by-read, outcome-holds}
+use Rattle.rule.specs.Records.{updatesFor, repliesFor, inScopeOf, reportsOf, activeBy, activeAfter}
+use Rattle.rule.specs.Theorems.{requestOf, ToActive, UpdatesGoToActiveClients, Set, ReadingSets, ReadingsAreSentToAll, ChangeSets, Changed, by-line, ChangesAreSentToAll, Setting, by-reading, by-change, ValuesAlterBySettings, InitialUpdates, ActivationsSendAll, ActivationsAreOnesOwn, AltersNothing, ErrorsAlterNothing}
+use Rattle.rule.proofs.Laws.{parameter-home, put-same, put-other, put-all, receive-active, emptied-open, emptied-active, activated-active, active-open, updates-append, replies-append, no-final-replies, updates-to-member, updates-of-member, updates-of-for, sent-once, sent-never}
+use Rattle.rule.proofs.Outcomes.{Simple, by-identify, by-describe, by-ping, by-read, LetIn, outcome-holds}
+use Rattle.rule.proofs.Calls.{replyTo, before, nodeAfter, quiet, idle, partsAt, outcomeAt, Answered, Did, opened, shut, received, read, line, every-call, accepted-call, Line-of, line-of, line-of-final, refusals-alter-nothing}
 
--- ## Replies
+-- ## Kinds of replies
 
--- what goes before the reply has no final reply in it
-abbrev Quiet : Outcome → Type 0
-Quiet (refused x) = Unit {0}
-Quiet (carried m rs r) = NoFinal rs
+-- a reply has at most one of these kinds
+data Kind : Type 0 where
+  an-error a-change an-activation another : Kind
 
-quiet : (w : Table) (n : Node) (c now : ℕ) (r : Request) → Quiet (outcome w n c now r)
-unfolding activates deactivates sets
-quiet w n c now r =
-    outcome-holds
-    Quiet
-    (λ x. tt)
-    w
-    n
-    c
-    now
-    (λ s q. tt)
-    (λ wanted m. updates-of-no-final c wanted (n .values) 0 (parameters w))
-    (λ wanted m. tt)
-    (λ k e v. (tt, updates-to-no-final (n .clients) (k .1 .home) _ clientNumbers))
-    (λ k v s. (tt, tt))
-    r
+abbrev kindOf : Reply → Kind
+kindOf identification = another
+kindOf (describing r) = another
+kindOf (pong x t) = another
+kindOf (active m) = an-activation
+kindOf (inactive m) = another
+kindOf (reply r) = another
+kindOf (changed r) = a-change
+kindOf (done r) = another
+kindOf (error a s x) = an-error
 
--- the reply that concludes a line, and the records before it
-abbrev replyTo : Parts → Outcome → Reply
-replyTo p (refused x) = error (p .action) (p .specifier) x
-replyTo p (carried m rs r) = r
+kinds-apart : {A : Type 0} (x y : Reply) {k l : Kind} → kindOf x ≡ k → kindOf y ≡ l → x ≡ y → (k ≡ l → ⊥) → A
+kinds-apart x y p q e h = absurd (h (sym p ∙ ap kindOf e ∙ q))
 
-abbrev before : Outcome → List Record
-before (refused x) = []
-before (carried m rs r) = rs
+simple-kind : (s : Reply) → Simple s → kindOf s ≡ another
+simple-kind _ by-identify = refl
+simple-kind _ by-describe = refl
+simple-kind _ by-ping = refl
+simple-kind _ by-read = refl
 
-abbrev nodeAfter : Node → Outcome → Node
-nodeAfter n (refused x) = n
-nodeAfter n (carried m rs r) = m
+abbrev number : Kind → ℕ
+number an-error = 0
+number a-change = 1
+number an-activation = 2
+number another = 3
 
-concluded : (w : Table) (n : Node) (c now : ℕ) (p : Parts) (o : Outcome)
-    → conclude w n c now p o ≡ (nodeAfter n o, before o ++ (final c (replyTo p o) ∷ []))
-unfolding conclude
-concluded w n c now p (refused x) = refl
-concluded w n c now p (carried m rs r) = refl
+distinct : {k l : Kind} → (number k ≡ number l → ⊥) → k ≡ l → ⊥
+distinct h e = h (ap number e)
 
-quiet-before : (o : Outcome) → Quiet o → NoFinal (before o)
-quiet-before (refused x) h = tt
-quiet-before (carried m rs r) h = h
+-- x has another kind than y
+module _ {A : Type 0} where
+  change-no-error : (r : Report) (a s : List ℕ) (x : Class) → changed r ≡ error a s x → A
+  change-no-error r a s x e = kinds-apart (changed r) (error a s x) refl refl e (distinct (λ z. omega arith))
 
-one-final : (d c : ℕ) (r : Reply) → length (repliesFor d (final c r ∷ [])) ≡ cond (eqb d c) 1 0
-unfolding repliesFor
-one-final d c r = go (eqb d c)
-  where
-    go : (q : Bool) → length (cond q (r ∷ []) [] ++ []) ≡ cond q 1 0
-    go true = refl
-    go false = refl
-
-answer-replies : (w : Table) (n : Node) (c now d : ℕ) → length (repliesFor d (answer w n c now .1)) ≡ cond (eqb d c) 1 0
-unfolding answer answerParts
-answer-replies w n c now d =
-    let m : Node = withClient n c (emptied (n .clients c)) in
-    let p : Parts = partsOf (content (lineOf (n .clients c))) in
-    let o : Outcome = outcome w m c now (request p) in
-    ap (λ (x : Node × List Record). length (repliesFor d (x .1))) (concluded w m c now p o)
-    ∙ ap length (replies-append d (before o) (final c (replyTo p o) ∷ []))
-    ∙ ap (λ (l : List Reply). length (l ++ repliesFor d (final c (replyTo p o) ∷ [])))
-    (no-final-replies d (before o) (quiet-before o (quiet w m c now (request p))))
-    ∙ one-final d c (replyTo p o)
-
--- a choice between the same
-either-way : (q : Bool) (k : ℕ) → k ≡ cond q k k
-either-way true k = refl
-either-way false k = refl
-
-feeds-used : (bs : List ℕ) → feedCount (take (usedOf bs) bs) ≡ cond (hasFeed bs) 1 0
-unfolding feedCount usedOf beforeFeed hasFeed
-feeds-used [] = refl
-feeds-used (b ∷ bs) = go (eqb b 10) refl (feeds-used bs)
-  where
-    go : (q : Bool) → eqb b 10 ≡ q → feedCount (take (usedOf bs) bs) ≡ cond (hasFeed bs) 1 0
-        → feedCount (take (length (cond q [] (b ∷ beforeFeed bs)) + cond (cond q true (hasFeed bs)) 1 0) (b ∷ bs))
-        ≡ cond (cond q true (hasFeed bs)) 1 0
-    go true e h = ap (λ q. cond q 1 0 + 0) e
-    go false e h =
-        let p : suc (length (beforeFeed bs)) + cond (hasFeed bs) 1 0 ≡ suc (usedOf bs) = omega arith in
-        ap (λ k. feedCount (take k (b ∷ bs))) p ∙ ap (λ q. cond q 1 0 + feedCount (take (usedOf bs) bs)) e ∙ omega (arith, h)
-
-ended-replies : (w : Table) (n : Node) (c t d : ℕ) (q : Bool) → length (repliesFor d (ended w n c t q .1)) ≡ cond (eqb d c) (cond q 1 0) 0
-unfolding ended repliesFor
-ended-replies w n c t d true = answer-replies w n c t d
-ended-replies w n c t d false = either-way (eqb d c) 0
-
-reading-replies : (n : Node) (k : ℕ) (o : Option (Placed Parameter)) (bs : List ℕ) (t d : ℕ)
-    → length (repliesFor d (readingEffect n k o bs t .records)) ≡ 0
-unfolding readingEffect repliesFor
-reading-replies n k none bs t d = refl
-reading-replies n k (some p) bs t d =
-    let r : Report = reportOf p (record { text = storedForm bs; time = t }) in
-    ap length
-    (no-final-replies d (updatesTo (n .clients) (p .home) r clientNumbers)
-    (updates-to-no-final (n .clients) (p .home) r clientNumbers))
-
-one-reply : (w : Table) (n : Node) (e : Call) (d j : ℕ)
-    → length (repliesFor d (settle j n (effect w n e) .1 .records)) ≡ feedsUsed d e (settle j n (effect w n e) .1)
-unfolding settle effect feedsUsed repliesFor pieceEffect feedCount
-one-reply w n (Open c t a) d zero = refl
-one-reply w n (Open c t a) d (suc j) = refl
-one-reply w n (Close c t a) d zero = refl
-one-reply w n (Close c t a) d (suc j) = refl
-one-reply w n (Piece c bs t a o) d zero =
-    ended-replies w _ c t d (hasFeed bs) ∙ ap (λ k. cond (eqb d c) k 0) (sym (feeds-used bs))
-one-reply w n (Piece c bs t a o) d (suc j) = either-way (eqb d c) 0
-one-reply w n (Reading p bs t a o) d zero = reading-replies n p (getElem? (parameters w) p) bs t d
-one-reply w n (Reading p bs t a o) d (suc j) = refl
-
-pub one-reply-for-each-line : OneReplyForEachLine
-unfolding step stepIf
-one-reply-for-each-line table n e d = one-reply (tableOf table) n e d (callNumber table false n e)
-
--- ## Lines
-
--- n with some bytes of client c's line come in or carried out: the same but for that line
-pub record SameBut (n m : Node) : Type 0 where
-  pub values : m .values ≡ n .values
-  pub activations : (d i : ℕ) → isActive (m .clients d) i ≡ isActive (n .clients d) i
-  pub opens : (d : ℕ) → isOpen (m .clients d) ≡ isOpen (n .clients d)
-
--- another client in a client's place, open and active as that was
-same-but : (n : Node) (c : ℕ) (x : Client) → isOpen x ≡ isOpen (n .clients c)
-    → ((i : ℕ) → isActive x i ≡ isActive (n .clients c) i) → SameBut n (withClient n c x)
-same-but n c x o a =
-    record {
-      values = refl;
-      activations =
-          λ d i. put-all (λ j y. isActive y i ≡ isActive (n .clients j) i) (n .clients) c x (a i) (λ j. refl) d;
-      opens = λ d. put-all (λ j y. isOpen y ≡ isOpen (n .clients j)) (n .clients) c x o (λ j. refl) d;
-    }
-
-same-twice : (n m k : Node) → SameBut n m → SameBut m k → SameBut n k
-same-twice n m k h g =
-    record {
-      values = g .values ∙ h .values;
-      activations = λ d i. g .activations d i ∙ h .activations d i;
-      opens = λ d. g .opens d ∙ h .opens d;
-    }
-
--- A line of client c was carried out, and left the node m and the records rs: by the outcome of its request at a node that is n but
--- for c's line.
-pub record Answered (w : Table) (n : Node) (c : ℕ) (m : Node) (rs : List Record) : Type 0 where
-  pub held : Node
-  pub same : SameBut n held
-  pub isOpen : isOpen (n .clients c) ≡ true
-  pub now : ℕ
-  pub parts : Parts
-  pub node : m ≡ nodeAfter held (outcome w held c now (request parts))
-  pub records : rs
-      ≡ before (outcome w held c now (request parts)) ++ (final c (replyTo parts (outcome w held c now (request parts))) ∷ [])
-
--- What a call does: it writes nothing; or it is an accepted reading; or it has a line carried out.
-pub data Did (w : Table) (n : Node) : Call → Node → List Record → Type 0 where
-  quietly : {e : Call} {m : Node} → Did w n e m []
-  by-reading : {k : ℕ} {bs : List ℕ} {t a o : ℕ} (p : Placed Parameter) → getElem? (parameters w) k ≡ some p
-      → Did w n (Reading k bs t a o) (withValue n k (record { text = storedForm bs; time = t }))
-      (updatesTo (n .clients) (p .home) (reportOf p (record { text = storedForm bs; time = t })) clientNumbers)
-  by-line : {c : ℕ} {bs : List ℕ} {t a o : ℕ} {m : Node} {rs : List Record} → Answered w n c m rs → Did w n (Piece c bs t a o) m rs
-
-answered : (w : Table) (n : Node) (c : ℕ) (bs : List ℕ) (t : ℕ) → isOpen (n .clients c) ≡ true
-    → let r = answer w (withClient n c (receive (n .clients c) bs)) c t in Answered w n c (r .0) (r .1)
-unfolding answer answerParts
-answered w n c bs t h =
-    let m : Node = withClient n c (receive (n .clients c) bs) in
-    let k : Node = withClient m c (emptied (m .clients c)) in
-    let p : Parts = partsOf (content (lineOf (m .clients c))) in
-    let e = concluded w k c t p (outcome w k c t (request p)) in
-    record {
-      held = k;
-      same =
-          same-twice n m k
-          (same-but n c (receive (n .clients c) bs) (receive-open bs (n .clients c)) (receive-active bs (n .clients c)))
-          (same-but m c (emptied (m .clients c)) (emptied-open (m .clients c)) (emptied-active (m .clients c)));
-      isOpen = h;
-      now = t;
-      parts = p;
-      node = ap (λ (x : Node × List Record). x .0) e;
-      records = ap (λ (x : Node × List Record). x .1) e;
-    }
-
--- an accepted piece's client is open
-lowest-last : (ks : List ℕ) (b : Bool) → lowest (ks ++ (fault 12 (not b) ∷ [])) ≡ 0 → b ≡ true
-unfolding lowest
-lowest-last [] true e = refl
-lowest-last [] false e = absurd (omega arith)
-lowest-last (zero ∷ ks) b e = lowest-last ks b e
-lowest-last (suc k ∷ ks) b e = absurd (omega arith)
-
-piece-open : (table : List ℕ) (n : Node) (c : ℕ) (bs : List ℕ) (t a o : ℕ)
-    → callNumber table false n (Piece c bs t a o) ≡ 0 → isOpen (n .clients c) ≡ true
-unfolding callNumber
-piece-open table n c bs t a o e = lowest-last (_ ∷ _ ∷ _ ∷ _ ∷ _ ∷ _ ∷ []) (isOpen (n .clients c)) e
-
-did-piece : (w : Table) (n : Node) (c : ℕ) (bs cs : List ℕ) (t a o : ℕ) (q : Bool) → isOpen (n .clients c) ≡ true
-    → let r = ended w (withClient n c (receive (n .clients c) bs)) c t q in Did w n (Piece c cs t a o) (r .0) (r .1)
-unfolding ended
-did-piece w n c bs cs t a o true h = by-line (answered w n c bs t h)
-did-piece w n c bs cs t a o false h = quietly
-
-did-reading : (w : Table) (n : Node) (k : ℕ) (x : Option (Placed Parameter)) (bs : List ℕ) (t a o : ℕ) → getElem? (parameters w) k ≡ x
-    → let r = readingEffect n k x bs t in Did w n (Reading k bs t a o) (r .next) (r .records)
-unfolding readingEffect
-did-reading w n k none bs t a o e = quietly
-did-reading w n k (some p) bs t a o e = by-reading p e
-
-did : (table : List ℕ) (n : Node) (e : Call) (j : ℕ) → callNumber table false n e ≡ j
-    → let r = settle j n (effect (tableOf table) n e) in Did (tableOf table) n e (r .0) (r .1 .records)
-unfolding settle effect pieceEffect
-did table n e (suc j) h = quietly
-did table n (Open c t a) zero h = quietly
-did table n (Close c t a) zero h = quietly
-did table n (Piece c bs t a o) zero h =
-    did-piece (tableOf table) n c (beforeFeed bs) bs t a o (hasFeed bs) (piece-open table n c bs t a o h)
-did table n (Reading k bs t a o) zero h = did-reading (tableOf table) n k (getElem? (parameters (tableOf table)) k) bs t a o refl
-
-pub does-this : (table : List ℕ) (n : Node) (e : Call)
-    → Did (tableOf table) n e (step table n e .0) (step table n e .1 .records)
-unfolding step stepIf
-does-this table n e = did table n e (callNumber table false n e) refl
+  kind-else : (x y : Reply) (k : Kind) → kindOf x ≡ k → (number k < 3) → kindOf y ≡ another → x ≡ y → A
+  kind-else x y k p h q e = kinds-apart x y p q e (distinct (λ z. omega arith))
 
 -- ## Errors
 
-abbrev IsError : Reply → Type 0
-IsError identification = ⊥
-IsError (describing r) = ⊥
-IsError (pong x t) = ⊥
-IsError (active m) = ⊥
-IsError (inactive m) = ⊥
-IsError (reply r) = ⊥
-IsError (changed r) = ⊥
-IsError (done r) = ⊥
-IsError (error a s x) = Unit {0}
-
--- a request that is carried out is not replied to by an error
 abbrev NoError : Outcome → Type 0
 NoError (refused x) = Unit {0}
-NoError (carried m rs r) = IsError r → ⊥
-
-simple-no-error : (r : Reply) → Simple r → IsError r → ⊥
-simple-no-error _ by-identify h = h
-simple-no-error _ by-describe h = h
-simple-no-error _ by-ping h = h
-simple-no-error _ by-read h = h
+NoError (carried m rs r) = kindOf r ≡ an-error → ⊥
 
 no-error : (w : Table) (n : Node) (c now : ℕ) (r : Request) → NoError (outcome w n c now r)
 unfolding activates deactivates sets
 no-error w n c now r =
-    outcome-holds NoError (λ x. tt) w n c now simple-no-error (λ wanted m h. h) (λ wanted m h. h) (λ k e v h. h) (λ k v s h. h) r
+    outcome-holds
+    (λ q o. NoError o)
+    w
+    n
+    c
+    now
+    (λ q x. tt)
+    (λ q s h e. distinct (λ z. omega arith) (sym (simple-kind s h) ∙ e))
+    (λ m e. distinct (λ z. omega arith) e)
+    (λ m e. distinct (λ z. omega arith) e)
+    (λ k v h e. distinct (λ z. omega arith) e)
+    (λ q k v s e. distinct (λ z. omega arith) e)
+    r
 
--- the final reply among the records of a line
-the-final : (rs : List Record) (c d : ℕ) (r x : Reply) → NoFinal rs → List·Memᴰ (final d x) (rs ++ (final c r ∷ [])) → (d ≡ c) × (x ≡ r)
-the-final rs c d r x h m =
-    ⊎-elim
-    (λ l. absurd (final-not-in rs d x h l))
-    (λ l. let e : final d x ≡ final c r = List·Memᴰ·eq-of-singleton l in (cc, cc))
-    (List·Memᴰ·append-cases rs m)
-
--- what is known of a final reply among the records of a call
-line-of : (w : Table) (n : Node) (e : Call) (m : Node) (rs : List Record) (c : ℕ) (r : Reply) → Did w n e m rs
-    → List·Memᴰ (final c r) rs
-    → (h : Answered w n c m rs) × (r ≡ replyTo (h .parts) (outcome w (h .held) c (h .now) (request (h .parts))))
-line-of w n e m rs c r quietly l = absurd (List·Memᴰ·not-nil l)
-line-of w n e m rs c r (by-reading p q) l = absurd (final-not-in _ c r (updates-to-no-final (n .clients) (p .home) _ clientNumbers) l)
-line-of w n e m rs c r (by-line {c = d} h) l =
-    let o : Outcome = outcome w (h .held) d (h .now) (request (h .parts)) in
-    let q = the-final (before o) d c (replyTo (h .parts) o) r
-    (quiet-before o (quiet w (h .held) d (h .now) (request (h .parts)))) (subst (List·Memᴰ (final c r)) (h .records) l) in
-    subst
-    (λ x. (h : Answered w n x m rs) × (r ≡ replyTo (h .parts) (outcome w (h .held) x (h .now) (request (h .parts)))))
-    (sym (q .0))
-    (h, q .1)
-
-altered : (n k m : Node) (rs : List Record) (c : ℕ) (p : Parts) (o : Outcome) (r : Reply) → IsError r → NoError o → SameBut n k
-    → m ≡ nodeAfter k o → rs ≡ before o ++ (final c (replyTo p o) ∷ []) → r ≡ replyTo p o → AltersNothing n m rs c r
-altered n k m rs c p (refused x) r i h s e f g =
+altered : (n m : Node) (rs : List Record) (c : ℕ) (p : Parts) (o : Outcome) (r : Reply) → kindOf r ≡ an-error → NoError o
+    → m ≡ nodeAfter (idle n c) o → rs ≡ before o ++ (final c (replyTo p o) ∷ []) → r ≡ replyTo p o → AltersNothing n m rs c r
+altered n m rs c p (refused x) r i h e f g =
     record {
       alone = f ∙ ap (λ y. final c y ∷ []) (sym g);
-      values = ap (λ (y : Node). y .values) e ∙ s .values;
-      activations = λ d j. ap (λ (y : Node). isActive (y .clients d) j) e ∙ s .activations d j;
-      opens = λ d. ap (λ (y : Node). isOpen (y .clients d)) e ∙ s .opens d;
+      values = ap (λ (y : Node). y .values) e;
+      clients = ap (λ (y : Node). y .clients) e;
     }
-altered n k m rs c p (carried y l q) r i h s e f g = absurd (h (subst IsError g i))
+altered n m rs c p (carried y l q) r i h e f g = absurd (h (ap kindOf (sym g) ∙ i))
+
+altered-line : {w : Table} {n m : Node} {rs : List Record} {c : ℕ} {r : Reply} {e : Call} → Line-of w n m rs c r e → kindOf r ≡ an-error
+    → AltersNothing n m rs c r
+altered-line {w} {n} {m} {rs} {c} {r} (line-of {bs = bs} {t = t} h q) i =
+    altered n m rs c (partsAt n c bs) (outcomeAt w n c bs t) r i (no-error w (idle n c) c t (requestOf n c bs)) (h .node) (h .records) q
 
 pub errors-alter-nothing : ErrorsAlterNothing
-errors-alter-nothing table n e c a s x l =
-    let w : Table = tableOf table in
-    let h = line-of w n e (step table n e .0) (step table n e .1 .records) c (error a s x) (does-this table n e) l in
-    let g = h .0 in
-    altered
-    n
-    (g .held)
-    (step table n e .0)
-    (step table n e .1 .records)
-    c
-    (g .parts)
-    (outcome w (g .held) c (g .now) (request (g .parts)))
-    (error a s x)
-    tt
-    (no-error w (g .held) c (g .now) (request (g .parts)))
-    (g .same)
-    (g .node)
-    (g .records)
-    (h .1)
+errors-alter-nothing table n e c a s x l = altered-line (line-of-final table n e c (error a s x) l) refl
 
 -- ## Settings
 
--- a setting of parameter k, which is p, to x sends its update to all that have its module active; other records are around
-set-sent : (w : Table) (n : Node) (k : ℕ) (p : Placed Parameter) (x : Value) (r : Report) (rs : List Record)
-    → getElem? (parameters w) k ≡ some p → r ≡ reportOf p x
-    → ((d : ℕ) → updatesFor d rs ≡ updatesFor d (updatesTo (n .clients) (p .home) (reportOf p x) clientNumbers))
-    → SentToAll w (withValue n k x) r rs
-set-sent w n k p x r rs t e u =
+-- a setting of parameter k, which is p, to v sends its update to all that have its module active; other records are around
+set-sent : (w : Table) (n m : Node) (k : ℕ) (p : Placed Parameter) (v : Value) (rs : List Record)
+    → getElem? (parameters w) k ≡ some p → m .values ≡ put (n .values) k v
+    → ((d : ℕ) → updatesFor d rs ≡ updatesFor d (updatesTo (m .clients) (p .home) (reportOf p v) clientNumbers))
+    → Set w n m k p v rs
+set-sent w n m k p v rs t e u =
     record {
-      k = k;
-      p = p;
-      tells = record { there = t; truly = e ∙ ap (reportOf p) (sym (put-same (n .values) k x)) };
-      updates =
-          λ d h.
-          u d ∙ sent-once (n .clients) (p .home) (reportOf p x) d h ∙ ap (λ y. cond (isActive (n .clients d) (p .home)) (y ∷ []) []) (sym e);
-      nobody = λ d h. u d ∙ sent-never (n .clients) (p .home) (reportOf p x) d h;
+      there = t;
+      values = e;
+      updates = λ d h. u d ∙ sent-once (m .clients) (p .home) (reportOf p v) d h;
+      nobody = λ d h. u d ∙ sent-never (m .clients) (p .home) (reportOf p v) d h;
     }
 
--- a line whose reply is `changed`
-abbrev Sent : Table → Node → ℕ → Parts → Outcome → Type 0
-Sent w n c p o = (r : Report) → changed r ≡ replyTo p o → SentToAll w (nodeAfter n o) r (before o ++ (final c (replyTo p o) ∷ []))
+reading-sets : {w : Table} {n m : Node} {rs : List Record} {k : ℕ} {bs : List ℕ} {t a o : ℕ} → Did w n (Reading k bs t a o) m rs
+    → ReadingSets w n m k bs t rs
+reading-sets {w} {n} {k = k} {bs} {t} (read p q f) =
+    let v : Value = record { text = storedForm bs; time = t } in
+    record {
+      p = p;
+      fitting = f;
+      set = set-sent w n (withValue n k v) k p v _ q refl (λ d. refl);
+      records = refl;
+    }
+
+pub readings-are-sent-to-all : ReadingsAreSentToAll
+readings-are-sent-to-all table n k bs t a o h = reading-sets (accepted-call table n (Reading k bs t a o) h)
+
+-- what is known of an outcome whose reply is `changed`
+record Changing (w : Table) (n : Node) (c now : ℕ) (q : Request) (o : Outcome) (r : Report) : Type 0 where
+  k : ℕ × Placed Parameter
+  v : List ℕ
+  asked : q ≡ change (k .1 .moduleName) (k .1 .it .name) v
+  let-in : LetIn w k v
+  tells : r ≡ reportOf (k .1) (record { text = storedForm v; time = now })
+  is : o ≡ sets w n c now k (storedForm v)
+
+changed-is : (x y : Report) → changed x ≡ changed y → x ≡ y
+changed-is x y e = cc
+
+sets-reply : (w : Table) (n : Node) (c now : ℕ) (p : Parts) (k : ℕ × Placed Parameter) (v : List ℕ)
+    → replyTo p (sets w n c now k v) ≡ changed (reportOf (k .1) (record { text = v; time = now }))
+unfolding sets
+sets-reply w n c now p k v = refl
+
+abbrev Changes : Table → Node → ℕ → ℕ → Parts → Request → Outcome → Type 0
+Changes w n c now p q o = (r : Report) → changed r ≡ replyTo p o → Changing w n c now q o r
+
+changing : (w : Table) (n : Node) (c now : ℕ) (p : Parts) (q : Request) → Changes w n c now p q (outcome w n c now q)
+unfolding activates deactivates
+changing w n c now p q =
+    outcome-holds
+    (Changes w n c now p)
+    w
+    n
+    c
+    now
+    (λ q x r e. change-no-error r _ _ x e)
+    (λ q s h r e. kind-else (changed r) s a-change refl (omega arith) (simple-kind s h) e)
+    (λ m r e. kinds-apart (changed r) (active m) refl refl e (distinct (λ z. omega arith)))
+    (λ m r e. kind-else (changed r) (inactive m) a-change refl (omega arith) refl e)
+    (λ k v h r e. record { k = k; v = v; asked = refl; let-in = h; tells = set-tells k v r e; is = refl })
+    (λ q k v s r e. kind-else (changed r) (done s) a-change refl (omega arith) refl e)
+    q
+  where
+    set-tells : (k : ℕ × Placed Parameter) (v : List ℕ) (r : Report) → changed r ≡ replyTo p (sets w n c now k (storedForm v))
+        → r ≡ reportOf (k .1) (record { text = storedForm v; time = now })
+    set-tells k v r e = changed-is r _ (e ∙ sets-reply w n c now p k (storedForm v))
 
 no-updates : (d : ℕ) (rs : List Record) (c : ℕ) (r : Reply) → updatesFor d (rs ++ (final c r ∷ [])) ≡ updatesFor d rs
 unfolding updatesFor
 no-updates d rs c r = updates-append d rs (final c r ∷ []) ∙ append-nil (updatesFor d rs)
 
-abbrev isChanged : Reply → Bool
-isChanged identification = false
-isChanged (describing r) = false
-isChanged (pong x t) = false
-isChanged (active m) = false
-isChanged (inactive m) = false
-isChanged (reply r) = false
-isChanged (changed r) = true
-isChanged (done r) = false
-isChanged (error a s x) = false
+-- the same, put together at the node that the line was carried out on
+module _ (w : Table) (n m : Node) (c : ℕ) (bs : List ℕ) (t : ℕ) (r : Report) (rs : List Record) (o : Outcome)
+    (h : Changing w (idle n c) c t (requestOf n c bs) o r)
+    (node : m ≡ nodeAfter (idle n c) o)
+    (records : rs ≡ before o ++ (final c (changed r) ∷ [])) where
+  abbrev value : Value
+  value = record { text = storedForm (h .v); time = t }
 
-not-changed : {A : Type 0} (r : Report) (q : Reply) → isChanged q ≡ false → changed r ≡ q → A
-not-changed r q h e = let z : true ≡ false = ap isChanged e ∙ h in absurd (true≢false z)
+  abbrev updates : List Record
+  updates = updatesTo (idle n c .clients) (h .k .1 .home) (reportOf (h .k .1) value) clientNumbers
 
-simple-not-changed : (r : Reply) → Simple r → isChanged r ≡ false
-simple-not-changed _ by-identify = refl
-simple-not-changed _ by-describe = refl
-simple-not-changed _ by-ping = refl
-simple-not-changed _ by-read = refl
+  node-is : m ≡ withValue (idle n c) (h .k .0) value
+  unfolding sets
+  node-is = node ∙ ap (nodeAfter (idle n c)) (h .is)
 
-sent-all : (w : Table) (n : Node) (c now : ℕ) (p : Parts) (q : Request) → Sent w n c p (outcome w n c now q)
-unfolding activates deactivates sets updatesFor
-sent-all w n c now p q =
+  records-are : rs ≡ orderChange c (h .k .0) (storedForm (h .v)) ∷ (updates ++ (final c (changed r) ∷ []))
+  unfolding sets
+  records-are = records ∙ ap (λ x. before x ++ (final c (changed r) ∷ [])) (h .is)
+
+  clients-are : m .clients ≡ idle n c .clients
+  clients-are = ap (λ (x : Node). x .clients) node-is
+
+  sent-updates : (d : ℕ)
+      → updatesFor d rs ≡ updatesFor d (updatesTo (m .clients) (h .k .1 .home) (reportOf (h .k .1) value) clientNumbers)
+  unfolding updatesFor
+  sent-updates d =
+      ap (updatesFor d) records-are
+      ∙ no-updates d updates c (changed r)
+      ∙ ap
+      (λ f. updatesFor d (updatesTo f (h .k .1 .home) (reportOf (h .k .1) value) clientNumbers))
+      (sym clients-are)
+
+  change-sets : ChangeSets w n m c bs t r rs
+  change-sets =
+      record {
+        k = h .k .0;
+        p = h .k .1;
+        offered = h .v;
+        asked = h .asked;
+        writable = h .let-in .writable;
+        fitting = h .let-in .fitting;
+        tells = h .tells;
+        set =
+            set-sent
+            w
+            n
+            m
+            (h .k .0)
+            (h .k .1)
+            value
+            rs
+            (h .let-in .there)
+            (ap (λ (x : Node). x .values) node-is)
+            sent-updates;
+        records =
+            records-are
+            ∙ ap
+            (λ l. orderChange c (h .k .0) (storedForm (h .v)) ∷ (l ++ (final c (changed r) ∷ [])))
+            (ap (λ f. updatesTo f (h .k .1 .home) (reportOf (h .k .1) value) clientNumbers) (sym clients-are)
+            ∙ ap (λ x. updatesTo (m .clients) (h .k .1 .home) x clientNumbers) (sym (h .tells)));
+      }
+
+changed-line : {w : Table} {n m : Node} {rs : List Record} {c : ℕ} (r : Report) {e : Call} → Line-of w n m rs c (changed r) e
+    → Changed w n m c r rs e
+changed-line {w} {n} {m} {rs} {c} r (line-of {bs = bs} {t = t} h q) =
+    let o : Outcome = outcomeAt w n c bs t in
+    by-line
+    (change-sets
+    w
+    n
+    m
+    c
+    bs
+    t
+    r
+    rs
+    o
+    (changing w (idle n c) c t (partsAt n c bs) (requestOf n c bs) r q)
+    (h .node)
+    (h .records ∙ ap (λ x. before o ++ (final c x ∷ [])) (sym q)))
+
+pub changes-are-sent-to-all : ChangesAreSentToAll
+changes-are-sent-to-all table n e c r l = changed-line r (line-of-final table n e c (changed r) l)
+
+-- ## Values
+
+abbrev Alters : Node → Parts → Outcome → Type 0
+Alters n p o = (nodeAfter n o .values ≡ n .values) ⊎ ((r : Report) × (replyTo p o ≡ changed r))
+
+alters : (w : Table) (n : Node) (c now : ℕ) (p : Parts) (q : Request) → Alters n p (outcome w n c now q)
+unfolding activates deactivates
+alters w n c now p q =
     outcome-holds
-    (Sent w n c p)
-    (λ x r e. not-changed r _ refl e)
+    (λ r o. Alters n p o)
     w
     n
     c
     now
-    (λ s h r e. not-changed r s (simple-not-changed s h) e)
-    (λ wanted m r e. not-changed r _ refl e)
-    (λ wanted m r e. not-changed r _ refl e)
-    (λ k t v r e.
-    let x : Value = record { text = v; time = now } in
-    set-sent
-    w
-    n
-    (k .0)
-    (k .1)
-    x
-    r
-    (orderChange c (k .0) v
-    ∷ updatesTo (n .clients) (k .1 .home) (reportOf (k .1) x) clientNumbers
-    ++ (final c (changed (reportOf (k .1) x)) ∷ []))
-    t
-    (cc)
-    (λ d. no-updates d (updatesTo (n .clients) (k .1 .home) (reportOf (k .1) x) clientNumbers) c (changed (reportOf (k .1) x))))
-    (λ k v s r e. not-changed r _ refl e)
+    (λ r x. inl refl)
+    (λ r s h. inl refl)
+    (λ m. inl refl)
+    (λ m. inl refl)
+    (λ k v h. inr (reportOf (k .1) (record { text = storedForm v; time = now }), sets-reply w n c now p k (storedForm v)))
+    (λ r k v s. inl refl)
     q
 
--- the same of an equal node and equal records
-sent-by : (w : Table) (m k : Node) (r : Report) (rs ss : List Record) → m ≡ k → rs ≡ ss → SentToAll w k r ss → SentToAll w m r rs
-sent-by w m k r rs ss e f s = rw (e, f) s
+line-alters : (w : Table) (n m : Node) (c : ℕ) (bs : List ℕ) (t a o : ℕ) (x : Answer) → Answered w n c bs t m (x .records)
+    → (m .values ≡ n .values) ⊎ Setting (Piece c bs t a o) x
+line-alters w n m c bs t a o x h =
+    let y : Outcome = outcomeAt w n c bs t in
+    ⊎-elim
+    (λ e. inl (ap (λ (z : Node). z .values) (h .node) ∙ e))
+    (λ e.
+    inr
+    (by-change c (e .0)
+    (subst
+    (List·Memᴰ (final c (changed (e .0))))
+    (sym (h .records))
+    (Memᴰ·append-right (before y) (List·Memᴰ·head (ap (final c) (sym (e .1))))))))
+    (alters w (idle n c) c t (partsAt n c bs) (requestOf n c bs))
 
-pub changes-are-sent-to-all : ChangesAreSentToAll
-changes-are-sent-to-all table n e c r l =
-    let w : Table = tableOf table in
-    let h = line-of w n e (step table n e .0) (step table n e .1 .records) c (changed r) (does-this table n e) l in
-    let g = h .0 in
-    sent-by
-    w
-    (step table n e .0)
-    (nodeAfter (g .held) (outcome w (g .held) c (g .now) (request (g .parts))))
-    r
-    (step table n e .1 .records)
-    (before (outcome w (g .held) c (g .now) (request (g .parts)))
-    ++ (final c (replyTo (g .parts) (outcome w (g .held) c (g .now) (request (g .parts)))) ∷ []))
-    (g .node)
-    (g .records)
-    (sent-all w (g .held) c (g .now) (g .parts) (request (g .parts)) r (h .1))
+did-alter : {w : Table} {n m : Node} {e : Call} (x : Answer) → x .number ≡ 0 → (rs : List Record) → x .records ≡ rs → Did w n e m rs
+    → (m .values ≡ n .values) ⊎ Setting e x
+did-alter x z rs q opened = inl refl
+did-alter x z rs q shut = inl refl
+did-alter x z rs q received = inl refl
+did-alter x z rs q (read p f g) = inr (by-reading z)
+did-alter {w} {n} {m} x z rs q (line {c = c} {bs = bs} {t = t} {a = a} {o = o} h) =
+    line-alters w n m c bs t a o x (subst (Answered w n c bs t m) (sym q) h)
 
--- an accepted reading's parameter is there
-none-refused : (ks : List ℕ) (x : Option (Placed Parameter)) (j : ℕ) → lowest (ks ++ (fault 14 (not (isSome x)) ∷ j ∷ [])) ≡ 0
-    → (p : Placed Parameter) × (x ≡ some p)
-unfolding lowest
-none-refused [] none j e = absurd (omega arith)
-none-refused [] (some p) j e = (p, refl)
-none-refused (zero ∷ ks) x j e = none-refused ks x j e
-none-refused (suc k ∷ ks) x j e = absurd (omega arith)
-
-reading-there : (table : List ℕ) (n : Node) (k : ℕ) (bs : List ℕ) (t a o : ℕ) → callNumber table false n (Reading k bs t a o) ≡ 0
-    → (p : Placed Parameter) × (getElem? (parameters (tableOf table)) k ≡ some p)
-unfolding callNumber
-reading-there table n k bs t a o e = none-refused (_ ∷ _ ∷ _ ∷ _ ∷ _ ∷ []) (getElem? (parameters (tableOf table)) k) _ e
-
-reading-sent : (w : Table) (n : Node) (k : ℕ) (bs : List ℕ) (t a o : ℕ) (p : Placed Parameter) → getElem? (parameters w) k ≡ some p
-    → (r : Report) × SentToAll w (effect w n (Reading k bs t a o) .next) r (effect w n (Reading k bs t a o) .records)
-unfolding effect readingEffect
-reading-sent w n k bs t a o p e =
-    let x : Value = record { text = storedForm bs; time = t } in
-    rw e (reportOf p x, set-sent w n k p x (reportOf p x) (updatesTo (n .clients) (p .home) (reportOf p x) clientNumbers) e refl (λ d. refl))
-
-pub readings-are-sent-to-all : ReadingsAreSentToAll
-unfolding step stepIf settle
-readings-are-sent-to-all table n k bs t a o h = go (callNumber table false n (Reading k bs t a o)) refl h
+pub values-alter-by-settings : ValuesAlterBySettings
+values-alter-by-settings table n e = go (step table n e .1 .number) refl
   where
-    go : (j : ℕ) → callNumber table false n (Reading k bs t a o) ≡ j
-        → settle j n (effect (tableOf table) n (Reading k bs t a o)) .1 .number ≡ 0
-        → let s = settle j n (effect (tableOf table) n (Reading k bs t a o)) in (r : Report) × SentToAll (tableOf table) (s .0) r (s .1 .records)
-    go zero e z = let q = reading-there table n k bs t a o e in reading-sent (tableOf table) n k bs t a o (q .0) (q .1)
-    go (suc j) e z = absurd (omega arith)
+    go : (j : ℕ) → step table n e .1 .number ≡ j → (step table n e .0 .values ≡ n .values) ⊎ Setting e (step table n e .1)
+    go zero z = did-alter (step table n e .1) z (step table n e .1 .records) refl (accepted-call table n e z)
+    go (suc j) z = inl (ap (λ (x : Node). x .values) (refusals-alter-nothing table n e j z .node))
+
+-- ## Activations
+
+abbrev Activation : Table → Node → ℕ → Parts → Outcome → Type 0
+Activation w n c p o = (m : Option (List ℕ)) → active m ≡ replyTo p o
+    → (d : ℕ) → updatesFor d (before o) ≡ cond (eqb d c) (reportsOf (inScopeOf w m) (n .values) 0 (parameters w)) []
+
+active-is : (x y : Option (List ℕ)) → active x ≡ active y → x ≡ y
+active-is x y e = cc
+
+not-active : {A : Type 0} (m : Option (List ℕ)) (y : Reply) → kindOf y ≡ another → active m ≡ y → A
+not-active m y q e = kind-else (active m) y an-activation refl (omega arith) q e
+
+activation : (w : Table) (n : Node) (c now : ℕ) (p : Parts) (q : Request) → Activation w n c p (outcome w n c now q)
+unfolding activates deactivates sets
+activation w n c now p q =
+    outcome-holds
+    (λ r o. Activation w n c p o)
+    w
+    n
+    c
+    now
+    (λ r x m e. kinds-apart (active m) (error (p .action) (p .specifier) x) refl refl e (distinct (λ z. omega arith)))
+    (λ r s h m e. not-active m s (simple-kind s h) e)
+    (λ x m e d.
+    updates-of-for c (inScopeOf w x) (n .values) (parameters w) 0 d
+    ∙ ap (λ y. cond (eqb d c) (reportsOf (inScopeOf w y) (n .values) 0 (parameters w)) []) (sym (active-is m x e)))
+    (λ x m e. not-active m (inactive x) refl e)
+    (λ k v h m e. kinds-apart (active m) (changed _) refl refl e (distinct (λ z. omega arith)))
+    (λ r k v s m e. not-active m (done s) refl e)
+    q
+
+initial-updates : {w : Table} {n k : Node} {rs : List Record} {c : ℕ} (m : Option (List ℕ)) {e : Call}
+    → Line-of w n k rs c (active m) e → InitialUpdates w n c m rs
+initial-updates {w} {n} {k} {rs} {c} m (line-of {bs = bs} {t = t} h q) =
+    let o : Outcome = outcomeAt w n c bs t in
+    let u : (d : ℕ) → updatesFor d rs ≡ cond (eqb d c) (reportsOf (inScopeOf w m) (n .values) 0 (parameters w)) [] =
+    λ d.
+    ap (updatesFor d) (h .records)
+    ∙ no-updates d (before o) c (replyTo (partsAt n c bs) o)
+    ∙ activation w (idle n c) c t (partsAt n c bs) (requestOf n c bs) m q d in
+    record {
+      own = u c ∙ ap (λ b. cond b (reportsOf (inScopeOf w m) (n .values) 0 (parameters w)) []) (eq-eqb c c refl);
+      others = λ d g. u d ∙ ap (λ b. cond b (reportsOf (inScopeOf w m) (n .values) 0 (parameters w)) []) (ne-eqb d c g);
+    }
+
+pub activations-send-all : ActivationsSendAll
+activations-send-all table n e c m l = initial-updates m (line-of-final table n e c (active m) l)
+
+-- what a line leaves active, of each client
+abbrev LeavesActive : Table → Node → ℕ → Parts → Outcome → Type 0
+LeavesActive w n c p o = (d i : ℕ)
+    → isActive (nodeAfter n o .clients d) i ≡ cond (eqb d c) (activeBy w i (isActive (n .clients d) i) (replyTo p o ∷ [])) (isActive (n .clients d) i)
+
+-- a choice between the same
+either : (q b : Bool) → b ≡ cond q b b
+either true b = refl
+either false b = refl
+
+-- of a client that was given other active modules
+given-active : (w : Table) (n : Node) (c : ℕ) (f : ℕ → Bool) (r : Reply) → isOpen (n .clients c) ≡ true
+    → ((i : ℕ) → f i ≡ activeBy w i (isActive (n .clients c) i) (r ∷ [])) → (d i : ℕ)
+    → isActive (put (n .clients) c (activated f (n .clients c)) d) i
+    ≡ cond (eqb d c) (activeBy w i (isActive (n .clients d) i) (r ∷ [])) (isActive (n .clients d) i)
+unfolding put
+given-active w n c f r o h d i = go (eqb d c) refl
+  where
+    go : (q : Bool) → eqb d c ≡ q
+        → isActive (cond q (activated f (n .clients c)) (n .clients d)) i
+        ≡ cond q (activeBy w i (isActive (n .clients d) i) (r ∷ [])) (isActive (n .clients d) i)
+    go true e =
+        activated-active f (n .clients c) i o
+        ∙ h i
+        ∙ ap (λ x. activeBy w i (isActive (n .clients x) i) (r ∷ [])) (sym (eqb-true d c e))
+    go false e = refl
+
+simple-active : (w : Table) (i : ℕ) (b : Bool) (s : Reply) → Simple s → activeBy w i b (s ∷ []) ≡ b
+unfolding activeBy
+simple-active w i b _ by-identify = refl
+simple-active w i b _ by-describe = refl
+simple-active w i b _ by-ping = refl
+simple-active w i b _ by-read = refl
+
+leaves-active : (w : Table) (n : Node) (c now : ℕ) (p : Parts) (q : Request) → isOpen (n .clients c) ≡ true
+    → LeavesActive w n c p (outcome w n c now q)
+unfolding activates deactivates sets activeBy
+leaves-active w n c now p q o =
+    outcome-holds
+    (λ r x. LeavesActive w n c p x)
+    w
+    n
+    c
+    now
+    (λ r x d i. either (eqb d c) (isActive (n .clients d) i))
+    (λ r s h d i.
+    either (eqb d c) (isActive (n .clients d) i)
+    ∙ ap (λ b. cond (eqb d c) b (isActive (n .clients d) i)) (sym (simple-active w i (isActive (n .clients d) i) s h)))
+    (λ m. given-active w n c _ (active m) o (λ i. refl))
+    (λ m. given-active w n c _ (inactive m) o (λ i. refl))
+    (λ k v h d i. either (eqb d c) (isActive (n .clients d) i))
+    (λ r k v s d i. either (eqb d c) (isActive (n .clients d) i))
+    q
+
+idle-active : (n : Node) (c d i : ℕ) → isActive (idle n c .clients d) i ≡ isActive (n .clients d) i
+idle-active n c d i =
+    put-all
+    (λ j x. isActive x i ≡ isActive (n .clients j) i)
+    (n .clients)
+    c
+    (emptied (n .clients c))
+    (emptied-active (n .clients c) i)
+    (λ j. refl)
+    d
+
+line-replies : (d : ℕ) (w : Table) (n m : Node) (c : ℕ) (bs : List ℕ) (t : ℕ) (rs : List Record) → Answered w n c bs t m rs
+    → repliesFor d rs ≡ cond (eqb d c) (replyTo (partsAt n c bs) (outcomeAt w n c bs t) ∷ []) []
+unfolding repliesFor
+line-replies d w n m c bs t rs h =
+    let o : Outcome = outcomeAt w n c bs t in
+    let r : Reply = replyTo (partsAt n c bs) o in
+    ap (repliesFor d) (h .records)
+    ∙ replies-append d (before o) (final c r ∷ [])
+    ∙ ap (_++ repliesFor d (final c r ∷ [])) (no-final-replies d (before o) (quiet w (idle n c) c t (requestOf n c bs)))
+    ∙ append-nil (cond (eqb d c) (r ∷ []) [])
+
+line-own : (w : Table) (n m : Node) (c : ℕ) (bs : List ℕ) (t : ℕ) (rs : List Record) → Answered w n c bs t m rs → (d i : ℕ)
+    → isActive (m .clients d) i ≡ activeBy w i (isActive (n .clients d) i) (repliesFor d rs)
+unfolding activeBy
+line-own w n m c bs t rs h d i =
+    let r : Reply = replyTo (partsAt n c bs) (outcomeAt w n c bs t) in
+    let o : isOpen (idle n c .clients c) ≡ true =
+    ap isOpen (put-same (n .clients) c (emptied (n .clients c))) ∙ emptied-open (n .clients c) ∙ h .isOpen in
+    ap (λ (x : Node). isActive (x .clients d) i) (h .node)
+    ∙ leaves-active w (idle n c) c t (partsAt n c bs) (requestOf n c bs) o d i
+    ∙ ap (λ b. cond (eqb d c) (activeBy w i b (r ∷ [])) b) (idle-active n c d i)
+    ∙ go (eqb d c)
+    ∙ ap (activeBy w i (isActive (n .clients d) i)) (sym (line-replies d w n m c bs t rs h))
+  where
+    go : (q : Bool)
+        → cond q (activeBy w i (isActive (n .clients d) i) (replyTo (partsAt n c bs) (outcomeAt w n c bs t) ∷ [])) (isActive (n .clients d) i)
+        ≡ activeBy w i (isActive (n .clients d) i) (cond q (replyTo (partsAt n c bs) (outcomeAt w n c bs t) ∷ []) [])
+    go true = refl
+    go false = refl
+
+-- a client in whose place stands one with nothing active
+none-active : (n : Node) (c : ℕ) (x : Client) → ((i : ℕ) → isActive x i ≡ false) → (d i : ℕ)
+    → isActive (put (n .clients) c x d) i ≡ cond (eqb d c) false (isActive (n .clients d) i)
+unfolding put
+none-active n c x h d i = go (eqb d c)
+  where
+    go : (q : Bool) → isActive (cond q x (n .clients d)) i ≡ cond q false (isActive (n .clients d) i)
+    go true = h i
+    go false = refl
+
+ones-own : {w : Table} {n m : Node} {e : Call} {rs : List Record} → Did w n e m rs → (d i : ℕ)
+    → isActive (m .clients d) i ≡ activeAfter w d i (isActive (n .clients d) i) e rs
+unfolding activeAfter activeBy repliesFor isActive
+ones-own {n = n} (opened {c = c}) d i = none-active n c fresh (λ j. refl) d i
+ones-own {n = n} (shut {c = c}) d i = none-active n c closed (λ j. refl) d i
+ones-own {n = n} (received {c = c} {bs = bs}) d i =
+    put-all
+    (λ j x. isActive x i ≡ isActive (n .clients j) i)
+    (n .clients)
+    c
+    (receive (n .clients c) (beforeFeed bs))
+    (receive-active (beforeFeed bs) (n .clients c) i)
+    (λ j. refl)
+    d
+ones-own (read p q f) d i = refl
+ones-own {w} {n} (line {c = c} {bs = bs} {t = t} {m = m} {rs = rs} h) d i = line-own w n m c bs t rs h d i
+
+pub activations-are-ones-own : ActivationsAreOnesOwn
+activations-are-ones-own table n e z d i = ones-own (accepted-call table n e z) d i
 
 -- ## Updates
 
@@ -482,93 +511,83 @@ not-update d r x h e = true≢false (ap isUpdate e ∙ h)
 abbrev ToActives : Table → Node → Outcome → Type 0
 ToActives w n o = (d : ℕ) (r : Report) → List·Memᴰ (update d r) (before o) → ToActive w (nodeAfter n o) d r
 
-to-active : (w : Table) (m : Node) (k : ℕ) (p : Placed Parameter) (d : ℕ) (r : Report) → Tells w m k p r
-    → isActive (m .clients d) (p .home) ≡ true → ToActive w m d r
-to-active w m k p d r t h = record { k = k; p = p; tells = t; isActive = h; isOpen = active-open (m .clients d) (p .home) h }
+to-active : (w : Table) (m : Node) (k : ℕ) (p : Placed Parameter) (d : ℕ) (r : Report) → getElem? (parameters w) k ≡ some p
+    → r ≡ reportOf p (m .values k) → isActive (m .clients d) (p .home) ≡ true → ToActive w m d r
+to-active w m k p d r t e h =
+    record { k = k; p = p; there = t; tells = e; isActive = h; isOpen = active-open (m .clients d) (p .home) h }
 
 -- of a setting
 set-active : (w : Table) (n : Node) (k : ℕ) (p : Placed Parameter) (x : Value) → getElem? (parameters w) k ≡ some p → (d : ℕ) (r : Report)
     → List·Memᴰ (update d r) (updatesTo (n .clients) (p .home) (reportOf p x) clientNumbers) → ToActive w (withValue n k x) d r
 set-active w n k p x t d r l =
     let h = updates-to-member (n .clients) (p .home) (reportOf p x) clientNumbers d r l in
-    to-active w (withValue n k x) k p d r
-    (record { there = t; truly = h .0 ∙ ap (reportOf p) (sym (put-same (n .values) k x)) }) (h .1)
-
--- of an activation
-activation : (w : Table) (n : Node) (c : ℕ) (wanted : ℕ → Bool) (p : Placed Parameter) → isOpen (n .clients c) ≡ true
-    → wanted (p .home) ≡ true → p .home < length (w .modules)
-    → isActive
-    (put (n .clients) c
-    (activated (λ i. isActive (n .clients c) i || (ltb i (length (w .modules)) && wanted i)) (n .clients c)) c)
-    (p .home)
-    ≡ true
-activation w n c wanted p o h b =
-    ap (λ y. isActive y (p .home)) (put-same (n .clients) c _)
-    ∙ activated-active _ (n .clients c) (p .home) o
-    ∙ rw (lt-ltb (p .home) (length (w .modules)) b, h) (or-true (isActive (n .clients c) (p .home)))
+    to-active w (withValue n k x) k p d r t (h .0 ∙ ap (reportOf p) (sym (put-same (n .values) k x))) (h .1)
 
 -- of an activation's initial updates
-first-active : (w : Table) (n : Node) (c now : ℕ) → isOpen (n .clients c) ≡ true → (wanted : ℕ → Bool) (m : Option (List ℕ))
-    → ToActives w n (activates w n c now wanted m)
+first-active : (w : Table) (n : Node) (c now : ℕ) → isOpen (n .clients c) ≡ true → (m : Option (List ℕ))
+    → ToActives w n (activates w n c now (inScopeOf w m) m)
 unfolding activates
-first-active w n c now o wanted m d r l =
+first-active w n c now o m d r l =
+    let wanted : ℕ → Bool = inScopeOf w m in
     let h = updates-of-member c wanted (n .values) (parameters w) 0 d r l in
     let g = h .1 in
     let z : 0 + g .i ≡ g .i = omega arith in
     let x : Node = nodeAfter n (activates w n c now wanted m) in
+    let a : isActive (x .clients c) (g .p .home) ≡ true =
+    ap (λ y. isActive y (g .p .home)) (put-same (n .clients) c _)
+    ∙ activated-active _ (n .clients c) (g .p .home) o
+    ∙ rw
+    (lt-ltb (g .p .home) (length (w .modules)) (parameter-home w (g .i) (g .p) (g .there)), g .asked)
+    (or-true (isActive (n .clients c) (g .p .home))) in
     subst
     (λ y. ToActive w x y r)
     (sym (h .0))
-    (to-active
-    w
-    x
-    (g .i)
-    (g .p)
-    c
-    r
-    (record { there = g .there; truly = g .truly ∙ ap (λ j. reportOf (g .p) (n .values j)) z })
-    (activation w n c wanted (g .p) o (g .asked) (parameter-home w (g .i) (g .p) (g .there))))
+    (to-active w x (g .i) (g .p) c r (g .there) (g .truly ∙ ap (λ j. reportOf (g .p) (n .values j)) z) a)
 
 to-actives : (w : Table) (n : Node) (c now : ℕ) (q : Request) → isOpen (n .clients c) ≡ true → ToActives w n (outcome w n c now q)
 unfolding deactivates sets
 to-actives w n c now q o =
     outcome-holds
-    (ToActives w n)
-    (λ x d r l. absurd (List·Memᴰ·not-nil l))
+    (λ r x. ToActives w n x)
     w
     n
     c
     now
-    (λ s h d r l. absurd (List·Memᴰ·not-nil l))
+    (λ r x d y l. absurd (List·Memᴰ·not-nil l))
+    (λ r s h d y l. absurd (List·Memᴰ·not-nil l))
     (first-active w n c now o)
-    (λ wanted m d r l. absurd (List·Memᴰ·not-nil l))
-    (λ k t v d r l.
+    (λ m d y l. absurd (List·Memᴰ·not-nil l))
+    (λ k v h d r l.
     ⊎-elim
-    (λ e. absurd (not-update d r (orderChange c (k .0) v) refl e))
-    (λ m. set-active w n (k .0) (k .1) (record { text = v; time = now }) t d r m)
+    (λ e. absurd (not-update d r (orderChange c (k .0) (storedForm v)) refl e))
+    (λ m. set-active w n (k .0) (k .1) (record { text = storedForm v; time = now }) (h .there) d r m)
     (List·Memᴰ·cases-cons l))
-    (λ k v s d r l. absurd (not-update d r (orderCommand c k v) refl (List·Memᴰ·eq-of-singleton l)))
+    (λ x k v s d r l. absurd (not-update d r (orderCommand c k v) refl (List·Memᴰ·eq-of-singleton l)))
     q
 
+line-active : (w : Table) (n m : Node) (c : ℕ) (bs : List ℕ) (t : ℕ) (rs : List Record) → Answered w n c bs t m rs → (d : ℕ) (r : Report)
+    → List·Memᴰ (update d r) rs → ToActive w m d r
+line-active w n m c bs t rs h d r k =
+    let o : Outcome = outcomeAt w n c bs t in
+    let a : isOpen (idle n c .clients c) ≡ true =
+    ap isOpen (put-same (n .clients) c (emptied (n .clients c))) ∙ emptied-open (n .clients c) ∙ h .isOpen in
+    ⊎-elim
+    (λ i. subst (λ x. ToActive w x d r) (sym (h .node)) (to-actives w (idle n c) c t (requestOf n c bs) a d r i))
+    (λ i. absurd (not-update d r (final c (replyTo (partsAt n c bs) o)) refl (List·Memᴰ·eq-of-singleton i)))
+    (List·Memᴰ·append-cases (before o) (subst (List·Memᴰ (update d r)) (h .records) k))
+
+did-active : {w : Table} {n m : Node} {e : Call} {rs : List Record} → Did w n e m rs → (d : ℕ) (r : Report)
+    → List·Memᴰ (update d r) rs → ToActive w m d r
+did-active opened d r k = absurd (List·Memᴰ·not-nil k)
+did-active shut d r k = absurd (List·Memᴰ·not-nil k)
+did-active received d r k = absurd (List·Memᴰ·not-nil k)
+did-active {w} {n} (read {k = i} {bs = bs} {t = t} p q f) d r k =
+    set-active w n i p (record { text = storedForm bs; time = t }) q d r k
+did-active {w} {n} (line {c = c} {bs = bs} {t = t} {m = m} {rs = rs} h) d r k = line-active w n m c bs t rs h d r k
+
 pub updates-go-to-active-clients : UpdatesGoToActiveClients
-updates-go-to-active-clients table n e d r l = go (does-this table n e) l
-  where
-    w : Table
-    w = tableOf table
-
-    last : (c : ℕ) (m : Node) (rs : List Record) → Answered w n c m rs → List·Memᴰ (update d r) rs → ToActive w m d r
-    last c m rs h k =
-        let o : Outcome = outcome w (h .held) c (h .now) (request (h .parts)) in
-        ⊎-elim
-        (λ i.
-        subst
-        (λ x. ToActive w x d r)
-        (sym (h .node))
-        (to-actives w (h .held) c (h .now) (request (h .parts)) (h .same .opens c ∙ h .isOpen) d r i))
-        (λ i. absurd (not-update d r (final c (replyTo (h .parts) o)) refl (List·Memᴰ·eq-of-singleton i)))
-        (List·Memᴰ·append-cases (before o) (subst (List·Memᴰ (update d r)) (h .records) k))
-
-    go : {x : Call} {m : Node} {rs : List Record} → Did w n x m rs → List·Memᴰ (update d r) rs → ToActive w m d r
-    go quietly k = absurd (List·Memᴰ·not-nil k)
-    go (by-reading {k = i} {bs = bs} {t = t} p q) k = set-active w n i p (record { text = storedForm bs; time = t }) q d r k
-    go (by-line {c = c} {m = m} {rs = rs} h) k = last c m rs h k
+updates-go-to-active-clients table n e d r l =
+    ⊎-elim
+    (λ h. absurd (List·Memᴰ·not-nil (subst (List·Memᴰ (update d r)) (h .records) l)))
+    (λ h. did-active h d r l)
+    (every-call table n e)

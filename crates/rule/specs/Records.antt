@@ -1,11 +1,15 @@
 -- What each client is sent among records. Assumes nothing.
-use Prim.Native.Nat.{ℕ, _+_}
-use mathlib.Core.Bool.{Bool, true, false, cond}
+use Prim.Native.Nat.{ℕ, suc, _+_}
+use mathlib.Core.Bool.{Bool, true, false, cond, not, _&&_, _||_}
 use mathlib.Core.List.{List, [], _∷_, _++_}
-use lib.Dec.{eqb}
-use lib.ListN.{take}
-use Rattle.message.specs.Reply.{Report, Reply}
+use mathlib.Core.Option.{Option, none, some}
+use lib.Dec.{eqb, ltb}
+use lib.ListN.{length, take}
+use Rattle.table.specs.Table.{Parameter, Module, Table}
+use Rattle.table.specs.Search.{Placed, findModule}
+use Rattle.message.specs.Reply.{Report, Reply, identification, describing, pong, active, inactive, reply, changed, done, error}
 use Rattle.outbox.specs.Outbox.{Record, final, update, orderChange, orderCommand}
+use Rattle.plain.specs.Node.{Value, reportOf}
 use Rattle.plain.specs.Calls.{Call, Open, Close, Piece, Reading, Answer}
 
 -- the updates to client d, in order
@@ -35,3 +39,37 @@ feedsUsed d (Open c t a) r = 0
 feedsUsed d (Close c t a) r = 0
 feedsUsed d (Piece c bs t a o) r = cond (eqb d c) (feedCount (take (r .used) bs)) 0
 feedsUsed d (Reading p bs t a o) r = 0
+
+-- the modules that `active M` or `inactive M` names, by number; with no name, all
+unfoldable pub numberIs : Option (ℕ × Module) → ℕ → Bool
+numberIs none i = false
+numberIs (some x) i = eqb i (x .0)
+
+unfoldable pub inScopeOf : Table → Option (List ℕ) → ℕ → Bool
+inScopeOf w none i = true
+inScopeOf w (some m) i = numberIs (findModule w m) i
+
+-- the parameters of the modules that are wanted, with their values, in table order; the first has the number k
+unfoldable pub reportsOf : (ℕ → Bool) → (ℕ → Value) → ℕ → List (Placed Parameter) → List Report
+reportsOf wanted values k [] = []
+reportsOf wanted values k (p ∷ ps) = cond (wanted (p .home)) (reportOf p (values k) ∷ []) [] ++ reportsOf wanted values (suc k) ps
+
+-- whether module i is active after these replies, where it was so before or not: `active` adds, `inactive` takes away
+unfoldable pub activeBy : Table → ℕ → Bool → List Reply → Bool
+activeBy w i b [] = b
+activeBy w i b (identification ∷ rs) = activeBy w i b rs
+activeBy w i b (describing x ∷ rs) = activeBy w i b rs
+activeBy w i b (pong x t ∷ rs) = activeBy w i b rs
+activeBy w i b (active m ∷ rs) = activeBy w i (b || (ltb i (length (w .modules)) && inScopeOf w m i)) rs
+activeBy w i b (inactive m ∷ rs) = activeBy w i (b && not (inScopeOf w m i)) rs
+activeBy w i b (reply x ∷ rs) = activeBy w i b rs
+activeBy w i b (changed x ∷ rs) = activeBy w i b rs
+activeBy w i b (done x ∷ rs) = activeBy w i b rs
+activeBy w i b (error a s x ∷ rs) = activeBy w i b rs
+
+-- whether client d has module i active after an accepted call, by d's own opens, closes and replies alone
+unfoldable pub activeAfter : Table → ℕ → ℕ → Bool → Call → List Record → Bool
+activeAfter w d i b (Open c t a) rs = cond (eqb d c) false b
+activeAfter w d i b (Close c t a) rs = cond (eqb d c) false b
+activeAfter w d i b (Piece c bs t a o) rs = activeBy w i b (repliesFor d rs)
+activeAfter w d i b (Reading p bs t a o) rs = b

@@ -1,33 +1,36 @@
 -- The user's rule: whoever activates a module is sent its updates and nobody else is; whoever sends a line gets one reply to it and
--- nobody else does; a change that is refused alters nothing for anyone. Assumes nothing.
-use Prim.Native.Nat.{ℕ, _<_, _≤_}
+-- nobody else does; a change that is refused alters nothing for anyone. Each statement is of every call, on every table and node.
+-- Assumes nothing.
+use Prim.Native.Nat.{ℕ, suc, _<_, _≤_}
 use mathlib.Core.Bool.{Bool, true, false, cond}
-use mathlib.Core.List.{List, [], _∷_, List·Memᴰ}
+use mathlib.Core.List.{List, [], _∷_, _++_, List·Memᴰ}
+use mathlib.Core.Logic.{_⊎_}
 use mathlib.Core.Option.{Option, none, some}
 use mathlib.Core.Path.{_≡_}
 use lib.ListN.{length, getElem?}
+use Rattle.datainfo.specs.Fit.{fits, verdict, storedForm}
+use Rattle.message.specs.Line.{content, partsOf}
+use Rattle.message.specs.Request.{Request, change, request}
 use Rattle.message.specs.Error.{Class}
 use Rattle.message.specs.Reply.{Report, Reply, changed, active, error}
 use Rattle.table.specs.Table.{Parameter, Table}
 use Rattle.table.specs.Layout.{tableOf}
 use Rattle.table.specs.Search.{Placed, parameters}
-use Rattle.outbox.specs.Outbox.{Record, final, update}
-use Rattle.plain.specs.Node.{Node, isOpen, isActive, reportOf}
-use Rattle.plain.specs.Calls.{Call, Reading, Answer}
+use Rattle.outbox.specs.Outbox.{Record, final, update, orderChange}
+use Rattle.plain.specs.Node.{Value, Node, put, isOpen, isActive, lineOf, receive, emptied, reportOf, clientNumbers, updatesTo}
+use Rattle.plain.specs.Calls.{Call, Piece, Reading, Answer, beforeFeed}
 use Rattle.plain.specs.History.{step}
-use Rattle.rule.specs.Records.{updatesFor, repliesFor, feedsUsed}
+use Rattle.rule.specs.Records.{updatesFor, repliesFor, feedsUsed, inScopeOf, reportsOf, activeAfter}
 
--- r tells of parameter k, which is p, what the node n holds of it, under the name of its own module
-pub record Tells (w : Table) (n : Node) (k : ℕ) (p : Placed Parameter) (r : Report) : Type 0 where
-  pub there : getElem? (parameters w) k ≡ some p
-  pub truly : r ≡ reportOf p (n .values k)
+-- ## Whoever activates a module is sent its updates and nobody else is
 
--- An update among the records of a call tells of a parameter as the call leaves it, and goes to a client that is open and has that
--- parameter's module active as the call leaves it.
+-- An update tells of a parameter as the call leaves it, under the name of its own module, and goes to a client that is open and has
+-- that module active as the call leaves it.
 pub record ToActive (w : Table) (n : Node) (d : ℕ) (r : Report) : Type 0 where
   pub k : ℕ
   pub p : Placed Parameter
-  pub tells : Tells w n k p r
+  pub there : getElem? (parameters w) k ≡ some p
+  pub tells : r ≡ reportOf p (n .values k)
   pub isActive : isActive (n .clients d) (p .home) ≡ true
   pub isOpen : isOpen (n .clients d) ≡ true
 
@@ -35,37 +38,106 @@ abbrev pub UpdatesGoToActiveClients : Type 0
 UpdatesGoToActiveClients = (table : List ℕ) (n : Node) (e : Call) (d : ℕ) (r : Report)
     → List·Memᴰ (update d r) (step table n e .1 .records) → ToActive (tableOf table) (step table n e .0) d r
 
--- A parameter that was set: every client that has its module active is sent one update, which tells of it, and no other client any.
-pub record SentToAll (w : Table) (n : Node) (r : Report) (rs : List Record) : Type 0 where
+-- Parameter k, which is p, was set to v, and nothing else was: each client that has its module active is sent one update that tells
+-- of it, and no other client any.
+pub record Set (w : Table) (n m : Node) (k : ℕ) (p : Placed Parameter) (v : Value) (rs : List Record) : Type 0 where
+  pub there : getElem? (parameters w) k ≡ some p
+  pub values : m .values ≡ put (n .values) k v
+  pub updates : (d : ℕ) → d < 8 → updatesFor d rs ≡ cond (isActive (m .clients d) (p .home)) (reportOf p v ∷ []) []
+  pub nobody : (d : ℕ) → 8 ≤ d → updatesFor d rs ≡ []
+
+-- A reading that is accepted sets its parameter to its stored form at its time, and sends the updates only.
+pub record ReadingSets (w : Table) (n m : Node) (k : ℕ) (bs : List ℕ) (t : ℕ) (rs : List Record) : Type 0 where
+  pub p : Placed Parameter
+  pub fitting : verdict (p .it .datainfo) bs ≡ fits
+  pub set : Set w n m k p (record { text = storedForm bs; time = t }) rs
+  pub records : rs ≡ updatesTo (n .clients) (p .home) (reportOf p (record { text = storedForm bs; time = t })) clientNumbers
+
+abbrev pub ReadingsAreSentToAll : Type 0
+ReadingsAreSentToAll = (table : List ℕ) (n : Node) (k : ℕ) (bs : List ℕ) (t a o : ℕ)
+    → step table n (Reading k bs t a o) .1 .number ≡ 0
+    → ReadingSets (tableOf table) n (step table n (Reading k bs t a o) .0) k bs t (step table n (Reading k bs t a o) .1 .records)
+
+-- what client c asks for by the line that these bytes end
+unfoldable pub requestOf : Node → ℕ → List ℕ → Request
+requestOf n c bs = request (partsOf (content (lineOf (receive (n .clients c) (beforeFeed bs)))))
+
+-- A change that is replied to by `changed` was asked for by that line, fits, and sets that parameter to its stored form at the time of
+-- the line feed: first the driver's order, then the updates, lowest client first, then the reply.
+pub record ChangeSets (w : Table) (n m : Node) (c : ℕ) (bs : List ℕ) (t : ℕ) (r : Report) (rs : List Record) : Type 0 where
   pub k : ℕ
   pub p : Placed Parameter
-  pub tells : Tells w n k p r
-  pub updates : (d : ℕ) → d < 8 → updatesFor d rs ≡ cond (isActive (n .clients d) (p .home)) (r ∷ []) []
-  pub nobody : (d : ℕ) → 8 ≤ d → updatesFor d rs ≡ []
+  pub offered : List ℕ
+  pub asked : requestOf n c bs ≡ change (p .moduleName) (p .it .name) offered
+  pub writable : p .it .readonly ≡ false
+  pub fitting : verdict (p .it .datainfo) offered ≡ fits
+  pub tells : r ≡ reportOf p (record { text = storedForm offered; time = t })
+  pub set : Set w n m k p (record { text = storedForm offered; time = t }) rs
+  pub records : rs
+      ≡ (orderChange c k (storedForm offered) ∷ []) ++ updatesTo (m .clients) (p .home) r clientNumbers ++ (final c (changed r) ∷ [])
+
+-- of a piece of client c
+pub data Changed (w : Table) (n m : Node) (c : ℕ) (r : Report) (rs : List Record) : Call → Type 0 where
+  by-line : {bs : List ℕ} {t a o : ℕ} → ChangeSets w n m c bs t r rs → Changed w n m c r rs (Piece c bs t a o)
 
 abbrev pub ChangesAreSentToAll : Type 0
 ChangesAreSentToAll = (table : List ℕ) (n : Node) (e : Call) (c : ℕ) (r : Report)
     → List·Memᴰ (final c (changed r)) (step table n e .1 .records)
-    → SentToAll (tableOf table) (step table n e .0) r (step table n e .1 .records)
+    → Changed (tableOf table) n (step table n e .0) c r (step table n e .1 .records) e
 
-abbrev pub ReadingsAreSentToAll : Type 0
-ReadingsAreSentToAll = (table : List ℕ) (n : Node) (p : ℕ) (bs : List ℕ) (t a o : ℕ)
-    → step table n (Reading p bs t a o) .1 .number ≡ 0
-    → (r : Report) × SentToAll (tableOf table) (step table n (Reading p bs t a o) .0) r (step table n (Reading p bs t a o) .1 .records)
+-- No other call alters a value: of a call that alters one, either it is an accepted reading, or its line was replied to by `changed`.
+pub data Setting : Call → Answer → Type 0 where
+  by-reading : {k : ℕ} {bs : List ℕ} {t a o : ℕ} {x : Answer} → x .number ≡ 0 → Setting (Reading k bs t a o) x
+  by-change : {e : Call} {x : Answer} (c : ℕ) (r : Report) → List·Memᴰ (final c (changed r)) (x .records) → Setting e x
+
+abbrev pub ValuesAlterBySettings : Type 0
+ValuesAlterBySettings = (table : List ℕ) (n : Node) (e : Call)
+    → (step table n e .0 .values ≡ n .values) ⊎ Setting e (step table n e .1)
+
+-- `activate` that is replied to by `active` sends its client an update for each parameter of the modules in scope, in table order, and
+-- nobody else any.
+pub record InitialUpdates (w : Table) (n : Node) (c : ℕ) (m : Option (List ℕ)) (rs : List Record) : Type 0 where
+  pub own : updatesFor c rs ≡ reportsOf (inScopeOf w m) (n .values) 0 (parameters w)
+  pub others : (d : ℕ) → (d ≡ c → ⊥) → updatesFor d rs ≡ []
+
+abbrev pub ActivationsSendAll : Type 0
+ActivationsSendAll = (table : List ℕ) (n : Node) (e : Call) (c : ℕ) (m : Option (List ℕ))
+    → List·Memᴰ (final c (active m)) (step table n e .1 .records)
+    → InitialUpdates (tableOf table) n c m (step table n e .1 .records)
+
+-- A module is active for a client by that client's own `active` and `inactive` replies since its open, and by nothing else.
+abbrev pub ActivationsAreOnesOwn : Type 0
+ActivationsAreOnesOwn = (table : List ℕ) (n : Node) (e : Call) → step table n e .1 .number ≡ 0 → (d i : ℕ)
+    → isActive (step table n e .0 .clients d) i
+    ≡ activeAfter (tableOf table) d i (isActive (n .clients d) i) e (step table n e .1 .records)
+
+-- ## Whoever sends a line gets one reply to it and nobody else does
 
 -- Each client is sent as many final replies as line feeds of it were used: one for each, and nobody else any.
 abbrev pub OneReplyForEachLine : Type 0
 OneReplyForEachLine = (table : List ℕ) (n : Node) (e : Call) (d : ℕ)
     → length (repliesFor d (step table n e .1 .records)) ≡ feedsUsed d e (step table n e .1)
 
--- A line that is answered by an error sends nothing else, and alters no value, no time, no activation and nobody's being open.
+-- ## A change that is refused alters nothing for anyone
+
+-- A line that is answered by an error sends nothing else, alters no value and no time, and of the clients only empties its sender's
+-- line.
 pub record AltersNothing (n m : Node) (rs : List Record) (c : ℕ) (r : Reply) : Type 0 where
   pub alone : rs ≡ final c r ∷ []
   pub values : m .values ≡ n .values
-  pub activations : (d i : ℕ) → isActive (m .clients d) i ≡ isActive (n .clients d) i
-  pub opens : (d : ℕ) → isOpen (m .clients d) ≡ isOpen (n .clients d)
+  pub clients : m .clients ≡ put (n .clients) c (emptied (n .clients c))
 
 abbrev pub ErrorsAlterNothing : Type 0
 ErrorsAlterNothing = (table : List ℕ) (n : Node) (e : Call) (c : ℕ) (a s : List ℕ) (x : Class)
     → List·Memᴰ (final c (error a s x)) (step table n e .1 .records)
     → AltersNothing n (step table n e .0) (step table n e .1 .records) c (error a s x)
+
+-- A call that is refused by a number uses nothing, writes nothing and alters nothing.
+pub record Refused (n m : Node) (x : Answer) : Type 0 where
+  pub node : m ≡ n
+  pub used : x .used ≡ 0
+  pub records : x .records ≡ []
+
+abbrev pub RefusalsAlterNothing : Type 0
+RefusalsAlterNothing = (table : List ℕ) (n : Node) (e : Call) (k : ℕ)
+    → step table n e .1 .number ≡ suc k → Refused n (step table n e .0) (step table n e .1)

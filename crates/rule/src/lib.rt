@@ -1,6 +1,6 @@
 ghost use mathlib.Core.Bool.{true};
 ghost use mathlib.Core.Path.{_≡_};
-ghost use Rattle.rule.specs.Theorems.{UpdatesGoToActiveClients, ChangesAreSentToAll, ReadingsAreSentToAll, OneReplyForEachLine, ErrorsAlterNothing};
+ghost use Rattle.rule.specs.Theorems.{UpdatesGoToActiveClients, ChangesAreSentToAll, ReadingsAreSentToAll, ValuesAlterBySettings, ActivationsSendAll, ActivationsAreOnesOwn, OneReplyForEachLine, ErrorsAlterNothing, RefusalsAlterNothing};
 
 // Each function here promises a theorem about the definitions. Nothing is run.
 
@@ -11,7 +11,7 @@ pub fn updates_go_to_active_clients() -> bool
     true
 }
 
-// An accepted change is sent once to each client that has the module active, and to nobody else.
+// A change sets what its line asked for, and is sent once to each client that has the module active, and to nobody else.
 pub fn changes_are_sent_to_all() -> bool
     ensures { λ r. ⌜ (r ≡ true) × ChangesAreSentToAll ⌝ }
 {
@@ -25,6 +25,27 @@ pub fn readings_are_sent_to_all() -> bool
     true
 }
 
+// Nothing else alters a value.
+pub fn values_alter_by_settings() -> bool
+    ensures { λ r. ⌜ (r ≡ true) × ValuesAlterBySettings ⌝ }
+{
+    true
+}
+
+// An activation sends its client each parameter in scope, and nobody else any.
+pub fn activations_send_all() -> bool
+    ensures { λ r. ⌜ (r ≡ true) × ActivationsSendAll ⌝ }
+{
+    true
+}
+
+// A module is active for a client by its own requests since its open, and by nothing else.
+pub fn activations_are_ones_own() -> bool
+    ensures { λ r. ⌜ (r ≡ true) × ActivationsAreOnesOwn ⌝ }
+{
+    true
+}
+
 // Each line feed that is used has one final reply, to its sender, and nobody else has one.
 pub fn one_reply_for_each_line() -> bool
     ensures { λ r. ⌜ (r ≡ true) × OneReplyForEachLine ⌝ }
@@ -32,9 +53,16 @@ pub fn one_reply_for_each_line() -> bool
     true
 }
 
-// A line that is answered by an error sends nothing else and alters no value, time, activation or open client.
+// A line that is answered by an error sends nothing else, alters no value and empties only its sender's line.
 pub fn errors_alter_nothing() -> bool
     ensures { λ r. ⌜ (r ≡ true) × ErrorsAlterNothing ⌝ }
+{
+    true
+}
+
+// A call that is refused by a number uses nothing, writes nothing and alters nothing.
+pub fn refusals_alter_nothing() -> bool
+    ensures { λ r. ⌜ (r ≡ true) × RefusalsAlterNothing ⌝ }
 {
     true
 }

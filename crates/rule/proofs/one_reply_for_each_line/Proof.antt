@@ -1,6 +1,6 @@
--- `rule::one_reply_for_each_line` promises the theorem of `Rule`. Assumes nothing.
+-- `rule::one_reply_for_each_line` promises the theorem of `Replies`. Assumes nothing.
 use mathlib.Core.Path.{refl}
-use Rattle.rule.proofs.Rule.{one-reply-for-each-line}
+use Rattle.rule.proofs.Replies.{one-reply-for-each-line}
 use Rattle.rule.proofs.one_reply_for_each_line.Statement.{statement}
 use Rattle.rule.proofs.one_reply_for_each_line.Tie as tie
 

@@ -1,0 +1,254 @@
+-- What a call does: it writes nothing, or it is an accepted reading, or it has a line carried out. Assumes nothing.
+use Prim.Native.Nat.{ℕ, zero, suc, _+_}
+use mathlib.Core.Bool.{Bool, true, false, cond, not, false≢true}
+use mathlib.Core.List.{List, [], _∷_, _++_, List·Memᴰ, List·Memᴰ·append-cases, List·Memᴰ·not-nil, List·Memᴰ·eq-of-singleton}
+use mathlib.Core.Logic.{_⊎_, inl, inr, ⊎-elim}
+use mathlib.Core.Option.{Option, none, some}
+use mathlib.Core.Path.{_≡_, refl, sym, _∙_, ap, ap₂, subst}
+use lib.ListN.{getElem?}
+use native.Mathlib.Omega.{arith}
+use Rattle.ascii.specs.Bytes.{isSome}
+use Rattle.datainfo.specs.Fit.{Verdict, fits, rangeError, wrongType, badJSON, severity, isFit, verdict, storedForm}
+use Rattle.table.specs.Table.{Parameter, Table}
+use Rattle.table.specs.Layout.{tableOf}
+use Rattle.table.specs.Search.{Placed, parameters}
+use Rattle.report.specs.Judge.{fault, lowest, tableNumber}
+use Rattle.message.specs.Line.{Line, Parts, content, partsOf}
+use Rattle.message.specs.Request.{Request, request}
+use Rattle.message.specs.Reply.{Report, Reply, error}
+use Rattle.outbox.specs.Outbox.{Record, final}
+use Rattle.plain.specs.Node.{Client, closed, fresh, Value, Node, put, withClient, withValue, isOpen, lineOf, receive, emptied, reportOf, clientNumbers, updatesTo}
+use Rattle.plain.specs.Answer.{Outcome, refused, carried, outcome, activates, deactivates, sets, conclude, answerParts, answer}
+use Rattle.plain.specs.Calls.{Call, Open, Close, Piece, Reading, Answer, callNumber, readingVerdict, beforeFeed, hasFeed, ended, pieceEffect, readingEffect, effect, settle, stepIf}
+use Rattle.plain.specs.History.{step}
+use Rattle.rule.specs.Theorems.{requestOf, Refused, RefusalsAlterNothing}
+use Rattle.rule.proofs.Laws.{put-same, put-put, emptied-received, NoFinal, final-not-in, updates-to-no-final, updates-of-no-final}
+use Rattle.rule.proofs.Outcomes.{outcome-holds}
+
+-- ## Outcomes and what concludes them
+
+abbrev pub replyTo : Parts → Outcome → Reply
+replyTo p (refused x) = error (p .action) (p .specifier) x
+replyTo p (carried m rs r) = r
+
+-- the records before the reply
+abbrev pub before : Outcome → List Record
+before (refused x) = []
+before (carried m rs r) = rs
+
+abbrev pub nodeAfter : Node → Outcome → Node
+nodeAfter n (refused x) = n
+nodeAfter n (carried m rs r) = m
+
+pub concluded : (w : Table) (n : Node) (c now : ℕ) (p : Parts) (o : Outcome)
+    → conclude w n c now p o ≡ (nodeAfter n o, before o ++ (final c (replyTo p o) ∷ []))
+unfolding conclude
+concluded w n c now p (refused x) = refl
+concluded w n c now p (carried m rs r) = refl
+
+-- there is no final reply before the reply
+pub quiet : (w : Table) (n : Node) (c now : ℕ) (r : Request) → NoFinal (before (outcome w n c now r))
+unfolding activates deactivates sets
+quiet w n c now r =
+    outcome-holds
+    (λ q o. NoFinal (before o))
+    w
+    n
+    c
+    now
+    (λ q x. tt)
+    (λ q s h. tt)
+    (λ m. updates-of-no-final c _ (n .values) 0 (parameters w))
+    (λ m. tt)
+    (λ k v h. (tt, updates-to-no-final (n .clients) (k .1 .home) _ clientNumbers))
+    (λ q k v s. (tt, tt))
+    r
+
+-- ## Lines
+
+-- n with client c's line emptied
+abbrev pub idle : Node → ℕ → Node
+idle n c = withClient n c (emptied (n .clients c))
+
+abbrev pub partsAt : Node → ℕ → List ℕ → Parts
+partsAt n c bs = partsOf (content (lineOf (receive (n .clients c) (beforeFeed bs))))
+
+abbrev pub outcomeAt : Table → Node → ℕ → List ℕ → ℕ → Outcome
+outcomeAt w n c bs t = outcome w (idle n c) c t (requestOf n c bs)
+
+-- a line of client c was carried out, and left the node m and the records rs
+pub record Answered (w : Table) (n : Node) (c : ℕ) (bs : List ℕ) (t : ℕ) (m : Node) (rs : List Record) : Type 0 where
+  pub isOpen : isOpen (n .clients c) ≡ true
+  pub node : m ≡ nodeAfter (idle n c) (outcomeAt w n c bs t)
+  pub records : rs ≡ before (outcomeAt w n c bs t) ++ (final c (replyTo (partsAt n c bs) (outcomeAt w n c bs t)) ∷ [])
+
+-- what an accepted call does
+pub data Did (w : Table) (n : Node) : Call → Node → List Record → Type 0 where
+  opened : {c t a : ℕ} → Did w n (Open c t a) (withClient n c fresh) []
+  shut : {c t a : ℕ} → Did w n (Close c t a) (withClient n c closed) []
+  received : {c : ℕ} {bs : List ℕ} {t a o : ℕ} → Did w n (Piece c bs t a o) (withClient n c (receive (n .clients c) (beforeFeed bs))) []
+  read : {k : ℕ} {bs : List ℕ} {t a o : ℕ} (p : Placed Parameter) → getElem? (parameters w) k ≡ some p
+      → verdict (p .it .datainfo) bs ≡ fits
+      → Did w n (Reading k bs t a o) (withValue n k (record { text = storedForm bs; time = t }))
+      (updatesTo (n .clients) (p .home) (reportOf p (record { text = storedForm bs; time = t })) clientNumbers)
+  line : {c : ℕ} {bs : List ℕ} {t a o : ℕ} {m : Node} {rs : List Record} → Answered w n c bs t m rs
+      → Did w n (Piece c bs t a o) m rs
+
+answer-is : (w : Table) (n : Node) (c : ℕ) (x : Client) (t : ℕ) → emptied x ≡ emptied (n .clients c)
+    → answer w (withClient n c x) c t ≡ answerParts w (idle n c) c t (partsOf (content (lineOf x)))
+unfolding answer
+answer-is w n c x t e =
+    ap₂
+    (λ (m : Node) (y : Client). answerParts w m c t (partsOf (content (lineOf y))))
+    (λ i.
+    record {
+      clients =
+          (put-put (n .clients) c x (emptied (put (n .clients) c x c)) ∙ ap (put (n .clients) c) (ap emptied (put-same (n .clients) c x) ∙ e)) i;
+      values = n .values;
+    })
+    (put-same (n .clients) c x)
+
+answered : (w : Table) (n : Node) (c : ℕ) (bs : List ℕ) (t : ℕ) → isOpen (n .clients c) ≡ true
+    → let r = answer w (withClient n c (receive (n .clients c) (beforeFeed bs))) c t in Answered w n c bs t (r .0) (r .1)
+unfolding answerParts requestOf
+answered w n c bs t h =
+    let e =
+    answer-is w n c (receive (n .clients c) (beforeFeed bs)) t (emptied-received (beforeFeed bs) (n .clients c))
+    ∙ concluded w (idle n c) c t (partsAt n c bs) (outcomeAt w n c bs t) in
+    record {
+      isOpen = h;
+      node = ap (λ (x : Node × List Record). x .0) e;
+      records = ap (λ (x : Node × List Record). x .1) e;
+    }
+
+-- ## Numbers of accepted calls
+
+-- an accepted piece's client is open
+lowest-last : (ks : List ℕ) (b : Bool) → lowest (ks ++ (fault 12 (not b) ∷ [])) ≡ 0 → b ≡ true
+unfolding lowest
+lowest-last [] true e = refl
+lowest-last [] false e = absurd (omega arith)
+lowest-last (zero ∷ ks) b e = lowest-last ks b e
+lowest-last (suc k ∷ ks) b e = absurd (omega arith)
+
+piece-open : (table : List ℕ) (n : Node) (c : ℕ) (bs : List ℕ) (t a o : ℕ)
+    → callNumber table false n (Piece c bs t a o) ≡ 0 → isOpen (n .clients c) ≡ true
+unfolding callNumber
+piece-open table n c bs t a o e = lowest-last (_ ∷ _ ∷ _ ∷ _ ∷ _ ∷ _ ∷ []) (isOpen (n .clients c)) e
+
+-- an accepted reading's parameter is there, and its value fits
+fit-is : (v : Verdict) → isFit v ≡ true → v ≡ fits
+unfolding isFit severity
+fit-is fits e = refl
+fit-is rangeError e = absurd (false≢true e)
+fit-is wrongType e = absurd (false≢true e)
+fit-is badJSON e = absurd (false≢true e)
+
+lowest-reading : (ks : List ℕ) (x : Option (Placed Parameter)) (v : Verdict)
+    → lowest (ks ++ (fault 14 (not (isSome x)) ∷ fault 15 (not (isFit v)) ∷ [])) ≡ 0
+    → ((p : Placed Parameter) × (x ≡ some p)) × (v ≡ fits)
+unfolding lowest
+lowest-reading [] none v e = absurd (omega arith)
+lowest-reading [] (some p) v e = ((p, refl), fit-is v (go (isFit v) e))
+  where
+    go : (q : Bool) → lowest (fault 15 (not q) ∷ []) ≡ 0 → q ≡ true
+    go true e′ = refl
+    go false e′ = absurd (omega arith)
+lowest-reading (zero ∷ ks) x v e = lowest-reading ks x v e
+lowest-reading (suc k ∷ ks) x v e = absurd (omega arith)
+
+did-reading : (w : Table) (n : Node) (k : ℕ) (bs : List ℕ) (t a o : ℕ) (x : Option (Placed Parameter)) (p : Placed Parameter)
+    → getElem? (parameters w) k ≡ x → x ≡ some p → readingVerdict x bs ≡ fits
+    → let r = readingEffect n k x bs t in Did w n (Reading k bs t a o) (r .next) (r .records)
+unfolding readingEffect readingVerdict
+did-reading w n k bs t a o none p q h v = let z : _≡_ {A = ℕ} 0 1 = cc in absurd (omega arith)
+did-reading w n k bs t a o (some y) p q h v = read y q v
+
+did-piece : (w : Table) (n : Node) (c : ℕ) (bs : List ℕ) (t a o : ℕ) (q : Bool) → isOpen (n .clients c) ≡ true
+    → let r = ended w (withClient n c (receive (n .clients c) (beforeFeed bs))) c t q in Did w n (Piece c bs t a o) (r .0) (r .1)
+unfolding ended
+did-piece w n c bs t a o true h = line (answered w n c bs t h)
+did-piece w n c bs t a o false h = received
+
+did : (table : List ℕ) (n : Node) (e : Call) → callNumber table false n e ≡ 0
+    → let r = effect (tableOf table) n e in Did (tableOf table) n e (r .next) (r .records)
+unfolding effect pieceEffect callNumber
+did table n (Open c t a) h = opened
+did table n (Close c t a) h = shut
+did table n (Piece c bs t a o) h = did-piece (tableOf table) n c bs t a o (hasFeed bs) (piece-open table n c bs t a o h)
+did table n (Reading k bs t a o) h =
+    let x = getElem? (parameters (tableOf table)) k in
+    let q = lowest-reading (_ ∷ _ ∷ _ ∷ _ ∷ _ ∷ []) x (readingVerdict x bs) h in
+    did-reading (tableOf table) n k bs t a o x (q .0 .0) refl (q .0 .1) (q .1)
+
+-- ## Steps
+
+settled : (table : List ℕ) (n : Node) (e : Call) (j : ℕ) → callNumber table false n e ≡ j
+    → let s = settle j n (effect (tableOf table) n e) in
+    Refused n (s .0) (s .1) ⊎ Did (tableOf table) n e (s .0) (s .1 .records)
+unfolding settle
+settled table n e zero h = inr (did table n e h)
+settled table n e (suc j) h = inl (record { node = refl; used = refl; records = refl })
+
+-- every call is refused and alters nothing, or it does what an accepted call does
+pub every-call : (table : List ℕ) (n : Node) (e : Call)
+    → Refused n (step table n e .0) (step table n e .1) ⊎ Did (tableOf table) n e (step table n e .0) (step table n e .1 .records)
+unfolding step stepIf
+every-call table n e = settled table n e (callNumber table false n e) refl
+
+pub accepted-call : (table : List ℕ) (n : Node) (e : Call) → step table n e .1 .number ≡ 0
+    → Did (tableOf table) n e (step table n e .0) (step table n e .1 .records)
+unfolding step stepIf settle
+accepted-call table n e h = go (callNumber table false n e) refl h
+  where
+    go : (j : ℕ) → callNumber table false n e ≡ j → settle j n (effect (tableOf table) n e) .1 .number ≡ 0
+        → let s = settle j n (effect (tableOf table) n e) in Did (tableOf table) n e (s .0) (s .1 .records)
+    go zero q z = did table n e q
+    go (suc j) q z = absurd (omega arith)
+
+pub refusals-alter-nothing : RefusalsAlterNothing
+unfolding step stepIf settle
+refusals-alter-nothing table n e k h = go (callNumber table false n e) refl h
+  where
+    go : (j : ℕ) → callNumber table false n e ≡ j → settle j n (effect (tableOf table) n e) .1 .number ≡ suc k
+        → let s = settle j n (effect (tableOf table) n e) in Refused n (s .0) (s .1)
+    go zero q z = absurd (omega arith)
+    go (suc j) q z = record { node = refl; used = refl; records = refl }
+
+-- ## Final replies
+
+the-final : (rs : List Record) (c d : ℕ) (r x : Reply) → NoFinal rs → List·Memᴰ (final d x) (rs ++ (final c r ∷ [])) → (d ≡ c) × (x ≡ r)
+the-final rs c d r x h m =
+    ⊎-elim
+    (λ l. absurd (final-not-in rs d x h l))
+    (λ l. let e : final d x ≡ final c r = List·Memᴰ·eq-of-singleton l in (cc, cc))
+    (List·Memᴰ·append-cases rs m)
+
+-- the line that a final reply among the records of a call answers
+pub data Line-of (w : Table) (n m : Node) (rs : List Record) (c : ℕ) (r : Reply) : Call → Type 0 where
+  line-of : {bs : List ℕ} {t a o : ℕ} → Answered w n c bs t m rs → r ≡ replyTo (partsAt n c bs) (outcomeAt w n c bs t)
+      → Line-of w n m rs c r (Piece c bs t a o)
+
+line-in : (w : Table) (n : Node) (m : Node) (rs : List Record) (c d : ℕ) (r : Reply) (bs : List ℕ) (t a o : ℕ) → Answered w n c bs t m rs
+    → List·Memᴰ (final d r) rs → Line-of w n m rs d r (Piece c bs t a o)
+line-in w n m rs c d r bs t a o h l =
+    let x : Outcome = outcomeAt w n c bs t in
+    let q = the-final (before x) c d (replyTo (partsAt n c bs) x) r (quiet w (idle n c) c t (requestOf n c bs))
+    (subst (List·Memᴰ (final d r)) (h .records) l) in
+    subst (λ y. Line-of w n m rs y r (Piece c bs t a o)) (sym (q .0)) (line-of h (q .1))
+
+final-in : {w : Table} {n : Node} {e : Call} {m : Node} {rs : List Record} → Did w n e m rs → (c : ℕ) (r : Reply)
+    → List·Memᴰ (final c r) rs → Line-of w n m rs c r e
+final-in opened c r l = absurd (List·Memᴰ·not-nil l)
+final-in shut c r l = absurd (List·Memᴰ·not-nil l)
+final-in received c r l = absurd (List·Memᴰ·not-nil l)
+final-in {n = n} (read p q f) c r l = absurd (final-not-in _ c r (updates-to-no-final (n .clients) (p .home) _ clientNumbers) l)
+final-in {w} {n} (line {c = d} {bs = bs} {t = t} {a = a} {o = o} {m = m} {rs = rs} h) c r l = line-in w n m rs d c r bs t a o h l
+
+pub line-of-final : (table : List ℕ) (n : Node) (e : Call) (c : ℕ) (r : Reply) → List·Memᴰ (final c r) (step table n e .1 .records)
+    → Line-of (tableOf table) n (step table n e .0) (step table n e .1 .records) c r e
+line-of-final table n e c r l =
+    ⊎-elim
+    (λ h. absurd (List·Memᴰ·not-nil (subst (List·Memᴰ (final c r)) (h .records) l)))
+    (λ h. final-in h c r l)
+    (every-call table n e)
