@@ -1,7 +1,10 @@
 pub mod ReadAgain
-pub mod Compact
+pub mod ReadBack
 pub mod Enough
-pub mod Rest
 pub mod Spaces
 pub mod Strings
+pub mod Rest
 pub mod Values
+pub mod Escapes
+pub mod Strip
+pub mod Copied

@@ -30,7 +30,7 @@ of-bind (gave {a = a} p) h = h a p
 pub of-some : {A : Type 0} {P : A → Type 0} {a : A} → Of P (some a) → P a
 of-some (gave p) = p
 
-of-map : {A : Type 0} {P Q : A → Type 0} {o : Option A} → Of P o → ((a : A) → P a → Q a) → Of Q o
+pub of-map : {A : Type 0} {P Q : A → Type 0} {o : Option A} → Of P o → ((a : A) → P a → Q a) → Of Q o
 of-map failed h = failed
 of-map (gave {a = a} p) h = gave (h a p)
 

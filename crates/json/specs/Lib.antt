@@ -1,4 +1,4 @@
 pub mod Json
 pub mod Characters
-pub mod Reader
+pub mod Compacted
 pub mod Theorems

@@ -1,8 +1,10 @@
 // JSON texts over the bytes 32 to 126.
-ghost use mathlib.Core.Bool.{true};
 ghost use mathlib.Core.Path.{_≡_};
+ghost use mathlib.Core.Bool.{true};
 ghost use Rattle.json.specs.Theorems.{CompactIsReadBack};
 
+pub mod characters;
+pub mod compact;
 pub mod read;
 
 // The compact text of a value that was read is read as the same value: nothing is run, the promise is the theorem.

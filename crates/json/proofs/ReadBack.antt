@@ -38,7 +38,7 @@ back-cond : {x : ℕ} {f g : Reader} (b : Bool) → (b ≡ true → Back x f) �
 back-cond true h k = h refl
 back-cond false h k = k refl
 
-of-giving : {P : Json × List ℕ → Type 0} {Q : List ℕ → Type 0} (f : List ℕ → Json) {o : Option (List ℕ)}
+pub of-giving : {P : Json × List ℕ → Type 0} {Q : List ℕ → Type 0} (f : List ℕ → Json) {o : Option (List ℕ)}
     → Of Q o → ((r : List ℕ) → Q r → P (f r, r)) → Of P (giving f o)
 of-giving f failed h = failed
 of-giving f (gave {a = r} q) h = gave (h r q)
@@ -113,7 +113,7 @@ module _ (f : Reader) (none-there : f [] ≡ none) (back : (x : ℕ) → Back x 
 record Keyed (k : List ℕ) : Type 0 where
   again : (rest : List ℕ) → key (quoted k ++ 58 ∷ rest) ≡ some (k, rest)
 
-quoted-is : (s rest : List ℕ) → quoted s ++ rest ≡ 34 ∷ s ++ 34 ∷ rest
+pub quoted-is : (s rest : List ℕ) → quoted s ++ rest ≡ 34 ∷ s ++ 34 ∷ rest
 unfolding quoted
 quoted-is s rest = rw append-assoc
 
@@ -134,11 +134,11 @@ key-back xs =
 -- ## Arrays and objects, of values that g reads
 
 -- the text from the first item on, and from the first member on
-items-text : (v : Json) (is : Items) (rest : List ℕ) → compactItems (item v is) ++ rest ≡ compact v ++ (moreItems is ++ rest)
+pub items-text : (v : Json) (is : Items) (rest : List ℕ) → compactItems (item v is) ++ rest ≡ compact v ++ (moreItems is ++ rest)
 unfolding compact
 items-text v is rest = append-assoc (compact v) (moreItems is) rest
 
-members-text : (k : List ℕ) (v : Json) (ms : Members) (rest : List ℕ)
+pub members-text : (k : List ℕ) (v : Json) (ms : Members) (rest : List ℕ)
     → compactMembers (member k v ms) ++ rest ≡ quoted k ++ 58 ∷ (compact v ++ (moreMembers ms ++ rest))
 unfolding compact bytes
 members-text k v ms rest = simp append-assoc
