@@ -44,7 +44,7 @@ unfoldable pub digitsIn : ℕ → ℕ → List ℕ
 digitsIn zero n = []
 digitsIn (suc k) n = elim (ltb n 10) [ true ↦ digit n ∷ [] | false ↦ digitsIn k (n / 10) ++ (digit (n % 10) ∷ []) ]
 
--- n without leading zeros; it has fewer digits than n + 1
+-- n without leading zeros; it has at most n + 1 digits
 unfoldable pub decimal : ℕ → List ℕ
 decimal n = digitsIn (suc n) n
 

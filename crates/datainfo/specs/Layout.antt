@@ -9,7 +9,7 @@ use Rattle.ascii.specs.Numbers.{unsigned, signed}
 use Rattle.decimal.specs.Decimal.{Decimal}
 use Rattle.datainfo.specs.Datainfo.{Variant, Datainfo, double, int, bool, enum, string, array, tuple, struct, Elements, no-elements, element, Fields, no-fields, field}
 
--- "`Name` and `text` are a length byte and that many bytes."
+-- "Name" and "text": a length byte and that many bytes
 unfoldable pub counted : List ℕ → Option (List ℕ × List ℕ)
 counted xs = do
   (n, r) ← unsigned 1 xs
@@ -76,7 +76,7 @@ module _ (inner : List ℕ → Option (Datainfo × List ℕ)) where
     (ds, s) ← elements n r
     some (element d ds, s)
 
-  -- "7 tuple: count byte, datainfos"
+  -- "7 tuple: count byte .., datainfos"
   unfoldable pub tupleAt : List ℕ → Option (Datainfo × List ℕ)
   tupleAt xs = do
     (n, r) ← unsigned 1 xs
@@ -91,7 +91,7 @@ module _ (inner : List ℕ → Option (Datainfo × List ℕ)) where
     (fs, t) ← fields n s
     some (field k d fs, t)
 
-  -- "8 struct: count byte, each name and datainfo"
+  -- "8 struct: count byte .., each name and datainfo"
   unfoldable pub structAt : List ℕ → Option (Datainfo × List ℕ)
   structAt xs = do
     (n, r) ← unsigned 1 xs

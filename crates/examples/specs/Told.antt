@@ -2,10 +2,8 @@
 use Prim.Native.Nat.{ℕ}
 use mathlib.Core.List.{List, map}
 use mathlib.Core.Path.{_≡_}
-use Rattle.table.specs.Layout.{tableOf}
 use Rattle.outbox.specs.Outbox.{encodeAll}
-use Rattle.plain.specs.Node.{begin}
-use Rattle.plain.specs.Calls.{Call, Answer, startNumber}
+use Rattle.plain.specs.Calls.{Call, Answer, startNumber, started}
 use Rattle.plain.specs.History.{answers}
 
 -- what a caller is told: the number, the bytes used and the bytes written
@@ -31,7 +29,7 @@ unfoldable pub startOf : History → ℕ
 startOf h = startNumber (h .table) (h .area) (h .time)
 
 unfoldable pub toldOf : History → List Told
-toldOf h = map tell (answers (h .table) (begin (tableOf (h .table)) (h .time)) (h .calls))
+toldOf h = map tell (answers (h .table) (started (h .table) (h .area) (h .time)) (h .calls))
 
 -- that is what is due, of all these histories
 pub record AllAsDue (hs : List History) : Type 0 where

@@ -100,7 +100,8 @@ module _ (w : Table) (n : Node) (c now : ℕ) where
       (carried n (orderCommand c (k .0) (argumentForm (k .1 .it .argument) v) ∷ [])
       (done (record { moduleName = k .1 .moduleName; accessible = k .1 .it .name; value = bytes "null"; time = now })))
 
-  -- "A command is no parameter, and the reverse."
+  -- "A command is no parameter, and the reverse. Order: ProtocolError, NoSuchModule, NoSuchParameter or NoSuchCommand, ReadOnly, BadJSON,
+  -- WrongType, RangeError.": each is asked for in turn
   unfoldable pub outcome : Request → Outcome
   outcome identify = carried n [] identification
   outcome describe = carried n [] (describing (report w))

@@ -14,7 +14,7 @@ use Rattle.table.specs.Layout.{tableOf}
 use Rattle.table.specs.Search.{Placed, parameters}
 use Rattle.report.specs.Judge.{fault, lowest, tableNumber}
 use Rattle.outbox.specs.Outbox.{Record}
-use Rattle.plain.specs.Node.{closed, Value, Node, withClient, withValue, fresh, isOpen, receive, reportOf, clientNumbers, updatesTo}
+use Rattle.plain.specs.Node.{closed, Value, Node, withClient, withValue, fresh, begin, isOpen, receive, reportOf, clientNumbers, updatesTo}
 use Rattle.plain.specs.Answer.{answer}
 
 -- A call after the start: client or parameter number, the bytes that are offered, the time, and the lengths of the values area and of
@@ -61,6 +61,10 @@ readingVerdict (some p) xs = verdict (p .it .datainfo) xs
 -- the number of a start
 unfoldable pub startNumber : List ℕ → ℕ → ℕ → ℕ
 startNumber table area time = lowest (tableNumber table ∷ fault8 area ∷ fault10 time ∷ [])
+
+-- the node after a start. "A refused start returns a state with no client open and every number 0.", the times too
+unfoldable pub started : List ℕ → ℕ → ℕ → Node
+started table area time = begin (tableOf table) (cond (eqb (startNumber table area time) 0) time 0)
 
 -- the number of a call on these bytes of a table, at the node n
 unfoldable pub callNumber : List ℕ → Bool → Node → Call → ℕ

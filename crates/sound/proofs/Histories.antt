@@ -6,7 +6,7 @@ use Rattle.table.specs.Layout.{tableOf}
 use Rattle.plain.specs.Node.{Node, begin}
 use Rattle.plain.specs.Calls.{Call, startNumber}
 use Rattle.plain.specs.History.{step, answers, finish}
-use Rattle.sound.specs.Theorems.{Sound, AllShort, AllAnswersWellFormed, AlwaysSound, WritesAreShort, WritesAreWellFormed}
+use Rattle.sound.specs.Theorems.{Sound, AllShort, AllAnswersWellFormed, AlwaysSound, WritesAreShort, WritesAreWellFormed, CallsKeepSound}
 use Rattle.sound.proofs.Accepted.{Accepted, accepted, lowest-none, time-low}
 use Rattle.sound.proofs.Held.{begun}
 use Rattle.sound.proofs.Steps.{stepped}
@@ -41,3 +41,8 @@ writes-are-short table area time z h = started table area time z h .short
 
 pub writes-are-well-formed : WritesAreWellFormed
 writes-are-well-formed table area time z h = started table area time z h .formed
+
+pub calls-keep-sound : CallsKeepSound
+calls-keep-sound table z n s e =
+    let k = stepped table (accepted table z) n s e in
+    record { sound = k .sound; short = k .written .short; formed = k .written .formed }

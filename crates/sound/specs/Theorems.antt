@@ -13,11 +13,12 @@ use Rattle.message.specs.Line.{Line, whole, overlong}
 use Rattle.table.specs.Table.{Parameter, Table}
 use Rattle.table.specs.Layout.{tableOf}
 use Rattle.table.specs.Search.{Placed, parameters}
+use Rattle.report.specs.Judge.{tableNumber}
 use Rattle.outbox.specs.Outbox.{encodeAll}
 use Rattle.outbox.specs.Theorems.{AllWellFormed}
 use Rattle.plain.specs.Node.{Client, closed, connected, Value, Node, begin}
 use Rattle.plain.specs.Calls.{Call, Answer, startNumber}
-use Rattle.plain.specs.History.{answers, finish}
+use Rattle.plain.specs.History.{step, answers, finish}
 
 -- an unfinished line is at most 1,024 bytes, with no line feed
 abbrev pub LineHeld : Line → Type 0
@@ -44,7 +45,7 @@ abbrev pub AlwaysSound : Type 0
 AlwaysSound = (table : List ℕ) (area time : ℕ) → startNumber table area time ≡ 0 → (h : List Call)
     → Sound (tableOf table) (finish table (begin (tableOf table) time) h)
 
--- No accepted call writes more than 32,019 bytes (and a refused one none).
+-- No accepted call writes more than 32,019 bytes.
 abbrev pub AllShort : List Answer → Type 0
 AllShort [] = Unit {0}
 AllShort (a ∷ l) = (length (encodeAll (a .records)) ≤ 32019) × AllShort l
@@ -61,3 +62,14 @@ AllAnswersWellFormed (a ∷ l) = AllWellFormed (a .records) × AllAnswersWellFor
 abbrev pub WritesAreWellFormed : Type 0
 WritesAreWellFormed = (table : List ℕ) (area time : ℕ) → startNumber table area time ≡ 0 → (h : List Call)
     → AllAnswersWellFormed (answers table (begin (tableOf table) time) h)
+
+-- Of one call on any sound node and any table that is accepted, whatever came before: what it leaves is sound, and what it writes is short and
+-- well formed.
+pub record Keeps (w : Table) (n : Node) (a : Answer) : Type 0 where
+  pub sound : Sound w n
+  pub short : length (encodeAll (a .records)) ≤ 32019
+  pub formed : AllWellFormed (a .records)
+
+abbrev pub CallsKeepSound : Type 0
+CallsKeepSound = (table : List ℕ) → tableNumber table ≡ 0 → (n : Node) → Sound (tableOf table) n → (e : Call)
+    → Keeps (tableOf table) (step table n e .0) (step table n e .1)

@@ -1,6 +1,6 @@
 ghost use mathlib.Core.Bool.{true};
 ghost use mathlib.Core.Path.{_≡_};
-ghost use Rattle.sound.specs.Theorems.{AlwaysSound, WritesAreShort, WritesAreWellFormed};
+ghost use Rattle.sound.specs.Theorems.{AlwaysSound, WritesAreShort, WritesAreWellFormed, CallsKeepSound};
 
 // Each function here promises a theorem about the definitions. Nothing is run.
 
@@ -21,6 +21,13 @@ pub fn writes_are_short() -> bool
 // Every record that is written is well formed, so that equal bytes are equal records.
 pub fn writes_are_well_formed() -> bool
     ensures { λ r. ⌜ (r ≡ true) × WritesAreWellFormed ⌝ }
+{
+    true
+}
+
+// The same of one call on any sound node.
+pub fn calls_keep_sound() -> bool
+    ensures { λ r. ⌜ (r ≡ true) × CallsKeepSound ⌝ }
 {
     true
 }
