@@ -1,4 +1,8 @@
 // Bytes: reading them at a position of a slice, and their classes.
+pub mod names;
+pub mod numbers;
+pub mod write;
+
 ghost use mathlib.Core.Path.{_≡_};
 ghost use Rattle.ascii.specs.Bytes.{isIn, isDigit, isLetter, isPrintable};
 ghost use Rattle.ascii.specs.Reader.{ByteAt};
@@ -7,6 +11,25 @@ ghost use Rattle.ascii.specs.Reader.{ByteAt};
 pub enum Next {
     At(usize),
     Bad,
+}
+
+// An unsigned number with the position after its bytes, or that there are too few bytes. (These three stand here and not
+// in `numbers`, where a function `unsigned` and an enum `Unsigned` can't stand together.)
+pub enum Unsigned {
+    Read(u64, usize),
+    Short,
+}
+
+// The same of a signed number.
+pub enum Signed {
+    Read(i64, usize),
+    Short,
+}
+
+// The same of a signed number of one byte.
+pub enum SignedByte {
+    Read(i8, usize),
+    Short,
 }
 
 // The byte at a position, or 0 past the end.
