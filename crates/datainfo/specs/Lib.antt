@@ -1,4 +1,5 @@
 pub mod Datainfo
 pub mod Layout
+pub mod Members
 pub mod Rules
 pub mod Fit

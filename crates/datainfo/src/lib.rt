@@ -1,0 +1,2 @@
+// Datainfo in the table's bytes, and which values fit it.
+pub mod layout;
