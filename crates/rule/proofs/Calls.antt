@@ -18,7 +18,7 @@ use Rattle.message.specs.Request.{Request, request}
 use Rattle.message.specs.Reply.{Report, Reply, error}
 use Rattle.outbox.specs.Outbox.{Record, final}
 use Rattle.plain.specs.Node.{Client, closed, fresh, Value, Node, put, withClient, withValue, isOpen, lineOf, receive, emptied, reportOf, clientNumbers, updatesTo}
-use Rattle.plain.specs.Answer.{Outcome, refused, carried, outcome, activates, deactivates, sets, conclude, answerParts, answer}
+use Rattle.plain.specs.Answer.{Outcome, refused, carried, outcome, activates, deactivates, reads, sets, conclude, answerParts, answer}
 use Rattle.plain.specs.Calls.{Call, Open, Close, Piece, Reading, Answer, callNumber, readingVerdict, beforeFeed, hasFeed, ended, pieceEffect, readingEffect, effect, settle, stepIf}
 use Rattle.plain.specs.History.{step}
 use Rattle.rule.specs.Theorems.{requestOf, Refused, RefusalsAlterNothing}
@@ -48,7 +48,7 @@ concluded w n c now p (carried m rs r) = refl
 
 -- there is no final reply before the reply
 pub quiet : (w : Table) (n : Node) (c now : ℕ) (r : Request) → NoFinal (before (outcome w n c now r))
-unfolding activates deactivates sets
+unfolding activates deactivates reads sets
 quiet w n c now r =
     outcome-holds
     (λ q o. NoFinal (before o))
@@ -58,10 +58,11 @@ quiet w n c now r =
     now
     (λ q x. tt)
     (λ q s h. tt)
+    (λ k h. tt)
     (λ m. updates-of-no-final c _ (n .values) 0 (parameters w))
     (λ m. tt)
     (λ k v h. (tt, updates-to-no-final (n .clients) (k .1 .home) _ clientNumbers))
-    (λ q k v s. (tt, tt))
+    (λ k v h f. (tt, tt))
     r
 
 -- ## Lines
@@ -86,12 +87,12 @@ pub record Answered (w : Table) (n : Node) (c : ℕ) (bs : List ℕ) (t : ℕ) (
 pub data Did (w : Table) (n : Node) : Call → Node → List Record → Type 0 where
   opened : {c t a : ℕ} → Did w n (Open c t a) (withClient n c fresh) []
   shut : {c t a : ℕ} → Did w n (Close c t a) (withClient n c closed) []
-  received : {c : ℕ} {bs : List ℕ} {t a o : ℕ} → Did w n (Piece c bs t a o) (withClient n c (receive (n .clients c) (beforeFeed bs))) []
+  received : {c : ℕ} {bs : List ℕ} {t a o : ℕ} → hasFeed bs ≡ false → Did w n (Piece c bs t a o) (withClient n c (receive (n .clients c) (beforeFeed bs))) []
   read : {k : ℕ} {bs : List ℕ} {t a o : ℕ} (p : Placed Parameter) → getElem? (parameters w) k ≡ some p
       → verdict (p .it .datainfo) bs ≡ fits
       → Did w n (Reading k bs t a o) (withValue n k (record { text = storedForm bs; time = t }))
       (updatesTo (n .clients) (p .home) (reportOf p (record { text = storedForm bs; time = t })) clientNumbers)
-  line : {c : ℕ} {bs : List ℕ} {t a o : ℕ} {m : Node} {rs : List Record} → Answered w n c bs t m rs
+  line : {c : ℕ} {bs : List ℕ} {t a o : ℕ} {m : Node} {rs : List Record} → hasFeed bs ≡ true → Answered w n c bs t m rs
       → Did w n (Piece c bs t a o) m rs
 
 answer-is : (w : Table) (n : Node) (c : ℕ) (x : Client) (t : ℕ) → emptied x ≡ emptied (n .clients c)
@@ -164,18 +165,18 @@ unfolding readingEffect readingVerdict
 did-reading w n k bs t a o none p q h v = let z : _≡_ {A = ℕ} 0 1 = cc in absurd (omega arith)
 did-reading w n k bs t a o (some y) p q h v = read y q v
 
-did-piece : (w : Table) (n : Node) (c : ℕ) (bs : List ℕ) (t a o : ℕ) (q : Bool) → isOpen (n .clients c) ≡ true
+did-piece : (w : Table) (n : Node) (c : ℕ) (bs : List ℕ) (t a o : ℕ) (q : Bool) → hasFeed bs ≡ q → isOpen (n .clients c) ≡ true
     → let r = ended w (withClient n c (receive (n .clients c) (beforeFeed bs))) c t q in Did w n (Piece c bs t a o) (r .0) (r .1)
 unfolding ended
-did-piece w n c bs t a o true h = line (answered w n c bs t h)
-did-piece w n c bs t a o false h = received
+did-piece w n c bs t a o true f h = line f (answered w n c bs t h)
+did-piece w n c bs t a o false f h = received f
 
 did : (table : List ℕ) (n : Node) (e : Call) → callNumber table false n e ≡ 0
     → let r = effect (tableOf table) n e in Did (tableOf table) n e (r .next) (r .records)
 unfolding effect pieceEffect callNumber
 did table n (Open c t a) h = opened
 did table n (Close c t a) h = shut
-did table n (Piece c bs t a o) h = did-piece (tableOf table) n c bs t a o (hasFeed bs) (piece-open table n c bs t a o h)
+did table n (Piece c bs t a o) h = did-piece (tableOf table) n c bs t a o (hasFeed bs) refl (piece-open table n c bs t a o h)
 did table n (Reading k bs t a o) h =
     let x = getElem? (parameters (tableOf table)) k in
     let q = lowest-reading (_ ∷ _ ∷ _ ∷ _ ∷ _ ∷ []) x (readingVerdict x bs) h in
@@ -241,9 +242,9 @@ final-in : {w : Table} {n : Node} {e : Call} {m : Node} {rs : List Record} → D
     → List·Memᴰ (final c r) rs → Line-of w n m rs c r e
 final-in opened c r l = absurd (List·Memᴰ·not-nil l)
 final-in shut c r l = absurd (List·Memᴰ·not-nil l)
-final-in received c r l = absurd (List·Memᴰ·not-nil l)
+final-in (received f) c r l = absurd (List·Memᴰ·not-nil l)
 final-in {n = n} (read p q f) c r l = absurd (final-not-in _ c r (updates-to-no-final (n .clients) (p .home) _ clientNumbers) l)
-final-in {w} {n} (line {c = d} {bs = bs} {t = t} {a = a} {o = o} {m = m} {rs = rs} h) c r l = line-in w n m rs d c r bs t a o h l
+final-in {w} {n} (line {c = d} {bs = bs} {t = t} {a = a} {o = o} {m = m} {rs = rs} f h) c r l = line-in w n m rs d c r bs t a o h l
 
 pub line-of-final : (table : List ℕ) (n : Node) (e : Call) (c : ℕ) (r : Reply) → List·Memᴰ (final c r) (step table n e .1 .records)
     → Line-of (tableOf table) n (step table n e .0) (step table n e .1 .records) c r e

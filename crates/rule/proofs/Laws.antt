@@ -73,17 +73,17 @@ same-is (x ∷ xs) (y ∷ ys) e =
     let h = both (eqb x y) (same xs ys) e in
     ap₂ _∷_ (eqb-true x y (h .0)) (same-is xs ys (h .1))
 
-pub parameter-named : (w : Table) (m a : List ℕ) (k : ℕ × Placed Parameter)
-    → findParameter w m a ≡ some k → (m ≡ k .1 .moduleName) × (a ≡ k .1 .it .name)
-unfolding findParameter first
-parameter-named w m a k e =
-    let h = both (same m (k .1 .moduleName)) (same a (k .1 .it .name)) (first-passes _ 0 (parameters w) k e) in
-    (same-is m (k .1 .moduleName) (h .0), same-is a (k .1 .it .name) (h .1))
+-- what is found by two names has them, and stands at its number
+module _ {A : Type 0} (name : A → List ℕ) (m a : List ℕ) (xs : List (Placed A)) (k : ℕ × Placed A)
+    (e : first (λ (x : Placed A). same m (x .moduleName) && same a (name (x .it))) xs ≡ some k) where
+  pub found-there : getElem? xs (k .0) ≡ some (k .1)
+  found-there = first-there _ xs k e
 
-pub parameter-there : (w : Table) (m a : List ℕ) (k : ℕ × Placed Parameter)
-    → findParameter w m a ≡ some k → getElem? (parameters w) (k .0) ≡ some (k .1)
-unfolding findParameter
-parameter-there w m a k e = first-there _ (parameters w) k e
+  pub found-named : (m ≡ k .1 .moduleName) × (a ≡ name (k .1 .it))
+  unfolding first
+  found-named =
+      let h = both (same m (k .1 .moduleName)) (same a (name (k .1 .it))) (first-passes _ 0 xs k e) in
+      (same-is m (k .1 .moduleName) (h .0), same-is a (name (k .1 .it)) (h .1))
 
 -- a parameter's module is one of the table's
 module _ {A : Type 0} (of : List Accessible → List A) where

@@ -3,3 +3,4 @@ pub mod Outcomes
 pub mod Calls
 pub mod Replies
 pub mod Rule
+pub mod Lines

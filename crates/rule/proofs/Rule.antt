@@ -19,13 +19,13 @@ use Rattle.message.specs.Error.{Class}
 use Rattle.message.specs.Reply.{Report, Reply, identification, describing, pong, active, inactive, reply, changed, done, error}
 use Rattle.outbox.specs.Outbox.{Record, final, update, orderChange, orderCommand}
 use Rattle.plain.specs.Node.{Client, closed, fresh, Value, Node, put, withClient, withValue, isOpen, isActive, receive, emptied, activated, reportOf, clientNumbers, updatesTo, updatesOf}
-use Rattle.plain.specs.Answer.{Outcome, refused, carried, outcome, activates, deactivates, sets}
+use Rattle.plain.specs.Answer.{Outcome, refused, carried, outcome, activates, deactivates, reads, sets}
 use Rattle.plain.specs.Calls.{Call, Open, Close, Piece, Reading, Answer, beforeFeed}
 use Rattle.plain.specs.History.{step}
 use Rattle.rule.specs.Records.{updatesFor, repliesFor, inScopeOf, reportsOf, activeBy, activeAfter}
-use Rattle.rule.specs.Theorems.{requestOf, ToActive, UpdatesGoToActiveClients, Set, ReadingSets, ReadingsAreSentToAll, ChangeSets, Changed, by-line, ChangesAreSentToAll, Setting, by-reading, by-change, ValuesAlterBySettings, InitialUpdates, ActivationsSendAll, ActivationsAreOnesOwn, AltersNothing, ErrorsAlterNothing}
+use Rattle.rule.specs.Theorems.{requestOf, ToActive, UpdatesGoToActiveClients, Set, ReadingSets, ReadingsAreSentToAll, ChangeSets, OfPiece, of-piece, ChangesAreSentToAll, Setting, by-reading, by-change, ValuesAlterBySettings, InitialUpdates, ActivationsSendAll, ActivationsAreOnesOwn, AltersNothing, ErrorsAlterNothing}
 use Rattle.rule.proofs.Laws.{parameter-home, put-same, put-other, put-all, receive-active, emptied-open, emptied-active, activated-active, active-open, updates-append, replies-append, no-final-replies, updates-to-member, updates-of-member, updates-of-for, sent-once, sent-never}
-use Rattle.rule.proofs.Outcomes.{Simple, by-identify, by-describe, by-ping, by-read, LetIn, outcome-holds}
+use Rattle.rule.proofs.Outcomes.{Simple, by-identify, by-describe, by-ping, LetIn, doneOf, ordering, outcome-holds}
 use Rattle.rule.proofs.Calls.{replyTo, before, nodeAfter, quiet, idle, partsAt, outcomeAt, Answered, Did, opened, shut, received, read, line, every-call, accepted-call, Line-of, line-of, line-of-final, refusals-alter-nothing}
 
 -- ## Kinds of replies
@@ -52,7 +52,6 @@ simple-kind : (s : Reply) → Simple s → kindOf s ≡ another
 simple-kind _ by-identify = refl
 simple-kind _ by-describe = refl
 simple-kind _ by-ping = refl
-simple-kind _ by-read = refl
 
 abbrev number : Kind → ℕ
 number an-error = 0
@@ -78,7 +77,7 @@ NoError (refused x) = Unit {0}
 NoError (carried m rs r) = kindOf r ≡ an-error → ⊥
 
 no-error : (w : Table) (n : Node) (c now : ℕ) (r : Request) → NoError (outcome w n c now r)
-unfolding activates deactivates sets
+unfolding activates deactivates reads sets
 no-error w n c now r =
     outcome-holds
     (λ q o. NoError o)
@@ -88,10 +87,11 @@ no-error w n c now r =
     now
     (λ q x. tt)
     (λ q s h e. distinct (λ z. omega arith) (sym (simple-kind s h) ∙ e))
+    (λ k h e. distinct (λ z. omega arith) e)
     (λ m e. distinct (λ z. omega arith) e)
     (λ m e. distinct (λ z. omega arith) e)
     (λ k v h e. distinct (λ z. omega arith) e)
-    (λ q k v s e. distinct (λ z. omega arith) e)
+    (λ k v h f e. distinct (λ z. omega arith) e)
     r
 
 altered : (n m : Node) (rs : List Record) (c : ℕ) (p : Parts) (o : Outcome) (r : Reply) → kindOf r ≡ an-error → NoError o
@@ -162,7 +162,7 @@ abbrev Changes : Table → Node → ℕ → ℕ → Parts → Request → Outcom
 Changes w n c now p q o = (r : Report) → changed r ≡ replyTo p o → Changing w n c now q o r
 
 changing : (w : Table) (n : Node) (c now : ℕ) (p : Parts) (q : Request) → Changes w n c now p q (outcome w n c now q)
-unfolding activates deactivates
+unfolding activates deactivates reads
 changing w n c now p q =
     outcome-holds
     (Changes w n c now p)
@@ -172,10 +172,11 @@ changing w n c now p q =
     now
     (λ q x r e. change-no-error r _ _ x e)
     (λ q s h r e. kind-else (changed r) s a-change refl (omega arith) (simple-kind s h) e)
+    (λ k h r e. kind-else (changed r) (reply _) a-change refl (omega arith) refl e)
     (λ m r e. kinds-apart (changed r) (active m) refl refl e (distinct (λ z. omega arith)))
     (λ m r e. kind-else (changed r) (inactive m) a-change refl (omega arith) refl e)
     (λ k v h r e. record { k = k; v = v; asked = refl; let-in = h; tells = set-tells k v r e; is = refl })
-    (λ q k v s r e. kind-else (changed r) (done s) a-change refl (omega arith) refl e)
+    (λ k v h f r e. kind-else (changed r) (done _) a-change refl (omega arith) refl e)
     q
   where
     set-tells : (k : ℕ × Placed Parameter) (v : List ℕ) (r : Report) → changed r ≡ replyTo p (sets w n c now k (storedForm v))
@@ -249,10 +250,10 @@ module _ (w : Table) (n m : Node) (c : ℕ) (bs : List ℕ) (t : ℕ) (r : Repor
       }
 
 changed-line : {w : Table} {n m : Node} {rs : List Record} {c : ℕ} (r : Report) {e : Call} → Line-of w n m rs c (changed r) e
-    → Changed w n m c r rs e
+    → OfPiece c (λ bs t. ChangeSets w n m c bs t r rs) e
 changed-line {w} {n} {m} {rs} {c} r (line-of {bs = bs} {t = t} h q) =
     let o : Outcome = outcomeAt w n c bs t in
-    by-line
+    of-piece
     (change-sets
     w
     n
@@ -276,7 +277,7 @@ abbrev Alters : Node → Parts → Outcome → Type 0
 Alters n p o = (nodeAfter n o .values ≡ n .values) ⊎ ((r : Report) × (replyTo p o ≡ changed r))
 
 alters : (w : Table) (n : Node) (c now : ℕ) (p : Parts) (q : Request) → Alters n p (outcome w n c now q)
-unfolding activates deactivates
+unfolding activates deactivates reads
 alters w n c now p q =
     outcome-holds
     (λ r o. Alters n p o)
@@ -286,10 +287,11 @@ alters w n c now p q =
     now
     (λ r x. inl refl)
     (λ r s h. inl refl)
+    (λ k h. inl refl)
     (λ m. inl refl)
     (λ m. inl refl)
     (λ k v h. inr (reportOf (k .1) (record { text = storedForm v; time = now }), sets-reply w n c now p k (storedForm v)))
-    (λ r k v s. inl refl)
+    (λ k v h f. inl refl)
     q
 
 line-alters : (w : Table) (n m : Node) (c : ℕ) (bs : List ℕ) (t a o : ℕ) (x : Answer) → Answered w n c bs t m (x .records)
@@ -311,9 +313,9 @@ did-alter : {w : Table} {n m : Node} {e : Call} (x : Answer) → x .number ≡ 0
     → (m .values ≡ n .values) ⊎ Setting e x
 did-alter x z rs q opened = inl refl
 did-alter x z rs q shut = inl refl
-did-alter x z rs q received = inl refl
+did-alter x z rs q (received f) = inl refl
 did-alter x z rs q (read p f g) = inr (by-reading z)
-did-alter {w} {n} {m} x z rs q (line {c = c} {bs = bs} {t = t} {a = a} {o = o} h) =
+did-alter {w} {n} {m} x z rs q (line {c = c} {bs = bs} {t = t} {a = a} {o = o} f h) =
     line-alters w n m c bs t a o x (subst (Answered w n c bs t m) (sym q) h)
 
 pub values-alter-by-settings : ValuesAlterBySettings
@@ -336,7 +338,7 @@ not-active : {A : Type 0} (m : Option (List ℕ)) (y : Reply) → kindOf y ≡ a
 not-active m y q e = kind-else (active m) y an-activation refl (omega arith) q e
 
 activation : (w : Table) (n : Node) (c now : ℕ) (p : Parts) (q : Request) → Activation w n c p (outcome w n c now q)
-unfolding activates deactivates sets
+unfolding activates deactivates reads sets
 activation w n c now p q =
     outcome-holds
     (λ r o. Activation w n c p o)
@@ -346,12 +348,13 @@ activation w n c now p q =
     now
     (λ r x m e. kinds-apart (active m) (error (p .action) (p .specifier) x) refl refl e (distinct (λ z. omega arith)))
     (λ r s h m e. not-active m s (simple-kind s h) e)
+    (λ k h m e. not-active m (reply _) refl e)
     (λ x m e d.
     updates-of-for c (inScopeOf w x) (n .values) (parameters w) 0 d
     ∙ ap (λ y. cond (eqb d c) (reportsOf (inScopeOf w y) (n .values) 0 (parameters w)) []) (sym (active-is m x e)))
     (λ x m e. not-active m (inactive x) refl e)
     (λ k v h m e. kinds-apart (active m) (changed _) refl refl e (distinct (λ z. omega arith)))
-    (λ r k v s m e. not-active m (done s) refl e)
+    (λ k v h f m e. not-active m (done _) refl e)
     q
 
 initial-updates : {w : Table} {n k : Node} {rs : List Record} {c : ℕ} (m : Option (List ℕ)) {e : Call}
@@ -403,11 +406,10 @@ unfolding activeBy
 simple-active w i b _ by-identify = refl
 simple-active w i b _ by-describe = refl
 simple-active w i b _ by-ping = refl
-simple-active w i b _ by-read = refl
 
 leaves-active : (w : Table) (n : Node) (c now : ℕ) (p : Parts) (q : Request) → isOpen (n .clients c) ≡ true
     → LeavesActive w n c p (outcome w n c now q)
-unfolding activates deactivates sets activeBy
+unfolding activates deactivates reads sets activeBy
 leaves-active w n c now p q o =
     outcome-holds
     (λ r x. LeavesActive w n c p x)
@@ -419,10 +421,11 @@ leaves-active w n c now p q o =
     (λ r s h d i.
     either (eqb d c) (isActive (n .clients d) i)
     ∙ ap (λ b. cond (eqb d c) b (isActive (n .clients d) i)) (sym (simple-active w i (isActive (n .clients d) i) s h)))
+    (λ k h d i. either (eqb d c) (isActive (n .clients d) i))
     (λ m. given-active w n c _ (active m) o (λ i. refl))
     (λ m. given-active w n c _ (inactive m) o (λ i. refl))
     (λ k v h d i. either (eqb d c) (isActive (n .clients d) i))
-    (λ r k v s d i. either (eqb d c) (isActive (n .clients d) i))
+    (λ k v h f d i. either (eqb d c) (isActive (n .clients d) i))
     q
 
 idle-active : (n : Node) (c d i : ℕ) → isActive (idle n c .clients d) i ≡ isActive (n .clients d) i
@@ -481,7 +484,7 @@ ones-own : {w : Table} {n m : Node} {e : Call} {rs : List Record} → Did w n e 
 unfolding activeAfter activeBy repliesFor isActive
 ones-own {n = n} (opened {c = c}) d i = none-active n c fresh (λ j. refl) d i
 ones-own {n = n} (shut {c = c}) d i = none-active n c closed (λ j. refl) d i
-ones-own {n = n} (received {c = c} {bs = bs}) d i =
+ones-own {n = n} (received {c = c} {bs = bs} f) d i =
     put-all
     (λ j x. isActive x i ≡ isActive (n .clients j) i)
     (n .clients)
@@ -491,7 +494,7 @@ ones-own {n = n} (received {c = c} {bs = bs}) d i =
     (λ j. refl)
     d
 ones-own (read p q f) d i = refl
-ones-own {w} {n} (line {c = c} {bs = bs} {t = t} {m = m} {rs = rs} h) d i = line-own w n m c bs t rs h d i
+ones-own {w} {n} (line {c = c} {bs = bs} {t = t} {m = m} {rs = rs} f h) d i = line-own w n m c bs t rs h d i
 
 pub activations-are-ones-own : ActivationsAreOnesOwn
 activations-are-ones-own table n e z d i = ones-own (accepted-call table n e z) d i
@@ -545,7 +548,7 @@ first-active w n c now o m d r l =
     (to-active w x (g .i) (g .p) c r (g .there) (g .truly ∙ ap (λ j. reportOf (g .p) (n .values j)) z) a)
 
 to-actives : (w : Table) (n : Node) (c now : ℕ) (q : Request) → isOpen (n .clients c) ≡ true → ToActives w n (outcome w n c now q)
-unfolding deactivates sets
+unfolding deactivates reads sets
 to-actives w n c now q o =
     outcome-holds
     (λ r x. ToActives w n x)
@@ -555,6 +558,7 @@ to-actives w n c now q o =
     now
     (λ r x d y l. absurd (List·Memᴰ·not-nil l))
     (λ r s h d y l. absurd (List·Memᴰ·not-nil l))
+    (λ k h d y l. absurd (List·Memᴰ·not-nil l))
     (first-active w n c now o)
     (λ m d y l. absurd (List·Memᴰ·not-nil l))
     (λ k v h d r l.
@@ -562,7 +566,7 @@ to-actives w n c now q o =
     (λ e. absurd (not-update d r (orderChange c (k .0) (storedForm v)) refl e))
     (λ m. set-active w n (k .0) (k .1) (record { text = storedForm v; time = now }) (h .there) d r m)
     (List·Memᴰ·cases-cons l))
-    (λ x k v s d r l. absurd (not-update d r (orderCommand c k v) refl (List·Memᴰ·eq-of-singleton l)))
+    (λ k v h f d r l. absurd (not-update d r _ refl (List·Memᴰ·eq-of-singleton l)))
     q
 
 line-active : (w : Table) (n m : Node) (c : ℕ) (bs : List ℕ) (t : ℕ) (rs : List Record) → Answered w n c bs t m rs → (d : ℕ) (r : Report)
@@ -580,10 +584,10 @@ did-active : {w : Table} {n m : Node} {e : Call} {rs : List Record} → Did w n 
     → List·Memᴰ (update d r) rs → ToActive w m d r
 did-active opened d r k = absurd (List·Memᴰ·not-nil k)
 did-active shut d r k = absurd (List·Memᴰ·not-nil k)
-did-active received d r k = absurd (List·Memᴰ·not-nil k)
+did-active (received f) d r k = absurd (List·Memᴰ·not-nil k)
 did-active {w} {n} (read {k = i} {bs = bs} {t = t} p q f) d r k =
     set-active w n i p (record { text = storedForm bs; time = t }) q d r k
-did-active {w} {n} (line {c = c} {bs = bs} {t = t} {m = m} {rs = rs} h) d r k = line-active w n m c bs t rs h d r k
+did-active {w} {n} (line {c = c} {bs = bs} {t = t} {m = m} {rs = rs} f h) d r k = line-active w n m c bs t rs h d r k
 
 pub updates-go-to-active-clients : UpdatesGoToActiveClients
 updates-go-to-active-clients table n e d r l =

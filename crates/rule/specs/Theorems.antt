@@ -9,16 +9,18 @@ use mathlib.Core.Option.{Option, some}
 use mathlib.Core.Path.{_≡_}
 use lib.ListN.{length, getElem?}
 use Rattle.datainfo.specs.Fit.{fits, verdict, storedForm}
-use Rattle.message.specs.Line.{content, partsOf}
-use Rattle.message.specs.Request.{Request, change, request}
+use Rattle.ascii.specs.Text.{bytes}
+use Rattle.message.specs.Line.{whole, content, partsOf}
+use Rattle.message.specs.Request.{Request, read, change, execute, request}
 use Rattle.message.specs.Error.{Class}
-use Rattle.message.specs.Reply.{Report, Reply, changed, active, error}
-use Rattle.table.specs.Table.{Parameter, Table}
+use Rattle.message.specs.Reply.{Report, Reply, reply, changed, active, done, error}
+use Rattle.table.specs.Table.{Parameter, Command, parameter, Module, Table}
 use Rattle.table.specs.Layout.{tableOf}
-use Rattle.table.specs.Search.{Placed, parameters}
-use Rattle.outbox.specs.Outbox.{Record, final, update, orderChange}
-use Rattle.plain.specs.Node.{Value, Node, put, isOpen, isActive, lineOf, receive, emptied, reportOf, clientNumbers, updatesTo}
-use Rattle.plain.specs.Calls.{Call, Piece, Reading, Answer, beforeFeed}
+use Rattle.table.specs.Search.{Placed, parameters, commands}
+use Rattle.outbox.specs.Outbox.{Record, final, update, orderChange, orderCommand}
+use Rattle.plain.specs.Node.{Value, Node, put, withClient, isOpen, isActive, lineOf, receive, emptied, reportOf, clientNumbers, updatesTo}
+use Rattle.plain.specs.Answer.{argumentVerdict, argumentForm}
+use Rattle.plain.specs.Calls.{Call, Piece, Reading, Answer, beforeFeed, hasFeed, usedOf}
 use Rattle.plain.specs.History.{step}
 use Rattle.rule.specs.Records.{updatesFor, repliesFor, feedsUsed, inScopeOf, reportsOf, activeAfter}
 
@@ -76,14 +78,14 @@ pub record ChangeSets (w : Table) (n m : Node) (c : ℕ) (bs : List ℕ) (t : �
   pub records : rs
       ≡ (orderChange c k (storedForm offered) ∷ []) ++ updatesTo (m .clients) (p .home) r clientNumbers ++ (final c (changed r) ∷ [])
 
--- of a piece of client c
-pub data Changed (w : Table) (n m : Node) (c : ℕ) (r : Report) (rs : List Record) : Call → Type 0 where
-  by-line : {bs : List ℕ} {t a o : ℕ} → ChangeSets w n m c bs t r rs → Changed w n m c r rs (Piece c bs t a o)
+-- what holds of a piece of client c, by its bytes and its time
+pub data OfPiece (c : ℕ) (P : List ℕ → ℕ → Type 0) : Call → Type 0 where
+  of-piece : {bs : List ℕ} {t a o : ℕ} → P bs t → OfPiece c P (Piece c bs t a o)
 
 abbrev pub ChangesAreSentToAll : Type 0
 ChangesAreSentToAll = (table : List ℕ) (n : Node) (e : Call) (c : ℕ) (r : Report)
     → List·Memᴰ (final c (changed r)) (step table n e .1 .records)
-    → Changed (tableOf table) n (step table n e .0) c r (step table n e .1 .records) e
+    → OfPiece c (λ bs t. ChangeSets (tableOf table) n (step table n e .0) c bs t r (step table n e .1 .records)) e
 
 -- No other call alters a value: of a call that alters one, either it is an accepted reading, or its line was replied to by `changed`.
 pub data Setting : Call → Answer → Type 0 where
@@ -111,12 +113,66 @@ ActivationsAreOnesOwn = (table : List ℕ) (n : Node) (e : Call) → step table 
     → isActive (step table n e .0 .clients d) i
     ≡ activeAfter (tableOf table) d i (isActive (n .clients d) i) e (step table n e .1 .records)
 
+-- A parameter stands in the module that it is said to belong to, by number and by name: no update is filed under another's.
+pub record Belongs (w : Table) (p : Placed Parameter) : Type 0 where
+  pub m : Module
+  pub there : getElem? (w .modules) (p .home) ≡ some m
+  pub named : p .moduleName ≡ m .name
+  pub holds : List·Memᴰ (parameter (p .it)) (m .accessibles)
+
+abbrev pub ParametersBelong : Type 0
+ParametersBelong = (w : Table) (k : ℕ) (p : Placed Parameter) → getElem? (parameters w) k ≡ some p → Belongs w p
+
 -- ## Whoever sends a line gets one reply to it and nobody else does
 
 -- Each client is sent as many final replies as line feeds of it were used: one for each, and nobody else any.
 abbrev pub OneReplyForEachLine : Type 0
 OneReplyForEachLine = (table : List ℕ) (n : Node) (e : Call) (d : ℕ)
     → length (repliesFor d (step table n e .1 .records)) ≡ feedsUsed d e (step table n e .1)
+
+-- An accepted piece is used up to and including its first line feed, or whole. Without one its bytes join its client's and nothing is sent;
+-- with one no bytes of the line stay. No other client's line is touched.
+pub record PieceUsed (n m : Node) (c : ℕ) (bs : List ℕ) (x : Answer) : Type 0 where
+  pub used : x .used ≡ usedOf bs
+  pub joined : hasFeed bs ≡ false → (m ≡ withClient n c (receive (n .clients c) (beforeFeed bs))) × (x .records ≡ [])
+  pub emptied : hasFeed bs ≡ true → lineOf (m .clients c) ≡ whole []
+  pub others : (d : ℕ) → (d ≡ c → ⊥) → m .clients d ≡ n .clients d
+
+abbrev pub PiecesAreUsed : Type 0
+PiecesAreUsed = (table : List ℕ) (n : Node) (c : ℕ) (bs : List ℕ) (t a o : ℕ)
+    → step table n (Piece c bs t a o) .1 .number ≡ 0
+    → PieceUsed n (step table n (Piece c bs t a o) .0) c bs (step table n (Piece c bs t a o) .1)
+
+-- A `read` is replied to with the parameter that it asked for, as the node holds it, and sends nothing else.
+pub record ReadTold (w : Table) (n : Node) (c : ℕ) (bs : List ℕ) (r : Report) (rs : List Record) : Type 0 where
+  pub k : ℕ
+  pub p : Placed Parameter
+  pub there : getElem? (parameters w) k ≡ some p
+  pub asked : requestOf n c bs ≡ read (p .moduleName) (p .it .name)
+  pub tells : r ≡ reportOf p (n .values k)
+  pub alone : rs ≡ final c (reply r) ∷ []
+
+abbrev pub ReadsAreTrue : Type 0
+ReadsAreTrue = (table : List ℕ) (n : Node) (e : Call) (c : ℕ) (r : Report)
+    → List·Memᴰ (final c (reply r)) (step table n e .1 .records)
+    → OfPiece c (λ bs t. ReadTold (tableOf table) n c bs r (step table n e .1 .records)) e
+
+-- A command that is replied to by `done` was asked for by that line, with an argument that fits; the driver is ordered that command with the
+-- argument's stored form, and nothing else is sent.
+pub record CommandOrdered (w : Table) (n : Node) (c : ℕ) (bs : List ℕ) (t : ℕ) (r : Report) (rs : List Record) : Type 0 where
+  pub k : ℕ
+  pub p : Placed Command
+  pub offered : List ℕ
+  pub there : getElem? (commands w) k ≡ some p
+  pub asked : requestOf n c bs ≡ execute (p .moduleName) (p .it .name) offered
+  pub fitting : argumentVerdict (p .it .argument) offered ≡ fits
+  pub tells : r ≡ record { moduleName = p .moduleName; accessible = p .it .name; value = bytes "null"; time = t }
+  pub records : rs ≡ orderCommand c k (argumentForm (p .it .argument) offered) ∷ final c (done r) ∷ []
+
+abbrev pub CommandsAreOrdered : Type 0
+CommandsAreOrdered = (table : List ℕ) (n : Node) (e : Call) (c : ℕ) (r : Report)
+    → List·Memᴰ (final c (done r)) (step table n e .1 .records)
+    → OfPiece c (λ bs t. CommandOrdered (tableOf table) n c bs t r (step table n e .1 .records)) e
 
 -- ## A change that is refused alters nothing for anyone
 

@@ -1,6 +1,6 @@
 ghost use mathlib.Core.Bool.{true};
 ghost use mathlib.Core.Path.{_≡_};
-ghost use Rattle.rule.specs.Theorems.{UpdatesGoToActiveClients, ChangesAreSentToAll, ReadingsAreSentToAll, ValuesAlterBySettings, ActivationsSendAll, ActivationsAreOnesOwn, OneReplyForEachLine, ErrorsAlterNothing, RefusalsAlterNothing};
+ghost use Rattle.rule.specs.Theorems.{UpdatesGoToActiveClients, ChangesAreSentToAll, ReadingsAreSentToAll, ValuesAlterBySettings, ActivationsSendAll, ActivationsAreOnesOwn, ParametersBelong, OneReplyForEachLine, PiecesAreUsed, ReadsAreTrue, CommandsAreOrdered, ErrorsAlterNothing, RefusalsAlterNothing};
 
 // Each function here promises a theorem about the definitions. Nothing is run.
 
@@ -46,9 +46,37 @@ pub fn activations_are_ones_own() -> bool
     true
 }
 
+// A parameter stands in the module under whose name it is sent.
+pub fn parameters_belong() -> bool
+    ensures { λ r. ⌜ (r ≡ true) × ParametersBelong ⌝ }
+{
+    true
+}
+
 // Each line feed that is used has one final reply, to its sender, and nobody else has one.
 pub fn one_reply_for_each_line() -> bool
     ensures { λ r. ⌜ (r ≡ true) × OneReplyForEachLine ⌝ }
+{
+    true
+}
+
+// A piece is used up to its first line feed; its line is then empty, and nobody else's is touched.
+pub fn pieces_are_used() -> bool
+    ensures { λ r. ⌜ (r ≡ true) × PiecesAreUsed ⌝ }
+{
+    true
+}
+
+// A read is replied to with what the node holds of the parameter that was asked for.
+pub fn reads_are_true() -> bool
+    ensures { λ r. ⌜ (r ≡ true) × ReadsAreTrue ⌝ }
+{
+    true
+}
+
+// A command is ordered as its line asked for it.
+pub fn commands_are_ordered() -> bool
+    ensures { λ r. ⌜ (r ≡ true) × CommandsAreOrdered ⌝ }
 {
     true
 }
