@@ -22,22 +22,26 @@ use Rattle.datainfo.specs.Members.{afterHeld, afterMember, afterMembers,
 
 -- ## Readers, seen through what they leave
 
-module _ {A B : Type 0} where
-  -- what is read is kept in another value, and what is left goes on
-  pub rest-then : (o : Option (A × List ℕ)) (f : A × List ℕ → Option (B × List ℕ)) (g : List ℕ → Option (List ℕ)) → ((p : A × List ℕ) → rest (f p) ≡ g (p .1)) → rest (o >>= f) ≡ (rest o >>= g)
-  rest-then none f g h = refl
-  rest-then (some p) f g h = h p
+-- something that is seen of a reader's answer, nothing where it reads nothing: what is left, or what a test says of what was read
+module _ {A B D : Type 0} (see : Option B → Option D) (z : see none ≡ none) where
+  pub seen-then : (o : Option (A × List ℕ)) (f : A × List ℕ → Option B) (g : List ℕ → Option D) → ((p : A × List ℕ) → see (f p) ≡ g (p .1)) → see (o >>= f) ≡ (rest o >>= g)
+  seen-then none f g h = z
+  seen-then (some p) f g h = h p
 
-  pub rest-map : (o : Option (A × List ℕ)) (f : A × List ℕ → B) → rest (o >>= λ p. some (f p, p .1)) ≡ rest o
+module _ {A B : Type 0} where
+  rest-then : (o : Option (A × List ℕ)) (f : A × List ℕ → Option (B × List ℕ)) (g : List ℕ → Option (List ℕ)) → ((p : A × List ℕ) → rest (f p) ≡ g (p .1)) → rest (o >>= f) ≡ (rest o >>= g)
+  rest-then o f g h = seen-then rest refl o f g h
+
+  rest-map : (o : Option (A × List ℕ)) (f : A × List ℕ → B) → rest (o >>= λ p. some (f p, p .1)) ≡ rest o
   rest-map none f = refl
   rest-map (some p) f = refl
 
 module _ {A B C : Type 0} where
-  then-then : (o : Option A) (f : A → Option B) (g : B → Option C) → ((o >>= f) >>= g) ≡ (o >>= λ a. f a >>= g)
+  pub then-then : (o : Option A) (f : A → Option B) (g : B → Option C) → ((o >>= f) >>= g) ≡ (o >>= λ a. f a >>= g)
   then-then none f g = refl
   then-then (some a) f g = refl
 
-then-some : {A : Type 0} (o : Option A) → (o >>= some) ≡ o
+pub then-some : {A : Type 0} (o : Option A) → (o >>= some) ≡ o
 then-some none = refl
 then-some (some a) = refl
 
@@ -52,13 +56,19 @@ unfolding signed
 signed-rest n xs = rest-map (part n xs) _
 
 module _ (s : List ℕ) (at : ℕ) where
-  pub part-good : (n : ℕ) → at ≤ length s → n ≤ length s - at → Ends s (At (at + n)) (rest (part n (drop at s)))
+  pub part-whole : (n : ℕ) → n ≤ length s - at → part n (drop at s) ≡ some (take n (drop at s), drop (at + n) s)
   unfolding part
-  part-good n w h = (simp (length-drop, le-leb _ _ h, drop-drop), omega arith)
+  part-whole n h = simp (length-drop, le-leb _ _ h, drop-drop)
+
+  pub part-cut : (n : ℕ) → length s - at < n → part n (drop at s) ≡ none
+  unfolding part
+  part-cut n h = simp (length-drop, lt-leb _ _ h)
+
+  pub part-good : (n : ℕ) → at ≤ length s → n ≤ length s - at → Ends s (At (at + n)) (rest (part n (drop at s)))
+  part-good n w h = (rw (part-whole n h), omega arith)
 
   pub part-bad : (n : ℕ) → length s - at < n → rest (part n (drop at s)) ≡ none
-  unfolding part
-  part-bad n h = simp (length-drop, lt-leb _ _ h)
+  part-bad n h = rw (part-cut n h)
 
   pub one-byte : at < length s → unsigned 1 (drop at s) ≡ some (getD s at 0, drop (at + 1) s)
   unfolding unsigned part bigEndian bigEndianFrom
@@ -83,13 +93,13 @@ part-part a b xs = go (leb a (length xs)) refl
 
 -- a reader of a bytes, one of b bytes, and what goes on
 module _ {A B C : Type 0} (a b : ℕ) (f : List ℕ → Option (A × List ℕ)) (g : List ℕ → Option (B × List ℕ)) (ha : (xs : List ℕ) → rest (f xs) ≡ rest (part a xs)) (hb : (xs : List ℕ) → rest (g xs) ≡ rest (part b xs)) where
-  two-then : (h : A × List ℕ → B × List ℕ → Option (C × List ℕ)) (k : List ℕ → Option (List ℕ)) → ((p : A × List ℕ) (q : B × List ℕ) → rest (h p q) ≡ k (q .1)) → (xs : List ℕ) → rest (f xs >>= λ p. g (p .1) >>= h p) ≡ (rest (part (a + b) xs) >>= k)
-  two-then h k e xs =
-      rest-then (f xs) _ (λ r. rest (part b r) >>= k) (λ p. rest-then (g (p .1)) _ k (e p) ∙ rw (hb (p .1)))
+  pub two-then : {D : Type 0} (see : Option C → Option D) → see none ≡ none → (h : A × List ℕ → B × List ℕ → Option C) (k : List ℕ → Option D) → ((p : A × List ℕ) (q : B × List ℕ) → see (h p q) ≡ k (q .1)) → (xs : List ℕ) → see (f xs >>= λ p. g (p .1) >>= h p) ≡ (rest (part (a + b) xs) >>= k)
+  two-then see z h k e xs =
+      seen-then see z (f xs) _ (λ r. rest (part b r) >>= k) (λ p. seen-then see z (g (p .1)) _ k (e p) ∙ rw (hb (p .1)))
       ∙ rw (ha xs, ← (part-part a b xs)) (sym (then-then (rest (part a xs)) (λ r. rest (part b r)) k))
 
-  two : (m : A × List ℕ → B × List ℕ → C) (xs : List ℕ) → rest (f xs >>= λ p. g (p .1) >>= λ q. some (m p q, q .1)) ≡ rest (part (a + b) xs)
-  two m xs = two-then (λ p q. some (m p q, q .1)) some (λ p q. refl) xs ∙ then-some _
+two : {A B C : Type 0} (a b : ℕ) (f : List ℕ → Option (A × List ℕ)) (g : List ℕ → Option (B × List ℕ)) → ((xs : List ℕ) → rest (f xs) ≡ rest (part a xs)) → ((xs : List ℕ) → rest (g xs) ≡ rest (part b xs)) → (m : A × List ℕ → B × List ℕ → C) (xs : List ℕ) → rest (f xs >>= λ p. g (p .1) >>= λ q. some (m p q, q .1)) ≡ rest (part (a + b) xs)
+two a b f g ha hb m xs = two-then a b f g ha hb rest refl (λ p q. some (m p q, q .1)) some (λ p q. refl) xs ∙ then-some _
 
 limit-rest : (xs : List ℕ) → rest (limit xs) ≡ rest (part 9 xs)
 unfolding limit
@@ -110,11 +120,11 @@ string-rest xs = two 2 2 (unsigned 2) (unsigned 2) (unsigned-rest 2) (unsigned-r
 -- ## Members, whatever they are
 
 module _ (f : List ℕ → Option (Datainfo × List ℕ)) where
-  array-rest : (xs : List ℕ) → rest (arrayAt f xs) ≡ (rest (part 4 xs) >>= λ r. rest (f r))
+  pub array-rest : (xs : List ℕ) → rest (arrayAt f xs) ≡ (rest (part 4 xs) >>= λ r. rest (f r))
   unfolding arrayAt
-  array-rest xs = two-then 2 2 (unsigned 2) (unsigned 2) (unsigned-rest 2) (unsigned-rest 2) _ (λ r. rest (f r)) (λ p q. rest-map (f (q .1)) _) xs
+  array-rest xs = two-then 2 2 (unsigned 2) (unsigned 2) (unsigned-rest 2) (unsigned-rest 2) rest refl _ (λ r. rest (f r)) (λ p q. rest-map (f (q .1)) _) xs
 
-  variants-rest : (n : ℕ) (xs : List ℕ) → rest (variants n xs) ≡ afterMembers f 4 n xs
+  pub variants-rest : (n : ℕ) (xs : List ℕ) → rest (variants n xs) ≡ afterMembers f 4 n xs
   unfolding variants afterHeld afterMember afterMembers
   variants-rest zero xs = refl
   variants-rest (suc n) xs =
@@ -257,19 +267,25 @@ module _ (s : List ℕ) (at l k : ℕ) where
     unfolding typed
     typed-struct e h = rw e (simp (struct-rest (datainfoIn l)) h)
 
+datainfo-step : (n : ℕ) (xs : List ℕ) → (n ≡ 0 → ⊥) → datainfoIn n xs ≡ (unsigned 1 xs >>= λ p. typed (datainfoIn (n - 1)) (p .0) (p .1))
+unfolding datainfoIn
+datainfo-step zero xs z = absurd (z refl)
+datainfo-step (suc n) xs z = rw (sub-one (suc n))
+
 module _ (s : List ℕ) (at l : ℕ) where
   pub datainfo-fifth : l ≡ 0 → rest (datainfoIn l (drop at s)) ≡ none
   unfolding datainfoIn
   datainfo-fifth e = rw e
 
   module _ (h : l ≡ 0 → ⊥) where
-    step : (n : ℕ) (xs : List ℕ) → (n ≡ 0 → ⊥) → datainfoIn n xs ≡ (unsigned 1 xs >>= λ p. typed (datainfoIn (n - 1)) (p .0) (p .1))
-    unfolding datainfoIn
-    step zero xs z = absurd (z refl)
-    step (suc n) xs z = rw (sub-one (suc n))
+    pub datainfo-cut : length s ≤ at → datainfoIn l (drop at s) ≡ none
+    datainfo-cut w = simp (datainfo-step l (drop at s) h, no-byte s at w)
+
+    pub datainfo-typed : at < length s → datainfoIn l (drop at s) ≡ typed (datainfoIn (l - 1)) (getD s at 0) (drop (at + 1) s)
+    datainfo-typed w = simp (datainfo-step l (drop at s) h, one-byte s at w)
 
     pub datainfo-none : length s ≤ at → rest (datainfoIn l (drop at s)) ≡ none
-    datainfo-none w = simp (step l (drop at s) h, no-byte s at w)
+    datainfo-none w = rw (datainfo-cut w)
 
     pub datainfo-some : (r : Next) → at < length s → Ends s r (rest (typed (datainfoIn (l - 1)) (getD s at 0) (drop (at + 1) s))) → Ends s r (rest (datainfoIn l (drop at s)))
-    datainfo-some r w k = simp (step l (drop at s) h, one-byte s at w) k
+    datainfo-some r w k = rw (datainfo-typed w) k
