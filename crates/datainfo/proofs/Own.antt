@@ -1,11 +1,9 @@
 -- Laws of what is asked of a datainfo itself, not of those inside it, one for each way through a function. Assumes nothing.
-use Prim.Native.Nat.{ℕ, zero, suc, _+_, _-_, _^_, _≤_, _<_}
-use native.Mathlib.Numerals.{sub-one}
-use native.Mathlib.Omega.{arith}
+use Prim.Native.Nat.{ℕ, _^_, _≤_, _<_}
 use mathlib.Core.Path.{_≡_, refl, sym, ap, _∙_}
-use mathlib.Core.Bool.{Bool, true, false, cond, not, _&&_, and-true, and-assoc}
-use mathlib.Core.List.{List, [], _∷_, map}
-use mathlib.Core.Option.{Option, none, some, Option·getD}
+use mathlib.Core.Bool.{Bool, true, false, cond, not, _&&_, and-true}
+use mathlib.Core.List.{List}
+use mathlib.Core.Option.{Option, none, some}
 use lib.ListN.{length, getD, drop}
 use lib.IntN.{ℤ, pos, negsuc}
 use lib.Dec.{leb, ltb, eqb}
@@ -13,28 +11,25 @@ use lib.Signed.{mag, leZ, ltZ}
 use mir.Syntax.{w8, w64}
 use mir.Val.{hbits, toZ, ofZ}
 use mir.Facts.{toZ-ofZ}
-use borrow.Author.Tests.{ltb-true, ltb-false, le-leb, lt-leb, eq-eqb, ne-eqb, not-true, not-false}
-use Rattle.ascii.specs.declared.Next.{Next}
-use Rattle.ascii.specs.declared.Next.the-variants.{At, Bad}
+use borrow.Author.Tests.{ltb-true, ltb-false, le-leb, lt-leb, ne-eqb, not-true, not-false}
 use Rattle.ascii.specs.declared.Unsigned as U
 use Rattle.ascii.specs.declared.Unsigned.{Unsigned}
 use Rattle.ascii.specs.declared.Signed as S
 use Rattle.ascii.specs.declared.Signed.{Signed}
 use Rattle.ascii.specs.declared.SignedByte as B
 use Rattle.ascii.specs.declared.SignedByte.{SignedByte}
-use Rattle.ascii.specs.Bytes.{_>>=_, part, all, isIn}
+use Rattle.ascii.specs.Bytes.{_>>=_, all, isIn}
 use Rattle.ascii.specs.Numbers.{unsigned, signed}
-use Rattle.ascii.specs.Reader.{Ends, rest}
 use Rattle.ascii.specs.Read.{ReadsUnsigned, ReadsSigned, ReadsSignedByte}
 use Rattle.decimal.specs.Decimal.{Decimal, atMost}
 use Rattle.datainfo.specs.declared.rules.Limit as L
 use Rattle.datainfo.specs.declared.rules.Limit.{Limit}
-use Rattle.datainfo.specs.Datainfo.{Variant, Datainfo, double, int, bool, enum, string, array, tuple, struct, Elements, no-elements, element, elementCount, Fields, no-fields, field, fieldNames}
-use Rattle.datainfo.specs.Layout.{counted, limit, doubleAt, intAt, variants, enumAt, stringAt, arrayAt, elements, tupleAt, fields, structAt, typed, datainfoIn}
-use Rattle.datainfo.specs.Rules.{goodNames, namesGood, elementsNamesGood, fieldsNamesGood, powerGood, isBetween, valuesUnique, rulesKept, elementsRulesKept, fieldsRulesKept}
-use Rattle.datainfo.specs.Kept.{Says, asked, kept, elementList, fieldList, inside, insideKept, Decides, Ordered, ReadsLimit, nameOf, numberOf, keysGood, starts, startsAt, beforeHeld, heldKept, heldKeptAt}
-use Rattle.datainfo.proofs.Ends.{one-byte, no-byte, then-then, two-then, unsigned-rest, datainfo-cut, datainfo-typed}
-use Rattle.datainfo.proofs.Keys.{names-keys, numbers-keys, AsVariants, AsFields, variants-read, fields-read, elements-read}
+use Rattle.datainfo.specs.Datainfo.{Variant, Datainfo, double, int, bool, enum, string, array, tuple, struct, Elements, no-elements, element, Fields, no-fields, field}
+use Rattle.datainfo.specs.Layout.{limit, doubleAt, intAt, variants, enumAt, stringAt, arrayAt, elements, tupleAt, fields, structAt, typed, datainfoIn}
+use Rattle.datainfo.specs.Rules.{namesGood, elementsNamesGood, fieldsNamesGood, powerGood, isBetween, rulesKept, elementsRulesKept, fieldsRulesKept}
+use Rattle.datainfo.specs.Kept.{Says, asked, kept, elementList, fieldList, inside, insideKept, Decides, Ordered, ReadsLimit, keysGood, starts, startsAt}
+use Rattle.datainfo.proofs.Ends.{one-byte, no-byte}
+use Rattle.datainfo.proofs.Keys.{names-keys, numbers-keys, variants-read, fields-read, elements-read}
 
 -- ## Counts
 
@@ -220,77 +215,50 @@ unfolding fieldsRulesKept fieldList all kept
 fields-rules no-fields = refl
 fields-rules (field k d fs) = rw (fields-rules fs)
 
--- an enum with too few or too many members
-pub enum-uncounted : (xs : List ℕ) (t : Bool) → Says t (asked (isBetween 1 32) (unsigned 1 xs)) → not t ≡ true → Decides false false (enumAt xs)
-unfolding enumAt kept rulesKept
-enum-uncounted xs t c z = go (unsigned 1 xs) c
+-- a count byte n, and as many members q that are made into a datainfo
+count-decides : {A : Type 0} (names r : Bool) (g : ℕ → List ℕ → Option (A × List ℕ)) (m : A → Datainfo) (xs : List ℕ) → ((n : ℕ) (ys : List ℕ) (q : A × List ℕ) → unsigned 1 xs ≡ some (n, ys) → g n ys ≡ some q → kept names (m (q .0)) ≡ (r && insideKept names (m (q .0)))) → Decides names r (unsigned 1 xs >>= λ p. g (p .0) (p .1) >>= λ q. some (m (q .0), q .1))
+count-decides {A = A} names r g m xs h = go (unsigned 1 xs) refl
   where
-    one : (n : ℕ) (ys : List ℕ) → t ≡ isBetween 1 32 n → (o : Option (List Variant × List ℕ)) → variants n ys ≡ o → Decides false false (o >>= λ q. some (enum (q .0), q .1))
-    one n ys h none e = tt
-    one n ys h (some q) e = rw (variants-read (λ xs. none) n ys q e .many, sym h ∙ not-true t z)
-    go : (o : Option (ℕ × List ℕ)) → Says t (asked (isBetween 1 32) o) → Decides false false (o >>= λ p. variants (p .0) (p .1) >>= λ q. some (enum (q .0), q .1))
-    go none h = tt
-    go (some p) h = one (p .0) (p .1) h (variants (p .0) (p .1)) refl
+    one : (n : ℕ) (ys : List ℕ) → unsigned 1 xs ≡ some (n, ys) → (o : Option (A × List ℕ)) → g n ys ≡ o → Decides names r (o >>= λ q. some (m (q .0), q .1))
+    one n ys u none e = tt
+    one n ys u (some q) e = h n ys q u e
+
+    go : (o : Option (ℕ × List ℕ)) → unsigned 1 xs ≡ o → Decides names r (o >>= λ p. g (p .0) (p .1) >>= λ q. some (m (q .0), q .1))
+    go none u = tt
+    go (some p) u = one (p .0) (p .1) u (g (p .0) (p .1)) refl
 
 module _ (f : List ℕ → Option (Datainfo × List ℕ)) (xs : List ℕ) (r : Bool) where
-  -- an enum: its names; its numbers
-  pub enum-names : r ≡ keysGood true (startsAt f 4 xs) → Decides true r (enumAt xs)
+  -- an enum: its names; its count and numbers
+  enum-names : r ≡ keysGood true (startsAt f 4 xs) → Decides true r (enumAt xs)
   unfolding enumAt startsAt kept namesGood insideKept inside all
-  enum-names h = go (unsigned 1 xs) h
-    where
-      one : (n : ℕ) (ys : List ℕ) → r ≡ keysGood true (starts f 4 n ys) → (o : Option (List Variant × List ℕ)) → variants n ys ≡ o → Decides true r (o >>= λ q. some (enum (q .0), q .1))
-      one n ys h none e = tt
-      one n ys h (some q) e = rw (variants-read f n ys q e .names, names-keys (starts f 4 n ys), ← h) (sym (and-true r))
-      go : (o : Option (ℕ × List ℕ)) → r ≡ keysGood true (Option·getD (o >>= λ p. some (starts f 4 (p .0) (p .1))) []) → Decides true r (o >>= λ p. variants (p .0) (p .1) >>= λ q. some (enum (q .0), q .1))
-      go none h = tt
-      go (some p) h = one (p .0) (p .1) h (variants (p .0) (p .1)) refl
+  enum-names h =
+      count-decides true r variants enum xs λ n ys q u e. rw (variants-read f n ys q e .names, names-keys (starts f 4 n ys), ← (rw u at h)) (sym (and-true r))
 
   pub enum-numbers : (t : Bool) → Says t (asked (isBetween 1 32) (unsigned 1 xs)) → not t ≡ false → r ≡ keysGood false (startsAt f 4 xs) → Decides false r (enumAt xs)
   unfolding enumAt startsAt kept rulesKept insideKept inside all
-  enum-numbers t c z h = go (unsigned 1 xs) c h
-    where
-      one : (n : ℕ) (ys : List ℕ) → t ≡ isBetween 1 32 n → r ≡ keysGood false (starts f 4 n ys) → (o : Option (List Variant × List ℕ)) → variants n ys ≡ o → Decides false r (o >>= λ q. some (enum (q .0), q .1))
-      one n ys k h none e = tt
-      one n ys k h (some q) e =
-          rw (variants-read f n ys q e .many, sym k ∙ not-false t z, variants-read f n ys q e .numbers, numbers-keys (starts f 4 n ys), ← h) (sym (and-true r))
-      go : (o : Option (ℕ × List ℕ)) → Says t (asked (isBetween 1 32) o) → r ≡ keysGood false (Option·getD (o >>= λ p. some (starts f 4 (p .0) (p .1))) []) → Decides false r (o >>= λ p. variants (p .0) (p .1) >>= λ q. some (enum (q .0), q .1))
-      go none k h = tt
-      go (some p) k h = one (p .0) (p .1) k h (variants (p .0) (p .1)) refl
+  enum-numbers t c z h =
+      count-decides false r variants enum xs λ n ys q u e. rw (variants-read f n ys q e .many, sym (rw u at c) ∙ not-false t z, variants-read f n ys q e .numbers, numbers-keys (starts f 4 n ys), ← (rw u at h)) (sym (and-true r))
 
   -- a struct: its names; its count
-  pub struct-names : r ≡ keysGood true (startsAt f 8 xs) → Decides true r (structAt f xs)
+  struct-names : r ≡ keysGood true (startsAt f 8 xs) → Decides true r (structAt f xs)
   unfolding structAt startsAt kept namesGood insideKept inside
-  struct-names h = go (unsigned 1 xs) h
-    where
-      one : (n : ℕ) (ys : List ℕ) → r ≡ keysGood true (starts f 8 n ys) → (o : Option (Fields × List ℕ)) → fields f n ys ≡ o → Decides true r (o >>= λ q. some (struct (q .0), q .1))
-      one n ys h none e = tt
-      one n ys h (some q) e = rw (fields-read f n ys q e .names, names-keys (starts f 8 n ys), ← h, fields-names (q .0))
-      go : (o : Option (ℕ × List ℕ)) → r ≡ keysGood true (Option·getD (o >>= λ p. some (starts f 8 (p .0) (p .1))) []) → Decides true r (o >>= λ p. fields f (p .0) (p .1) >>= λ q. some (struct (q .0), q .1))
-      go none h = tt
-      go (some p) h = one (p .0) (p .1) h (fields f (p .0) (p .1)) refl
+  struct-names h =
+      count-decides true r (fields f) struct xs λ n ys q u e. rw (fields-read f n ys q e .names, names-keys (starts f 8 n ys), ← (rw u at h), fields-names (q .0))
 
-  module _ (c : Says r (asked (isBetween 1 8) (unsigned 1 xs))) where
-    struct-rules : Decides false r (structAt f xs)
-    unfolding structAt kept rulesKept insideKept inside
-    struct-rules = go (unsigned 1 xs) c
-      where
-        one : (n : ℕ) (ys : List ℕ) → r ≡ isBetween 1 8 n → (o : Option (Fields × List ℕ)) → fields f n ys ≡ o → Decides false r (o >>= λ q. some (struct (q .0), q .1))
-        one n ys h none e = tt
-        one n ys h (some q) e = rw (fields-read f n ys q e .many, ← h, fields-rules (q .0))
-        go : (o : Option (ℕ × List ℕ)) → Says r (asked (isBetween 1 8) o) → Decides false r (o >>= λ p. fields f (p .0) (p .1) >>= λ q. some (struct (q .0), q .1))
-        go none h = tt
-        go (some p) h = one (p .0) (p .1) h (fields f (p .0) (p .1)) refl
+  struct-rules : Says r (asked (isBetween 1 8) (unsigned 1 xs)) → Decides false r (structAt f xs)
+  unfolding structAt kept rulesKept insideKept inside
+  struct-rules c = count-decides false r (fields f) struct xs λ n ys q u e. rw (fields-read f n ys q e .many, ← (rw u at c), fields-rules (q .0))
 
-    tuple-rules : Decides false r (tupleAt f xs)
-    unfolding tupleAt kept rulesKept insideKept inside
-    tuple-rules = go (unsigned 1 xs) c
-      where
-        one : (n : ℕ) (ys : List ℕ) → r ≡ isBetween 1 8 n → (o : Option (Elements × List ℕ)) → elements f n ys ≡ o → Decides false r (o >>= λ q. some (tuple (q .0), q .1))
-        one n ys h none e = tt
-        one n ys h (some q) e = rw (elements-read f n ys q e, ← h, elements-rules (q .0))
-        go : (o : Option (ℕ × List ℕ)) → Says r (asked (isBetween 1 8) o) → Decides false r (o >>= λ p. elements f (p .0) (p .1) >>= λ q. some (tuple (q .0), q .1))
-        go none h = tt
-        go (some p) h = one (p .0) (p .1) h (elements f (p .0) (p .1)) refl
+  -- a tuple: its count
+  tuple-rules : Says r (asked (isBetween 1 8) (unsigned 1 xs)) → Decides false r (tupleAt f xs)
+  unfolding tupleAt kept rulesKept insideKept inside
+  tuple-rules c = count-decides false r (elements f) tuple xs λ n ys q u e. rw (elements-read f n ys q e, ← (rw u at c), elements-rules (q .0))
+
+-- an enum with too few or too many members
+pub enum-uncounted : (xs : List ℕ) (t : Bool) → Says t (asked (isBetween 1 32) (unsigned 1 xs)) → not t ≡ true → Decides false false (enumAt xs)
+unfolding enumAt kept rulesKept
+enum-uncounted xs t c z =
+    count-decides false false variants enum xs λ n ys q u e. rw (variants-read (λ ys. none) n ys q e .many, sym (rw u at c) ∙ not-true t z)
 
 -- what follows the type byte k
 module _ (s : List ℕ) (at l k : ℕ) (r : Bool) where
@@ -357,7 +325,9 @@ module _ (s : List ℕ) (at l k : ℕ) where
     where
       xs : List ℕ
       xs = drop at s
+
       f : List ℕ → Option (Datainfo × List ℕ)
       f = datainfoIn l
+
       named : Option (Datainfo × List ℕ) → Type 0
       named o = Decides true true o
