@@ -2,4 +2,5 @@ pub mod Datainfo
 pub mod Layout
 pub mod Members
 pub mod Rules
+pub mod Kept
 pub mod Fit

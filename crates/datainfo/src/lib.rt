@@ -1,2 +1,3 @@
 // Datainfo in the table's bytes, and which values fit it.
 pub mod layout;
+pub mod rules;
