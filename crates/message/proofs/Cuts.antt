@@ -1,5 +1,5 @@
 -- Laws of a part that is cut at the first and the second of some byte. Assumes nothing.
-use Prim.Native.Nat.{ℕ, suc, _+_, _-_, _≤_, _<_}
+use Prim.Native.Nat.{ℕ, _+_, _-_, _≤_, _<_}
 use native.Mathlib.Numerals.{add-one}
 use native.Mathlib.Omega.{arith}
 use borrow.Author.Tests.{eq-eqb, ne-eqb}
@@ -12,8 +12,7 @@ use lib.Dec.{eqb}
 use Rattle.ascii.specs.Bytes.{takeWhile, dropWhile, tail}
 use Rattle.ascii.proofs.Bytes.{tail-drop}
 use Rattle.message.specs.declared.line.Part.{Part}
-use Rattle.message.specs.declared.line.Cut.{Cut}
-use Rattle.message.specs.Parsed.{part, Within, before, fromStop, after, Stops, Goes, Cuts}
+use Rattle.message.specs.Parsed.{Within, before, fromStop, after, Stops, Goes, Cuts}
 
 -- ## The first of some byte
 

@@ -1,5 +1,5 @@
 -- Laws of a line's parts and of what they ask for, one for each way through a function. Assumes nothing.
-use Prim.Native.Nat.{ℕ, _-_, _≤_, _<_}
+use Prim.Native.Nat.{ℕ, _-_}
 use native.Mathlib.Omega.{arith}
 use native.Mathlib.Nat.{sub-zero}
 use borrow.Author.Tests.{eq-eqb, ne-eqb}
@@ -7,8 +7,7 @@ use mathlib.Core.Path.{_≡_, refl, sym, ap, _∙_}
 use mathlib.Core.Bool.{Bool, true, false, cond, _&&_}
 use mathlib.Core.List.{List, []}
 use mathlib.Core.Option.{none, some}
-use lib.Dec.{eqb}
-use lib.ListN.{length, take, drop, length-drop}
+use lib.ListN.{length, take, length-drop}
 use lib.Seq.{length-take-le}
 use Rattle.ascii.specs.Text.{bytes}
 use Rattle.ascii.specs.Bytes.{same}
@@ -16,7 +15,7 @@ use Rattle.ascii.specs.Names.{isName}
 use Rattle.message.specs.Line.{Parts, beforeSpace, afterSpace, partsOf, content, whole}
 use Rattle.message.specs.Request as R
 use Rattle.message.specs.Request.{modulePart, accessiblePart, scoped, named, request}
-use Rattle.message.specs.Parsed.{part, Within, Ends, before, fromStop, after, Cuts, Parted, actionOf, meaning, Inside, AsksScoped, AsksNamed, Asks, parts, switchRequest, verbRequest}
+use Rattle.message.specs.Parsed.{part, Within, Ends, before, fromStop, after, Cuts, Parted, actionOf, AsksScoped, AsksNamed, Asks, parts, switchRequest, verbRequest}
 use Rattle.message.specs.declared.line.Part.{Part}
 use Rattle.message.specs.declared.line.Cut.{Cut}
 use Rattle.message.specs.declared.line.Switch.{Switch}

@@ -1,5 +1,4 @@
 -- `message::line::cut_at` meets its contract. Assumes nothing.
-use native.Mathlib.Omega.{arith}
 use mathlib.Core.Path.{sym}
 use lib.Seq.{length-take-le}
 use Rattle.message.proofs.Cuts.{cuts}
