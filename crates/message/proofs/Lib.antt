@@ -1,0 +1,4 @@
+pub mod Content
+pub mod Cuts
+pub mod Requests
+pub mod Said

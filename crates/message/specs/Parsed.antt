@@ -1,0 +1,158 @@
+-- What the code that takes a line apart answers: a part of a line stands for the bytes between its positions. Assumes nothing.
+use Prim.Native.Nat.{ℕ, _≤_, _-_, _<_}
+use mathlib.Core.Path.{_≡_}
+use mathlib.Core.Bool.{cond, not}
+use mathlib.Core.List.{List, []}
+use mathlib.Core.Option.{Option, none, some}
+use lib.Dec.{eqb}
+use lib.ListN.{length, take, drop}
+use Rattle.ascii.specs.Text.{bytes}
+use Rattle.ascii.specs.Bytes.{takeWhile, dropWhile, tail, same}
+use Rattle.message.specs.Line.{Parts, content, whole, partsOf}
+use Rattle.message.specs.Request as R
+use Rattle.message.specs.Request.{scoped, named, orNull, request}
+use Rattle.message.specs.declared.line.Part.{Part}
+use Rattle.message.specs.declared.line.Cut.{Cut}
+use Rattle.message.specs.declared.line.Parsed.{Parsed}
+use Rattle.message.specs.declared.line.Parsed.the-variants.{Line, Bad}
+use Rattle.message.specs.declared.line.Switch.{Switch}
+use Rattle.message.specs.declared.line.Switch.the-variants.{On, Off}
+use Rattle.message.specs.declared.line.Verb.{Verb}
+use Rattle.message.specs.declared.line.Verb.the-variants as Verb
+use Rattle.message.specs.declared.line.Action.{Action}
+use Rattle.message.specs.declared.line.Action.the-variants.{Identify, Describe, Ping, Scoped, Named, Unknown}
+use Rattle.message.specs.declared.line.Request.{Request}
+use Rattle.message.specs.declared.line.Request.the-variants as Q
+
+-- ## Parts
+
+-- the bytes of a part
+abbrev pub part : List ℕ → Part → List ℕ
+part xs p = take (p .to - p .from) (drop (p .from) xs)
+
+-- a part that stands within a line
+pub record Within (xs : List ℕ) (p : Part) : Type 0 where
+  pub ordered : p .from ≤ p .to
+  pub within : p .to ≤ length xs
+
+-- the bytes of s up to position r are xs
+pub record Ends (s : List ℕ) (r : ℕ) (xs : List ℕ) : Type 0 where
+  pub is : take r s ≡ xs
+  pub within : r ≤ length s
+
+-- the bytes before the first byte `stop`, from it on, and after it
+unfoldable pub before : ℕ → List ℕ → List ℕ
+before stop xs = takeWhile (λ b. not (eqb b stop)) xs
+
+unfoldable pub fromStop : ℕ → List ℕ → List ℕ
+fromStop stop xs = dropWhile (λ b. not (eqb b stop)) xs
+
+unfoldable pub after : ℕ → List ℕ → List ℕ
+after stop xs = tail (fromStop stop xs)
+
+-- r is the position of the first `stop` of s, from a position on, or the end
+pub record Stops (s : List ℕ) (from stop r : ℕ) : Type 0 where
+  pub is : fromStop stop (drop from s) ≡ drop r s
+  pub low : from ≤ r
+  pub high : r ≤ length s
+
+-- r is the position after the byte at a position, or the end
+pub record Goes (s : List ℕ) (at r : ℕ) : Type 0 where
+  pub is : tail (drop at s) ≡ drop r s
+  pub low : at ≤ r
+  pub high : r ≤ length s
+
+-- a part cut at the first and the second `stop`
+pub record Cuts (xs : List ℕ) (p : Part) (stop : ℕ) (r : Cut) : Type 0 where
+  pub first : part xs (r .first) ≡ before stop (part xs p)
+  pub second : part xs (r .second) ≡ before stop (after stop (part xs p))
+  pub rest : part xs (r .rest) ≡ after stop (after stop (part xs p))
+  pub first-in : Within xs (r .first)
+  pub second-in : Within xs (r .second)
+  pub rest-in : Within xs (r .rest)
+
+-- the three parts of a line that has content
+pub record Parted (xs : List ℕ) (action specifier payload : Part) : Type 0 where
+  pub some : 0 < length (content (whole xs))
+  pub action-is : part xs action ≡ partsOf (content (whole xs)) .action
+  pub specifier-is : part xs specifier ≡ partsOf (content (whole xs)) .specifier
+  pub payload-is : part xs payload ≡ partsOf (content (whole xs)) .payload
+  pub action-in : Within xs action
+  pub specifier-in : Within xs specifier
+  pub payload-in : Within xs payload
+
+-- a line without content is bad
+abbrev pub Parses : List ℕ → Parsed → Type 0
+Parses xs Bad = content (whole xs) ≡ []
+Parses xs (Line a s p) = Parted xs a s p
+
+-- ## Requests
+
+-- the word that an action is, in the order of `request`
+unfoldable pub actionOf : List ℕ → Action
+actionOf xs =
+    cond (same xs (bytes "*IDN?")) Identify
+    (cond (same xs (bytes "describe")) Describe
+    (cond (same xs (bytes "ping")) Ping
+    (cond (same xs (bytes "activate")) (Scoped On)
+    (cond (same xs (bytes "deactivate")) (Scoped Off)
+    (cond (same xs (bytes "read")) (Named Verb.Read)
+    (cond (same xs (bytes "change")) (Named Verb.Change)
+    (cond (same xs (bytes "do")) (Named Verb.Execute)
+    Unknown)))))))
+
+-- what the code's answer stands for, on a line xs with the specifier s and the data x
+abbrev pub meaning : List ℕ → List ℕ → List ℕ → Request → R.Request
+meaning xs s x Q.Identify = R.identify
+meaning xs s x Q.Describe = R.describe
+meaning xs s x Q.Ping = R.ping s
+meaning xs s x Q.ActivateAll = R.activate none
+meaning xs s x (Q.Activate m) = R.activate (some (part xs m))
+meaning xs s x Q.DeactivateAll = R.deactivate none
+meaning xs s x (Q.Deactivate m) = R.deactivate (some (part xs m))
+meaning xs s x (Q.Read m a) = R.read (part xs m) (part xs a)
+meaning xs s x (Q.Change m a) = R.change (part xs m) (part xs a) (orNull x)
+meaning xs s x (Q.Execute m a) = R.execute (part xs m) (part xs a) (orNull x)
+meaning xs s x Q.Malformed = R.malformed
+
+-- the names of a request stand within the line
+abbrev pub Inside : List ℕ → Request → Type 0
+Inside xs Q.Identify = Unit
+Inside xs Q.Describe = Unit
+Inside xs Q.Ping = Unit
+Inside xs Q.ActivateAll = Unit
+Inside xs (Q.Activate m) = Within xs m
+Inside xs Q.DeactivateAll = Unit
+Inside xs (Q.Deactivate m) = Within xs m
+Inside xs (Q.Read m a) = (Within xs m) × (Within xs a)
+Inside xs (Q.Change m a) = (Within xs m) × (Within xs a)
+Inside xs (Q.Execute m a) = (Within xs m) × (Within xs a)
+Inside xs Q.Malformed = Unit
+
+-- a line's parts, with the data x
+abbrev pub parts : List ℕ → Part → Part → List ℕ → Parts
+parts xs a s x = record { action = part xs a; specifier = part xs s; payload = x }
+
+-- the requests on modules, and on accessibles with the data x
+abbrev pub switchRequest : Switch → Option (List ℕ) → R.Request
+switchRequest On = R.activate
+switchRequest Off = R.deactivate
+
+abbrev pub verbRequest : Verb → List ℕ → List ℕ → List ℕ → R.Request
+verbRequest Verb.Read x m a = R.read m a
+verbRequest Verb.Change x m a = R.change m a (orNull x)
+verbRequest Verb.Execute x m a = R.execute m a (orNull x)
+
+-- the answer r, on a line xs, stands for what a specifier asks of modules; of accessibles, whatever the data is; and for what the
+-- line's action and specifier ask for
+pub record AsksScoped (xs : List ℕ) (specifier : Part) (v : Switch) (r : Request) : Type 0 where
+  pub is : (x : List ℕ) → meaning xs (part xs specifier) x r ≡ scoped (switchRequest v) (part xs specifier)
+  pub inside : Inside xs r
+
+pub record AsksNamed (xs : List ℕ) (specifier : Part) (v : Verb) (r : Request) : Type 0 where
+  pub is : (x : List ℕ) → meaning xs (part xs specifier) x r ≡ named (verbRequest v x) (part xs specifier)
+  pub inside : Inside xs r
+
+pub record Asks (xs : List ℕ) (action specifier : Part) (r : Request) : Type 0 where
+  pub is : (x : List ℕ) → meaning xs (part xs specifier) x r ≡ request (parts xs action specifier x)
+  pub inside : Inside xs r
