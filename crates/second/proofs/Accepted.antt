@@ -70,7 +70,7 @@ module _ (table : List ℕ) where
         (acceptedCalls table m h)
         (step table n e .1 .number)
         (λ s. zero-call n e s .1)
-        (used-open table n _ (m, step table n e .1 .records) (step-used table n e z))
+        (used-open table n _ (m, step table n e .1 .records) (step-used table n e))
         (all-asked h m)
         l
         c

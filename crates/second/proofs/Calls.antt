@@ -89,6 +89,19 @@ module _ (table : List ℕ) where
       let x = getElem? (parameters (tableOf table)) p in
       rw z (roomier o a t 13 14 (not (isSome x)) (not (isFit (readingVerdict x bs))))
 
+-- where there is no fault the first is none, and that is the table's
+pub lowest-first : (k : ℕ) (ks : List ℕ) → lowest (k ∷ ks) ≡ 0 → k ≡ 0
+unfolding lowest
+lowest-first zero ks e = refl
+lowest-first (suc k) ks e = e
+
+good-table : (table : List ℕ) (n : Node) (e : Call) → callNumber table false n e ≡ 0 → tableNumber table ≡ 0
+unfolding callNumber
+good-table table n (Open c t a) = lowest-first (tableNumber table) _
+good-table table n (Close c t a) = lowest-first (tableNumber table) _
+good-table table n (Piece c bs t a o) = lowest-first (tableNumber table) _
+good-table table n (Reading p bs t a o) = lowest-first (tableNumber table) _
+
 -- ## Items of an accepted call
 
 -- an item that is a client's, or another's, before items that are in order
@@ -116,7 +129,7 @@ module _ (c t : ℕ) where
       go true k = order-own d b (mark (feeds c t)) [] (eqb d c) h refl refl
       go false k = order-own d b (byte c v) (own d (pieceItems c t bs)) (eqb d c) h k k
 
-  order-piece : (b : Bool) (v : ℕ) (bs : List ℕ) → So (inOrder c b (own c (pieceItems c t (v ∷ bs)))) → So (due c b (mark (feeds c t)))
+  pub order-piece : (b : Bool) (v : ℕ) (bs : List ℕ) → So (inOrder c b (own c (pieceItems c t (v ∷ bs)))) → So (due c b (mark (feeds c t)))
   unfolding pieceItems own itemOf markOf
   order-piece b v bs = go (eqb v 10)
     where
@@ -244,15 +257,14 @@ module _ (table : List ℕ) (n : Node) (e : Call) where
       go (suc j) = refl
 
   -- Every call, accepted or not, does what the items that it used do.
-  pub step-used : tableNumber table ≡ 0
-      → Used table n (kept (step table n e .1 .number) (itemsOf e)) (step table n e .0, step table n e .1 .records)
+  pub step-used : Used table n (kept (step table n e .1 .number) (itemsOf e)) (step table n e .0, step table n e .1 .records)
   unfolding step stepIf settle kept
-  step-used z = go (callNumber table false n e) refl
+  step-used = go (callNumber table false n e) refl
     where
       go : (j : ℕ) → callNumber table false n e ≡ j → let r = settle j n (effect (tableOf table) n e) in
           Used table n (kept (r .1 .number) (itemsOf e)) (r .0, r .1 .records)
       go zero q =
-          let h = accepts table z n e .0 q .1 in
+          let h = accepts table (good-table table n e q) n e .0 q .1 in
           record {
             ran = effect-run (tableOf table) n e;
             ordered = call-order table n e h;

@@ -17,7 +17,7 @@ own-append d (i ∷ x) y = ap (consIf (itemOf d i) i) (own-append d x y) ∙ go 
     go true = refl
     go false = refl
 
-marks-append : (x y : List Item) → marks (x ++ y) ≡ marks x ++ marks y
+pub marks-append : (x y : List Item) → marks (x ++ y) ≡ marks x ++ marks y
 unfolding marks
 marks-append [] y = refl
 marks-append (byte c b ∷ x) y = marks-append x y

@@ -4,3 +4,4 @@ pub mod Runs
 pub mod Calls
 pub mod Second
 pub mod Accepted
+pub mod Moves

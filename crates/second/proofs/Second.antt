@@ -1,12 +1,12 @@
 -- A second history's calls are accepted, the same bytes are sent and the node ends the same. Assumes nothing.
-use Prim.Native.Nat.{ℕ, zero, suc}
+use Prim.Native.Nat.{ℕ}
 use mathlib.Core.Bool.{true, not, _&&_, So, false≢true}
 use mathlib.Core.List.{List, [], _∷_, _++_}
 use mathlib.Core.Path.{_≡_, refl, sym, _∙_, ap, ap₂, subst}
 use lib.Dec.{ltb}
 use Rattle.ascii.specs.Bytes.{all}
 use Rattle.table.specs.Layout.{tableOf}
-use Rattle.report.specs.Judge.{tableNumber, lowest}
+use Rattle.report.specs.Judge.{tableNumber}
 use Rattle.outbox.specs.Outbox.{Record, encodeAll}
 use Rattle.plain.specs.Node.{Node, begin, isOpen}
 use Rattle.plain.specs.Calls.{Call, Piece, fault8, fault10, startNumber}
@@ -14,7 +14,7 @@ use Rattle.plain.specs.History.{step, answers, finish, sent, sentBytes, AllAcce
 use Rattle.second.specs.Theorems.{SecondHistoriesAreAlike}
 use Rattle.second.proofs.Items.{own-append, standing-append, inOrder, own-both, marks-both, order-small}
 use Rattle.second.proofs.Runs.{run, run-append, same-run, run-open}
-use Rattle.second.proofs.Calls.{readable, permitted, accepts, order-call, Used, none-used, step-number, step-used}
+use Rattle.second.proofs.Calls.{readable, permitted, accepts, lowest-first, order-call, Used, none-used, step-number, step-used}
 
 module _ (table : List ℕ) where
   -- ## Items that were used
@@ -53,12 +53,12 @@ module _ (table : List ℕ) where
       ∙ sym (standing-append (isOpen (n .clients c)) (own c (itemsOf e)) (own c (items l)))
       ∙ ap (standing (isOpen (n .clients c))) (sym (own-append c (itemsOf e) (items l)))
 
-  module _ (z : tableNumber table ≡ 0) where
-    all-used : (h : List Call) (n : Node) → Used table n (taken table n h) (finish table n h, sent (answers table n h))
-    unfolding taken finish answers sent
-    all-used [] n = none-used table n
-    all-used (e ∷ h) n = used-append n _ _ _ _ (step-used table n e z) (all-used h (step table n e .0))
+  pub all-used : (h : List Call) (n : Node) → Used table n (taken table n h) (finish table n h, sent (answers table n h))
+  unfolding taken finish answers sent
+  all-used [] n = none-used table n
+  all-used (e ∷ h) n = used-append n _ _ _ _ (step-used table n e) (all-used h (step table n e .0))
 
+  module _ (z : tableNumber table ≡ 0) where
     -- ## The second history
 
     -- its calls are accepted, and use all their items, where only clients with small numbers are open
@@ -82,7 +82,7 @@ module _ (table : List ℕ) where
         ap₂ (λ a b. a && not (not b)) (small c s) s) in
         let a : step table n e .1 .number ≡ 0 = step-number table n e ∙ accepts table z n e .1 (room .0, p) in
         let u : (d : ℕ) → isOpen (m .clients d) ≡ standing (isOpen (n .clients d)) (own d x) =
-        used-open n x (m, step table n e .1 .records) (subst (λ j. Used table n (kept j x) (m, step table n e .1 .records)) a (step-used table n e z)) in
+        used-open n x (m, step table n e .1 .records) (subst (λ j. Used table n (kept j x) (m, step table n e .1 .records)) a (step-used table n e)) in
         let r =
         wholly
         k
@@ -118,12 +118,8 @@ module _ (table : List ℕ) where
 -- ## From the start
 
 pub good-table : (table : List ℕ) (area time : ℕ) → startNumber table area time ≡ 0 → tableNumber table ≡ 0
-unfolding startNumber lowest
-good-table table area time = go (tableNumber table) (fault8 area ∷ fault10 time ∷ [])
-  where
-    go : (k : ℕ) (ks : List ℕ) → lowest (k ∷ ks) ≡ 0 → k ≡ 0
-    go zero ks e = refl
-    go (suc k) ks e = e
+unfolding startNumber
+good-table table area time = lowest-first (tableNumber table) (fault8 area ∷ fault10 time ∷ [])
 
 pub second-histories-are-alike : SecondHistoriesAreAlike
 unfolding begin isOpen

@@ -1,11 +1,14 @@
 -- Demand 3's second half, of the plain node. Assumes nothing.
 use Prim.Native.Nat.{ℕ, zero, suc}
-use mathlib.Core.List.{List, [], _∷_}
+use mathlib.Core.Bool.{Bool, false}
+use mathlib.Core.List.{List, [], _∷_, _++_}
+use mathlib.Core.Logic.{_↔_}
 use mathlib.Core.Path.{_≡_}
+use lib.Dec.{eqb}
 use Rattle.table.specs.Layout.{tableOf}
 use Rattle.plain.specs.Node.{Node, begin}
-use Rattle.plain.specs.Calls.{Call, startNumber}
-use Rattle.plain.specs.History.{step, IsSecond, Alike}
+use Rattle.plain.specs.Calls.{Call, Open, Close, Piece, Reading, startNumber, hasFeed}
+use Rattle.plain.specs.History.{step, own, marks, standing, itemsOf, Roomy, IsSecond, Alike}
 
 -- After an accepted start, for every history and every second history of it: all calls of the second are accepted, the same bytes are
 -- sent in the same order, and the ends are equal.
@@ -27,3 +30,39 @@ acceptedCalls table n (e ∷ h) = keepCall (step table n e .1 .number) e (accept
 abbrev pub AcceptedCallsAreSecond : Type 0
 AcceptedCallsAreSecond = (table : List ℕ) (area time : ℕ) → startNumber table area time ≡ 0 → (h : List Call)
     → IsSecond table (begin (tableOf table) time) h (acceptedCalls table (begin (tableOf table) time) h)
+
+-- ## A second history that is cut and mingled anew is one too
+
+-- the first call may pass the second: where it is an empty piece, the second leaves its client open, or not, as it was
+abbrev pub EmptyPasses : Call → Call → Type 0
+EmptyPasses e f = (c t a o : ℕ) (b : Bool) → e ≡ Piece c [] t a o → standing b (own c (itemsOf f)) ≡ b
+
+-- Two neighbouring calls of a second history may change places, if each client's own items stay in order, and so do the common marks,
+-- and no empty piece, which has no item, passes its client's open or close.
+abbrev pub CallsMayChangePlaces : Type 0
+CallsMayChangePlaces = (table : List ℕ) (n : Node) (h l r : List Call) (e f : Call)
+    → ((c : ℕ) → own c (itemsOf e ++ itemsOf f) ≡ own c (itemsOf f ++ itemsOf e))
+    → marks (itemsOf e ++ itemsOf f) ≡ marks (itemsOf f ++ itemsOf e) → EmptyPasses e f → EmptyPasses f e
+    → IsSecond table n h (l ++ (e ∷ f ∷ r)) → IsSecond table n h (l ++ (f ∷ e ∷ r))
+
+-- whose a call is; a reading is no client's
+unfoldable pub callOf : ℕ → Call → Bool
+callOf d (Open c t a) = eqb d c
+callOf d (Close c t a) = eqb d c
+callOf d (Piece c bs t a o) = eqb d c
+callOf d (Reading p bs t a o) = false
+
+-- So a piece without a line feed may change places with the call after it or before it, if that is another's: a reading, or another
+-- client's piece, with a line feed or without, open or close.
+abbrev pub PiecesMayBeMingled : Type 0
+PiecesMayBeMingled = (table : List ℕ) (n : Node) (h l r : List Call) (c t a o : ℕ) (bs : List ℕ) (e : Call)
+    → hasFeed bs ≡ false → callOf c e ≡ false
+    → IsSecond table n h (l ++ (Piece c bs t a o ∷ e ∷ r)) ↔ IsSecond table n h (l ++ (e ∷ Piece c bs t a o ∷ r))
+
+-- A piece may be cut in two anywhere before its line feed, or anywhere if it has none, and two such parts may be joined. The first part
+-- may come at any time that is no later than the limit, each part may be empty, and the buffers may be others that are no smaller than
+-- asked.
+abbrev pub PiecesMayBeCut : Type 0
+PiecesMayBeCut = (table : List ℕ) (n : Node) (h l r : List Call) (c t a o s b p d q : ℕ) (xs ys : List ℕ) → hasFeed xs ≡ false
+    → Roomy (Piece c (xs ++ ys) t a o) → Roomy (Piece c xs s b p) → Roomy (Piece c ys t d q)
+    → IsSecond table n h (l ++ (Piece c (xs ++ ys) t a o ∷ r)) ↔ IsSecond table n h (l ++ (Piece c xs s b p ∷ Piece c ys t d q ∷ r))

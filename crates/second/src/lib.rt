@@ -1,7 +1,7 @@
 // Demand 3's second half, as promises: nothing is run.
 ghost use mathlib.Core.Bool.{true};
 ghost use mathlib.Core.Path.{_≡_};
-ghost use Rattle.second.specs.Theorems.{SecondHistoriesAreAlike, AcceptedCallsAreSecond};
+ghost use Rattle.second.specs.Theorems.{SecondHistoriesAreAlike, AcceptedCallsAreSecond, CallsMayChangePlaces, PiecesMayBeMingled, PiecesMayBeCut};
 
 // After an accepted start, a second history's calls are accepted, the same bytes are sent in the same order, and the ends are equal.
 pub fn second_histories_are_alike() -> bool
@@ -13,6 +13,27 @@ pub fn second_histories_are_alike() -> bool
 // There are second histories: of each history, its accepted calls.
 pub fn accepted_calls_are_second() -> bool
     ensures { λ r. ⌜ (r ≡ true) × AcceptedCallsAreSecond ⌝ }
+{
+    true
+}
+
+// Neighbouring calls of a second history may change places where no client's items and no marks are reordered.
+pub fn calls_may_change_places() -> bool
+    ensures { λ r. ⌜ (r ≡ true) × CallsMayChangePlaces ⌝ }
+{
+    true
+}
+
+// A piece without a line feed may change places with any call that is not its client's.
+pub fn pieces_may_be_mingled() -> bool
+    ensures { λ r. ⌜ (r ≡ true) × PiecesMayBeMingled ⌝ }
+{
+    true
+}
+
+// A piece may be cut in two anywhere before its line feed, and two such pieces may be joined.
+pub fn pieces_may_be_cut() -> bool
+    ensures { λ r. ⌜ (r ≡ true) × PiecesMayBeCut ⌝ }
 {
     true
 }
