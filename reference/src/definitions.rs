@@ -11,8 +11,8 @@ use Rattle.plain.specs.Calls.{Open, Close, Piece, Reading}
 use Rattle.examples.specs.Told.{History}
 ";
 
-/// A file that defines the histories, each accepted from its start on and
-/// started once. `None` for any other history.
+/// A file that defines the histories. Each begins with its only start, which
+/// may be a refused one. `None` for any other history.
 pub fn print(histories: &[History]) -> Option<String> {
     let mut text = HEADER.to_string();
     for (at, history) in histories.iter().enumerate() {
@@ -97,10 +97,14 @@ fn answer(answer: &Answer) -> String {
 
 /// A text in which each character stands for one byte.
 fn bytes(bytes: &[u8]) -> String {
-    let text: String = bytes
-        .iter()
-        .flat_map(|&byte| char::from(byte).escape_default())
-        .collect();
-    let text = text.replace("\\'", "'").replace("\\u{0}", "\\0");
+    let text: String = bytes.iter().map(|&byte| character(byte)).collect();
     format!("bytes \"{text}\"")
+}
+
+fn character(byte: u8) -> String {
+    match byte {
+        0 => "\\0".to_string(),
+        b'\'' => "'".to_string(),
+        _ => char::from(byte).escape_default().to_string(),
+    }
 }

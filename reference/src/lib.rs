@@ -10,7 +10,8 @@
 //! * [`mod@line`] parts a request, [`error`] names the error classes, [`outbox`]
 //!   holds the records that are sent;
 //! * [`node`] is the plain node itself;
-//! * [`history`] runs a list of calls, [`text`] reads and prints it;
+//! * [`history`] runs a list of calls, [`text`] reads and prints it,
+//!   [`definitions`] prints it for the proofs;
 //! * [`random`] and [`generate`] make tables, values and histories.
 
 pub mod datainfo;

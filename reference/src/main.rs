@@ -1,15 +1,15 @@
 //! The command line: prints tables, values and histories with the answers
 //! that are due, and runs histories from a file.
 
-use reference::datainfo::Datainfo;
 use reference::definitions;
-use reference::generate::{datainfos, encode, histories, second, small, tables, values};
+use reference::error::ErrorClass;
+use reference::generate::vectors::{self, ValueCase};
+use reference::generate::{directed, encode, histories, second, small};
 use reference::history::History;
-use reference::random::Random;
 use reference::report;
 use reference::table::Table;
 use reference::text::{self, hex};
-use reference::value::{self, ValueFault};
+use reference::value;
 use std::io::{self, Write};
 use std::process::ExitCode;
 
@@ -23,17 +23,26 @@ usage: reference COMMAND ...
   second SEED [CALLS]   the same history with other cuts and mingling,
                         refused calls left out
   small SEED            a small table and a handful of calls
+  directed              the names of the directed small histories
+  directed NUMBER       one of them
   definitions SEED ..   small histories in the notation of the crates'
-                        definitions
+                        definitions; directed in place of a seed stands
+                        for all directed ones
   tables SEED COUNT     tables, each with its number and its report
   values SEED COUNT     datainfos and values, each with the judgement
+  table-input SEED COUNT, table-output SEED COUNT
+                        the same tables as bytes for a program's standard
+                        input, and what it is to print
+  value-input SEED COUNT, value-output SEED COUNT
+                        the same for values, with E1 to E8 and the corners
+                        for each type before them
   run FILE              runs the histories in FILE, whatever answers it has,
                         and prints them with the answers due; - reads from
                         standard input
   --help                this text
 
-The same arguments always print the same text. Bytes are in hexadecimal, - for
-none. README.md describes the lines.
+The same arguments always print the same. Bytes in histories, tables and values
+are in hexadecimal, - for none. README.md describes the lines and the inputs.
 ";
 
 const DEFAULT_CALLS: usize = 40;
@@ -51,8 +60,8 @@ fn main() -> ExitCode {
 }
 
 /// A reader that has seen enough and closes the pipe is no failure.
-fn print(output: &str) -> ExitCode {
-    match io::stdout().write_all(output.as_bytes()) {
+fn print(output: &[u8]) -> ExitCode {
+    match io::stdout().write_all(output) {
         Err(error) if error.kind() != io::ErrorKind::BrokenPipe => {
             eprintln!("reference: {error}");
             ExitCode::FAILURE
@@ -61,16 +70,41 @@ fn print(output: &str) -> ExitCode {
     }
 }
 
-fn command(arguments: &[&str]) -> Result<String, String> {
+fn command(arguments: &[&str]) -> Result<Vec<u8>, String> {
+    match arguments {
+        ["value-input", seed, count] => {
+            let cases = vectors::value_cases(number(seed)?, number(count)?);
+            Ok(vectors::value_input(&cases))
+        }
+        ["table-input", seed, count] => {
+            let tables = vectors::random_tables(number(seed)?, number(count)?);
+            Ok(vectors::table_input(&tables))
+        }
+        _ => text_command(arguments).map(String::into_bytes),
+    }
+}
+
+/// The commands that print text.
+fn text_command(arguments: &[&str]) -> Result<String, String> {
     match arguments {
         ["history", seed] => print_run(&histories::history(number(seed)?, DEFAULT_CALLS)),
         ["history", seed, calls] => print_run(&histories::history(number(seed)?, number(calls)?)),
         ["second", seed] => print_second(number(seed)?, DEFAULT_CALLS),
         ["second", seed, calls] => print_second(number(seed)?, number(calls)?),
         ["small", seed] => print_run(&small::history(number(seed)?)),
-        ["definitions", seeds @ ..] => print_definitions(seeds),
+        ["directed"] => Ok(print_names()),
+        ["directed", at] => print_run(&directed_history(number(at)?)?),
+        ["definitions", which @ ..] => print_definitions(which),
         ["tables", seed, count] => Ok(print_tables(number(seed)?, number(count)?)),
         ["values", seed, count] => Ok(print_values(number(seed)?, number(count)?)),
+        ["value-output", seed, count] => {
+            let cases = vectors::value_cases(number(seed)?, number(count)?);
+            Ok(vectors::value_output(&cases))
+        }
+        ["table-output", seed, count] => {
+            let tables = vectors::random_tables(number(seed)?, number(count)?);
+            Ok(vectors::table_output(&tables))
+        }
         ["run", file] => run(file),
         ["--help" | "-h" | "help"] => Ok(HELP.to_string()),
         _ => Err(format!("not understood\n\n{HELP}")),
@@ -88,12 +122,40 @@ fn print_run(history: &History) -> Result<String, String> {
     Ok(text::print(history, &outcome))
 }
 
-fn print_definitions(seeds: &[&str]) -> Result<String, String> {
-    let histories: Result<Vec<History>, String> = seeds
-        .iter()
-        .map(|seed| Ok(small::history(number(seed)?)))
-        .collect();
-    definitions::print(&histories?).ok_or("a history must begin with its only start".to_string())
+/// A line for each directed history: its number and what it shows.
+fn print_names() -> String {
+    let scenes = directed::all();
+    let numbered = (1..).zip(&scenes);
+    numbered
+        .map(|(number, scene)| format!("{number} {}\n", scene.name))
+        .collect()
+}
+
+/// The directed history of a number, counted from 1.
+fn directed_history(number: usize) -> Result<History, String> {
+    number
+        .checked_sub(1)
+        .and_then(|at| directed::all().into_iter().nth(at))
+        .map(|scene| scene.history)
+        .ok_or(format!("there is no directed history {number}"))
+}
+
+fn print_definitions(which: &[&str]) -> Result<String, String> {
+    let histories: Result<Vec<Vec<History>>, String> =
+        which.iter().map(|which| small_histories(which)).collect();
+    definitions::print(&histories?.concat())
+        .ok_or("a history must begin with its only start".to_string())
+}
+
+/// The small history of a seed, or all directed ones.
+fn small_histories(which: &str) -> Result<Vec<History>, String> {
+    Ok(match which {
+        "directed" => directed::all()
+            .into_iter()
+            .map(|scene| scene.history)
+            .collect(),
+        seed => vec![small::history(number(seed)?)],
+    })
 }
 
 fn print_second(seed: u64, calls: usize) -> Result<String, String> {
@@ -104,9 +166,9 @@ fn print_second(seed: u64, calls: usize) -> Result<String, String> {
 }
 
 fn print_tables(seed: u64, count: usize) -> String {
-    let mut random = Random::new(seed);
-    (0..count)
-        .map(|_| print_table(&tables::any(&mut random.branch()).bytes))
+    vectors::random_tables(seed, count)
+        .iter()
+        .map(|bytes| print_table(bytes))
         .collect()
 }
 
@@ -122,27 +184,23 @@ fn print_table(bytes: &[u8]) -> String {
 }
 
 fn print_values(seed: u64, count: usize) -> String {
-    let mut random = Random::new(seed);
-    (0..count)
-        .map(|_| {
-            let mut random = random.branch();
-            let levels = random.between(1, 4);
-            let datainfo = datainfos::good(&mut random, levels);
-            let value = values::any(&mut random, &datainfo);
-            print_value(&datainfo, &value)
-        })
+    vectors::random_values(seed, count)
+        .iter()
+        .map(print_value)
         .collect()
 }
 
-fn print_value(datainfo: &Datainfo, value: &[u8]) -> String {
-    let judgement = match value::judge(datainfo, value) {
+fn print_value(case: &ValueCase) -> String {
+    let judgement = match value::judge(&case.datainfo, &case.text) {
         Ok(stored) => format!("fits {}", hex(&stored)),
-        Err(ValueFault::BadJson) => "BadJSON".to_string(),
-        Err(ValueFault::WrongType) => "WrongType".to_string(),
-        Err(ValueFault::RangeError) => "RangeError".to_string(),
+        Err(fault) => ErrorClass::from(fault).name().to_string(),
     };
-    let datainfo = encode::datainfo(datainfo);
-    format!("value {} {} = {judgement}\n", hex(&datainfo), hex(value))
+    let datainfo = encode::datainfo(&case.datainfo);
+    format!(
+        "value {} {} = {judgement}\n",
+        hex(&datainfo),
+        hex(&case.text)
+    )
 }
 
 fn run(file: &str) -> Result<String, String> {

@@ -450,5 +450,697 @@ history-20 =
           ∷ [];
     }
 
+unfoldable pub history-21 : History
+history-21 =
+    record {
+      table = bytes "ND\u{1}s\0MO\u{2}t1\0PA\u{1}p\0\0\u{3}\0\u{5}falseMO\u{2}mf\0PA\u{1}q\0\0\u{2}\0\0\0\0\0\0\0\0\0\0\0\0\0\0\0\t\0\u{1}0EN";
+      area = 16384;
+      time = 1000;
+      start = 0;
+      calls =
+          Open 1 2000 16384
+          ∷ Open 2 3000 16384
+          ∷ Piece 1 (bytes "activate\n") 4000 16384 32768
+          ∷ Piece 1 (bytes "deactivate t1\n") 5000 16384 32768
+          ∷ Piece 2 (bytes "change t1:p true\n") 6000 16384 32768
+          ∷ Piece 2 (bytes "change mf:q 7\n") 7000 16384 32768
+          ∷ [];
+      due =
+          record { number = 0; used = 0; written = bytes "" }
+          ∷ record { number = 0; used = 0; written = bytes "" }
+          ∷ record { number = 0; used = 9; written = bytes "UP\u{1}\0 update t1:p [false,{\"t\":1.000}]\nUP\u{1}\0\u{1c}update mf:q [0,{\"t\":1.000}]\nRP\u{1}\0\u{7}active\n" }
+          ∷ record { number = 0; used = 14; written = bytes "RP\u{1}\0\u{c}inactive t1\n" }
+          ∷ record { number = 0; used = 17; written = bytes "DR\u{2}\0\u{5}\0trueRP\u{2}\0 changed t1:p [true,{\"t\":6.000}]\n" }
+          ∷ record { number = 0; used = 14; written = bytes "DR\u{2}\0\u{2}\u{1}7UP\u{1}\0\u{1c}update mf:q [7,{\"t\":7.000}]\nRP\u{2}\0\u{1d}changed mf:q [7,{\"t\":7.000}]\n" }
+          ∷ [];
+    }
+
+unfoldable pub history-22 : History
+history-22 =
+    record {
+      table = bytes "ND\u{1}s\0MO\u{2}t1\0PA\u{1}p\0\0\u{2}\0\0\0\0\0\0\0\0\0\0\0\0\0\0\0\t\0\u{1}3EN";
+      area = 16384;
+      time = 1000;
+      start = 0;
+      calls =
+          Open 0 2000 16384
+          ∷ Piece 0 (bytes "activate\n") 3000 16384 32768
+          ∷ Close 0 4000 16384
+          ∷ Reading 0 (bytes "4") 5000 16384 32768
+          ∷ Open 0 6000 16384
+          ∷ Reading 0 (bytes "5") 7000 16384 32768
+          ∷ Piece 0 (bytes "read t1:p\n") 8000 16384 32768
+          ∷ [];
+      due =
+          record { number = 0; used = 0; written = bytes "" }
+          ∷ record { number = 0; used = 9; written = bytes "UP\0\0\u{1c}update t1:p [3,{\"t\":1.000}]\nRP\0\0\u{7}active\n" }
+          ∷ record { number = 0; used = 0; written = bytes "" }
+          ∷ record { number = 0; used = 0; written = bytes "" }
+          ∷ record { number = 0; used = 0; written = bytes "" }
+          ∷ record { number = 0; used = 0; written = bytes "" }
+          ∷ record { number = 0; used = 10; written = bytes "RP\0\0\u{1b}reply t1:p [5,{\"t\":7.000}]\n" }
+          ∷ [];
+    }
+
+unfoldable pub history-23 : History
+history-23 =
+    record {
+      table = bytes "ND\u{1}s\0MO\u{2}t1\0PA\u{1}p\0\0\u{2}\0\0\0\0\0\0\0\0\0\0\0\0\0\0\0\t\0\u{1}3CM\u{4}stop\0\0MO\u{2}mf\0CM\u{2}go\0\u{1}\u{6}\0\0\0\u{2}\u{2}\0\0\0\0\0\0\0\0\0\0\0\0\0\0\0\tEN";
+      area = 16384;
+      time = 1000;
+      start = 0;
+      calls =
+          Open 0 2000 16384
+          ∷ Piece 0 (bytes "do mf:go  [ 1 , 2 ] \n") 3000 16384 32768
+          ∷ Piece 0 (bytes "do t1:stop\n") 4000 16384 32768
+          ∷ [];
+      due =
+          record { number = 0; used = 0; written = bytes "" }
+          ∷ record { number = 0; used = 21; written = bytes "DC\0\0\u{6}\u{1}[1,2]RP\0\0\u{1e}done mf:go [null,{\"t\":3.000}]\n" }
+          ∷ record { number = 0; used = 11; written = bytes "DC\0\0\u{1}\0RP\0\0 done t1:stop [null,{\"t\":4.000}]\n" }
+          ∷ [];
+    }
+
+unfoldable pub history-24 : History
+history-24 =
+    record {
+      table = bytes "ND\u{1}s\0MO\u{2}t1\0EN";
+      area = 16384;
+      time = 1000;
+      start = 0;
+      calls =
+          Open 0 2000 16384
+          ∷ Piece 0 (bytes "ping xxxxxxxxxxxxxxxxxxxxxxxxxxxxxxxxxxxxxxxxxxxxxxxxxxxxxxxxxxxxxxxxxxxxxxxxxxxxxxxxxxxxxxxxxxxxxxxxxxxxxxxxxxxxxxxxxxxxxxxxxxxxxxxxxxxxxxxxxxxxxxxxxxxxxxxxxxxxxxxxxxxxxxxxxxxxxxxxxxxxxxxxxxxxxxxxxxxxxxxxxxxxxxxxxxxxxxxxxxxxxxxxxxxxxxxxxxxxxxxxxxxxxxxxxxxxxxxxxxxxxxxxxxxxxxxxxxxxxxxxxxxxxxxxxxxxxxxxxxxxxxxxxxxxxxxxxxxxxxxxxxxxxxxxxxxxxxxxxxxxxxxxxxxxxxxxxxxxxxxxxxxxxxxxxxxxxxxxxxxxxxxxxxxxxxxxxxxxxxxxxxxxxxxxxxxxxxxxxxxxxxxxxxxxxxxxxxxxxxxxxxxxxxxxxxxxxxxxxxxxxxxxxxxxxxxxxxxxxxxxxxxxxxxxxxxxxxxxxxxxxxxxxxxxxxxxxxxxxxxxxxxxxxxxxxxxxxxxxxxxxxxxxxxxxxxxxxxxxxxxxxxxxxxxxxxxxxxxxxxxxxxxxxxxxxxxxxxxxxxxxxxxxxxxxxxxxxxxxxxxxxxxxxxxxxxxxxxxxxxxxxxxxxxxxxxxxxxxxxxxxxxxxxxxxxxxxxxxxxxxxxxxxxxxxxxxxxxxxxxxxxxxxxxxxxxxxxxxxxxxxxxxxxxxxxxxxxxxxxxxxxxxxxxxxxxxxxxxxxxxxxxxxxxxxxxxxxxxxxxxxxxxxxxxxxxxxxxxxxxxxxxxxxxxxxxxxxxxxxxxxxxxxxxxxxxxxxxxxxxxxxxxxxxxxxxxxxxxxxxxxxxxxxxxxxxxxxxxxxxxxxxxxxxxxxxxxxxxxxxxxxxxxxxxxxxxxxxxxxxxxxxxxxxxxxxxxxxxxxxxxxxxxxxxxxxxxxxxxxxxxxxxxxxxxxxxxxxxxxxxxxxxxxxxxxxxxxxxxxxxxxxxxxxxxxxxxxxxxxx\n") 3000 16384 32768
+          ∷ Piece 0 (bytes "ping xxxxxxxxxxxxxxxxxxxxxxxxxxxxxxxxxxxxxxxxxxxxxxxxxxxxxxxxxxxxxxxxxxxxxxxxxxxxxxxxxxxxxxxxxxxxxxxxxxxxxxxxxxxxxxxxxxxxxxxxxxxxxxxxxxxxxxxxxxxxxxxxxxxxxxxxxxxxxxxxxxxxxxxxxxxxxxxxxxxxxxxxxxxxxxxxxxxxxxxxxxxxxxxxxxxxxxxxxxxxxxxxxxxxxxxxxxxxxxxxxxxxxxxxxxxxxxxxxxxxxxxxxxxxxxxxxxxxxxxxxxxxxxxxxxxxxxxxxxxxxxxxxxxxxxxxxxxxxxxxxxxxxxxxxxxxxxxxxxxxxxxxxxxxxxxxxxxxxxxxxxxxxxxxxxxxxxxxxxxxxxxxxxxxxxxxxxxxxxxxxxxxxxxxxxxxxxxxxxxxxxxxxxxxxxxxxxxxxxxxxxxxxxxxxxxxxxxxxxxxxxxxxxxxxxxxxxxxxxxxxxxxxxxxxxxxxxxxxxxxxxxxxxxxxxxxxxxxxxxxxxxxxxxxxxxxxxxxxxxxxxxxxxxxxxxxxxxxxxxxxxxxxxxxxxxxxxxxxxxxxxxxxxxxxxxxxxxxxxxxxxxxxxxxxxxxxxxxxxxxxxxxxxxxxxxxxxxxxxxxxxxxxxxxxxxxxxxxxxxxxxxxxxxxxxxxxxxxxxxxxxxxxxxxxxxxxxxxxxxxxxxxxxxxxxxxxxxxxxxxxxxxxxxxxxxxxxxxxxxxxxxxxxxxxxxxxxxxxxxxxxxxxxxxxxxxxxxxxxxxxxxxxxxxxxxxxxxxxxxxxxxxxxxxxxxxxxxxxxxxxxxxxxxxxxxxxxxxxxxxxxxxxxxxxxxxxxxxxxxxxxxxxxxxxxxxxxxxxxxxxxxxxxxxxxxxxxxxxxxxxxxxxxxxxxxxxxxxxxxxxxxxxxxxxxxxxxxxxxxxxxxxxxxxxxxxxxxxxxxxxxxxxxxxxxxxxxxxxxxxxxxxxxxxxxxxxxxxxxxxxxxxxxxxxxxxxxxxxx\r\n") 4000 16384 32768
+          ∷ [];
+      due =
+          record { number = 0; used = 0; written = bytes "" }
+          ∷ record { number = 0; used = 1025; written = bytes "RP\0\u{4}\u{14}pong xxxxxxxxxxxxxxxxxxxxxxxxxxxxxxxxxxxxxxxxxxxxxxxxxxxxxxxxxxxxxxxxxxxxxxxxxxxxxxxxxxxxxxxxxxxxxxxxxxxxxxxxxxxxxxxxxxxxxxxxxxxxxxxxxxxxxxxxxxxxxxxxxxxxxxxxxxxxxxxxxxxxxxxxxxxxxxxxxxxxxxxxxxxxxxxxxxxxxxxxxxxxxxxxxxxxxxxxxxxxxxxxxxxxxxxxxxxxxxxxxxxxxxxxxxxxxxxxxxxxxxxxxxxxxxxxxxxxxxxxxxxxxxxxxxxxxxxxxxxxxxxxxxxxxxxxxxxxxxxxxxxxxxxxxxxxxxxxxxxxxxxxxxxxxxxxxxxxxxxxxxxxxxxxxxxxxxxxxxxxxxxxxxxxxxxxxxxxxxxxxxxxxxxxxxxxxxxxxxxxxxxxxxxxxxxxxxxxxxxxxxxxxxxxxxxxxxxxxxxxxxxxxxxxxxxxxxxxxxxxxxxxxxxxxxxxxxxxxxxxxxxxxxxxxxxxxxxxxxxxxxxxxxxxxxxxxxxxxxxxxxxxxxxxxxxxxxxxxxxxxxxxxxxxxxxxxxxxxxxxxxxxxxxxxxxxxxxxxxxxxxxxxxxxxxxxxxxxxxxxxxxxxxxxxxxxxxxxxxxxxxxxxxxxxxxxxxxxxxxxxxxxxxxxxxxxxxxxxxxxxxxxxxxxxxxxxxxxxxxxxxxxxxxxxxxxxxxxxxxxxxxxxxxxxxxxxxxxxxxxxxxxxxxxxxxxxxxxxxxxxxxxxxxxxxxxxxxxxxxxxxxxxxxxxxxxxxxxxxxxxxxxxxxxxxxxxxxxxxxxxxxxxxxxxxxxxxxxxxxxxxxxxxxxxxxxxxxxxxxxxxxxxxxxxxxxxxxxxxxxxxxxxxxxxxxxxxxxxxxxxxxxxxxxxxxxxxxxxxxxxxxxxxxxxxxxxxxxxxxxxxxxxxxxxxxxxxxxxxxxxxxxxxxxxxxxxxxxxxxxxxxxxxxxxxxxxxxxxxxxxxxxxxxxxxxxxxxxxxx [null,{\"t\":3.000}]\n" }
+          ∷ record { number = 0; used = 1025; written = bytes "RP\0\u{4}\u{13}pong xxxxxxxxxxxxxxxxxxxxxxxxxxxxxxxxxxxxxxxxxxxxxxxxxxxxxxxxxxxxxxxxxxxxxxxxxxxxxxxxxxxxxxxxxxxxxxxxxxxxxxxxxxxxxxxxxxxxxxxxxxxxxxxxxxxxxxxxxxxxxxxxxxxxxxxxxxxxxxxxxxxxxxxxxxxxxxxxxxxxxxxxxxxxxxxxxxxxxxxxxxxxxxxxxxxxxxxxxxxxxxxxxxxxxxxxxxxxxxxxxxxxxxxxxxxxxxxxxxxxxxxxxxxxxxxxxxxxxxxxxxxxxxxxxxxxxxxxxxxxxxxxxxxxxxxxxxxxxxxxxxxxxxxxxxxxxxxxxxxxxxxxxxxxxxxxxxxxxxxxxxxxxxxxxxxxxxxxxxxxxxxxxxxxxxxxxxxxxxxxxxxxxxxxxxxxxxxxxxxxxxxxxxxxxxxxxxxxxxxxxxxxxxxxxxxxxxxxxxxxxxxxxxxxxxxxxxxxxxxxxxxxxxxxxxxxxxxxxxxxxxxxxxxxxxxxxxxxxxxxxxxxxxxxxxxxxxxxxxxxxxxxxxxxxxxxxxxxxxxxxxxxxxxxxxxxxxxxxxxxxxxxxxxxxxxxxxxxxxxxxxxxxxxxxxxxxxxxxxxxxxxxxxxxxxxxxxxxxxxxxxxxxxxxxxxxxxxxxxxxxxxxxxxxxxxxxxxxxxxxxxxxxxxxxxxxxxxxxxxxxxxxxxxxxxxxxxxxxxxxxxxxxxxxxxxxxxxxxxxxxxxxxxxxxxxxxxxxxxxxxxxxxxxxxxxxxxxxxxxxxxxxxxxxxxxxxxxxxxxxxxxxxxxxxxxxxxxxxxxxxxxxxxxxxxxxxxxxxxxxxxxxxxxxxxxxxxxxxxxxxxxxxxxxxxxxxxxxxxxxxxxxxxxxxxxxxxxxxxxxxxxxxxxxxxxxxxxxxxxxxxxxxxxxxxxxxxxxxxxxxxxxxxxxxxxxxxxxxxxxxxxxxxxxxxxxxxxxxxxxxxxxxxxxxxxxxxxxxxxxxxxxxxxxxxxxxxxxxx [null,{\"t\":4.000}]\n" }
+          ∷ [];
+    }
+
+unfoldable pub history-25 : History
+history-25 =
+    record {
+      table = bytes "ND\u{1}s\0MO\u{2}t1\0EN";
+      area = 16384;
+      time = 1000;
+      start = 0;
+      calls =
+          Open 0 2000 16384
+          ∷ Piece 0 (bytes "ping xxxxxxxxxxxxxxxxxxxxxxxxxxxxxxxxxxxxxxxxxxxxxxxxxxxxxxxxxxxxxxxxxxxxxxxxxxxxxxxxxxxxxxxxxxxxxxxxxxxxxxxxxxxxxxxxxxxxxxxxxxxxxxxxxxxxxxxxxxxxxxxxxxxxxxxxxxxxxxxxxxxxxxxxxxxxxxxxxxxxxxxxxxxxxxxxxxxxxxxxxxxxxxxxxxxxxxxxxxxxxxxxxxxxxxxxxxxxxxxxxxxxxxxxxxxxxxxxxxxxxxxxxxxxxxxxxxxxxxxxxxxxxxxxxxxxxxxxxxxxxxxxxxxxxxxxxxxxxxxxxxxxxxxxxxxxxxxxxxxxxxxxxxxxxxxxxxxxxxxxxxxxxxxxxxxxxxxxxxxxxxxxxxxxxxxxxxxxxxxxxxxxxxxxxxxxxxxxxxxxxxxxxxxxxxxxxxxxxxxxxxxxxxxxxxxxxxxxxxxxxxxxxxxxxxxxxxxxxxxxxxxxxxxxxxxxxxxxxxxxxxxxxxxxxxxxxxxxxxxxxxxxxxxxxxxxxxxxxxxxxxxxxxxxxxxxxxxxxxxxxxxxxxxxxxxxxxxxxxxxxxxxxxxxxxxxxxxxxxxxxxxxxxxxxxxxxxxxxxxxxxxxxxxxxxxxxxxxxxxxxxxxxxxxxxxxxxxxxxxxxxxxxxxxxxxxxxxxxxxxxxxxxxxxxxxxxxxxxxxxxxxxxxxxxxxxxxxxxxxxxxxxxxxxxxxxxxxxxxxxxxxxxxxxxxxxxxxxxxxxxxxxxxxxxxxxxxxxxxxxxxxxxxxxxxxxxxxxxxxxxxxxxxxxxxxxxxxxxxxxxxxxxxxxxxxxxxxxxxxxxxxxxxxxxxxxxxxxxxxxxxxxxxxxxxxxxxxxxxxxxxxxxxxxxxxxxxxxxxxxxxxxxxxxxxxxxxxxxxxxxxxxxxxxxxxxxxxxxxxxxxxxxxxxxxxxxxxxxxxxxxxxxxxxxxxxxxxxxxxxxxxxxxxxxxxxxxxxxxxxxxxxxxxxxxxxxxxxxxxx\n") 3000 16384 32768
+          ∷ Piece 0 (bytes "ping xxxxxxxxxxxxxxxxxxxxxxxxxxxxxxxxxxxxxxxxxxxxxxxxxxxxxxxxxxxxxxxxxxxxxxxxxxxxxxxxxxxxxxxxxxxxxxxxxxxxxxxxxxxxxxxxxxxxxxxxxxxxxxxxxxxxxxxxxxxxxxxxxxxxxxxxxxxxxxxxxxxxxxxxxxxxxxxxxxxxxxxxxxxxxxxxxxxxxxxxxxxxxxxxxxxxxxxxxxxxxxxxxxxxxxxxxxxxxxxxxxxxxxxxxxxxxxxxxxxxxxxxxxxxxxxxxxxxxxxxxxxxxxxxxxxxxxxxxxxxxxxxxxxxxxxxxxxxxxxxxxxxxxxxxxxxxxxxxxxxxxxxxxxxxxxxxxxxxxxxxxxxxxxxxxxxxxxxxxxxxxxxxxxxxxxxxxxxxxxxxxxxxxxxxxxxxxxxxxxxxxxxxxxxxxxxxxxxxxxxxxxxxxxxxxxxxxxxxxxxxxxxxxxxxxxxxxxxxxxxxxxxxxxxxxxxxxxxxxxxxxxxxxxxxxxxxxxxxxxxxxxxxxxxxxxxxxxxxxxxxxxxxxxxxxxxxxxxxxxxxxxxxxxxxxxxxxxxxxxxxxxxxxxxxxxxxxxxxxxxxxxxxxxxxxxxxxxxxxxxxxxxxxxxxxxxxxxxxxxxxxxxxxxxxxxxxxxxxxxxxxxxxxxxxxxxxxxxxxxxxxxxxxxxxxxxxxxxxxxxxxxxxxxxxxxxxxxxxxxxxxxxxxxxxxxxxxxxxxxxxxxxxxxxxxxxxxxxxxxxxxxxxxxxxxxxxxxxxxxxxxxxxxxxxxxxxxxxxxxxxxxxxxxxxxxxxxxxxxxxxxxxxxxxxxxxxxxxxxxxxxxxxxxxxxxxxxxxxxxxxxxxxxxxxxxxxxxxxxxxxxxxxxxxxxxxxxxxxxxxxxxxxxxxxxxxxxxxxxxxxxxxxxxxxxxxxxxxxxxxxxxxxxxxxxxxxxxxxxxxxxxxxxxxxxxxxxxxxxxxxxxxxxxxxxxxxxxxxxxxxxxxxxxxxxxxxxxxxxx\r\n") 4000 16384 32768
+          ∷ Piece 0 (bytes "ping\n") 5000 16384 32768
+          ∷ [];
+      due =
+          record { number = 0; used = 0; written = bytes "" }
+          ∷ record { number = 0; used = 1026; written = bytes "RP\0\0<error_  [\"ProtocolError\",\"malformed or unknown request\",{}]\n" }
+          ∷ record { number = 0; used = 1026; written = bytes "RP\0\0<error_  [\"ProtocolError\",\"malformed or unknown request\",{}]\n" }
+          ∷ record { number = 0; used = 5; written = bytes "RP\0\0\u{19}pong  [null,{\"t\":5.000}]\n" }
+          ∷ [];
+    }
+
+unfoldable pub history-26 : History
+history-26 =
+    record {
+      table = bytes "ND\u{1}s\0MO\u{2}t1\0PA\u{1}p\0\0\u{2}\0\0\0\0\0\0\0\0\0\0\0\0\0\0\0\t\0\u{1}3CM\u{4}stop\0\0EN";
+      area = 16384;
+      time = 1000;
+      start = 0;
+      calls =
+          Open 0 2000 16384
+          ∷ Piece 0 (bytes "activate 9x\n") 3000 16384 32768
+          ∷ Piece 0 (bytes "activate tx\n") 4000 16384 32768
+          ∷ Piece 0 (bytes "deactivate :\n") 5000 16384 32768
+          ∷ Piece 0 (bytes "read t1\n") 6000 16384 32768
+          ∷ Piece 0 (bytes "read t1:tx\n") 7000 16384 32768
+          ∷ Piece 0 (bytes "read t1:stop\n") 8000 16384 32768
+          ∷ Piece 0 (bytes "do t1:p\n") 9000 16384 32768
+          ∷ [];
+      due =
+          record { number = 0; used = 0; written = bytes "" }
+          ∷ record { number = 0; used = 12; written = bytes "RP\0\0Ferror_activate 9x [\"ProtocolError\",\"malformed or unknown request\",{}]\n" }
+          ∷ record { number = 0; used = 12; written = bytes "RP\0\07error_activate tx [\"NoSuchModule\",\"no such module\",{}]\n" }
+          ∷ record { number = 0; used = 13; written = bytes "RP\0\0Gerror_deactivate : [\"ProtocolError\",\"malformed or unknown request\",{}]\n" }
+          ∷ record { number = 0; used = 8; written = bytes "RP\0\0Berror_read t1 [\"ProtocolError\",\"malformed or unknown request\",{}]\n" }
+          ∷ record { number = 0; used = 11; written = bytes "RP\0\0<error_read t1:tx [\"NoSuchParameter\",\"no such parameter\",{}]\n" }
+          ∷ record { number = 0; used = 13; written = bytes "RP\0\0>error_read t1:stop [\"NoSuchParameter\",\"no such parameter\",{}]\n" }
+          ∷ record { number = 0; used = 8; written = bytes "RP\0\05error_do t1:p [\"NoSuchCommand\",\"no such command\",{}]\n" }
+          ∷ [];
+    }
+
+unfoldable pub history-27 : History
+history-27 =
+    record {
+      table = bytes "ND\u{1}s\0MO\u{2}t1\0PA\u{1}v\0\u{1}\u{3}\0\u{5}falsePA\u{1}p\0\0\u{2}\0\0\0\0\0\0\0\0\0\0\0\0\0\0\0\t\0\u{1}3EN";
+      area = 16384;
+      time = 1000;
+      start = 0;
+      calls =
+          Open 0 2000 16384
+          ∷ Piece 0 (bytes "change t1:v }\n") 3000 16384 32768
+          ∷ Piece 0 (bytes "change t1:p 01\n") 4000 16384 32768
+          ∷ Piece 0 (bytes "change t1:p true\n") 5000 16384 32768
+          ∷ Piece 0 (bytes "change t1:p 10\n") 6000 16384 32768
+          ∷ Piece 0 (bytes "read t1:p\n") 7000 16384 32768
+          ∷ [];
+      due =
+          record { number = 0; used = 0; written = bytes "" }
+          ∷ record { number = 0; used = 14; written = bytes "RP\0\0;error_change t1:v [\"ReadOnly\",\"parameter is read only\",{}]\n" }
+          ∷ record { number = 0; used = 15; written = bytes "RP\0\04error_change t1:p [\"BadJSON\",\"data is not JSON\",{}]\n" }
+          ∷ record { number = 0; used = 17; written = bytes "RP\0\0>error_change t1:p [\"WrongType\",\"value has the wrong type\",{}]\n" }
+          ∷ record { number = 0; used = 15; written = bytes "RP\0\0<error_change t1:p [\"RangeError\",\"value is out of range\",{}]\n" }
+          ∷ record { number = 0; used = 10; written = bytes "RP\0\0\u{1b}reply t1:p [3,{\"t\":1.000}]\n" }
+          ∷ [];
+    }
+
+unfoldable pub history-28 : History
+history-28 =
+    record {
+      table = bytes "ND\u{1}s\0MO\u{2}t1\0PA\u{1}s\0\0\u{8}\u{2}\u{1}a\u{3}\u{1}b\u{2}\0\0\0\0\0\0\0\0\0\0\0\0\0\0\0\t\0\u{10}{\"a\":true,\"b\":1}EN";
+      area = 16384;
+      time = 1000;
+      start = 0;
+      calls =
+          Open 0 2000 16384
+          ∷ Piece 0 (bytes "change t1:s {\"b\":2,\"a\":false}\n") 3000 16384 32768
+          ∷ Piece 0 (bytes "change t1:s {\"a\":true,\"a\":true}\n") 4000 16384 32768
+          ∷ Piece 0 (bytes "change t1:s {\"a\":true,\"b\":1,\"b\":1}\n") 5000 16384 32768
+          ∷ Piece 0 (bytes "change t1:s {\"a\":true,\"b\":1,\"c\":1}\n") 6000 16384 32768
+          ∷ Piece 0 (bytes "change t1:s {\"a\":true}\n") 7000 16384 32768
+          ∷ Piece 0 (bytes "read t1:s\n") 8000 16384 32768
+          ∷ [];
+      due =
+          record { number = 0; used = 0; written = bytes "" }
+          ∷ record { number = 0; used = 30; written = bytes "DR\0\0\u{12}\0{\"b\":2,\"a\":false}RP\0\0-changed t1:s [{\"b\":2,\"a\":false},{\"t\":3.000}]\n" }
+          ∷ record { number = 0; used = 32; written = bytes "RP\0\0>error_change t1:s [\"WrongType\",\"value has the wrong type\",{}]\n" }
+          ∷ record { number = 0; used = 35; written = bytes "RP\0\0>error_change t1:s [\"WrongType\",\"value has the wrong type\",{}]\n" }
+          ∷ record { number = 0; used = 35; written = bytes "RP\0\0>error_change t1:s [\"WrongType\",\"value has the wrong type\",{}]\n" }
+          ∷ record { number = 0; used = 23; written = bytes "RP\0\0>error_change t1:s [\"WrongType\",\"value has the wrong type\",{}]\n" }
+          ∷ record { number = 0; used = 10; written = bytes "RP\0\0+reply t1:s [{\"b\":2,\"a\":false},{\"t\":3.000}]\n" }
+          ∷ [];
+    }
+
+unfoldable pub history-29 : History
+history-29 =
+    record {
+      table = bytes "ND\u{1}s\0MO\u{2}t1\0PA\u{1}u\0\0\u{7}\u{2}\u{3}\u{2}\0\0\0\0\0\0\0\0\0\0\0\0\0\0\0\t\0\u{8}[true,1]PA\u{1}l\0\0\u{6}\0\0\0\u{2}\u{3}\0\u{2}[]EN";
+      area = 16384;
+      time = 1000;
+      start = 0;
+      calls =
+          Open 0 2000 16384
+          ∷ Piece 0 (bytes "change t1:u [true]\n") 3000 16384 32768
+          ∷ Piece 0 (bytes "change t1:u [true,1,2]\n") 4000 16384 32768
+          ∷ Piece 0 (bytes "change t1:l [true,true,1]\n") 5000 16384 32768
+          ∷ Piece 0 (bytes "change t1:l [true,true,true]\n") 6000 16384 32768
+          ∷ Piece 0 (bytes "change t1:l [ true , false ]\n") 7000 16384 32768
+          ∷ [];
+      due =
+          record { number = 0; used = 0; written = bytes "" }
+          ∷ record { number = 0; used = 19; written = bytes "RP\0\0>error_change t1:u [\"WrongType\",\"value has the wrong type\",{}]\n" }
+          ∷ record { number = 0; used = 23; written = bytes "RP\0\0>error_change t1:u [\"WrongType\",\"value has the wrong type\",{}]\n" }
+          ∷ record { number = 0; used = 26; written = bytes "RP\0\0>error_change t1:l [\"WrongType\",\"value has the wrong type\",{}]\n" }
+          ∷ record { number = 0; used = 29; written = bytes "RP\0\0<error_change t1:l [\"RangeError\",\"value is out of range\",{}]\n" }
+          ∷ record { number = 0; used = 29; written = bytes "DR\0\0\r\u{1}[true,false]RP\0\0(changed t1:l [[true,false],{\"t\":7.000}]\n" }
+          ∷ [];
+    }
+
+unfoldable pub history-30 : History
+history-30 =
+    record {
+      table = bytes "ND\u{1}s\0MO\u{2}t1\0PA\u{1}l\0\0\u{5}\0\0\0\u{2}\0\u{2}\"\"EN";
+      area = 16384;
+      time = 1000;
+      start = 0;
+      calls =
+          Open 0 2000 16384
+          ∷ Piece 0 (bytes "change t1:l \"\\n\\u0041\"\n") 3000 16384 32768
+          ∷ Piece 0 (bytes "change t1:l \"\\n\\n\\n\"\n") 4000 16384 32768
+          ∷ Piece 0 (bytes "change t1:l \"\\u0080\"\n") 5000 16384 32768
+          ∷ Piece 0 (bytes "change t1:l \"\\u007F\"\n") 6000 16384 32768
+          ∷ [];
+      due =
+          record { number = 0; used = 0; written = bytes "" }
+          ∷ record { number = 0; used = 23; written = bytes "DR\0\0\u{b}\0\"\\n\\u0041\"RP\0\0&changed t1:l [\"\\n\\u0041\",{\"t\":3.000}]\n" }
+          ∷ record { number = 0; used = 21; written = bytes "RP\0\0<error_change t1:l [\"RangeError\",\"value is out of range\",{}]\n" }
+          ∷ record { number = 0; used = 21; written = bytes "RP\0\0<error_change t1:l [\"RangeError\",\"value is out of range\",{}]\n" }
+          ∷ record { number = 0; used = 21; written = bytes "DR\0\0\t\0\"\\u007F\"RP\0\0$changed t1:l [\"\\u007F\",{\"t\":6.000}]\n" }
+          ∷ [];
+    }
+
+unfoldable pub history-31 : History
+history-31 =
+    record {
+      table = bytes "ND\u{1}s\0MO\u{2}t1\0PA\u{1}l\0\0\u{5}\0\0\u{1},\0\u{2}\"\"EN";
+      area = 16384;
+      time = 1000;
+      start = 0;
+      calls =
+          Open 0 2000 16384
+          ∷ Piece 0 (bytes "change t1:l  \"xxxxxxxxxxxxxxxxxxxxxxxxxxxxxxxxxxxxxxxxxxxxxxxxxxxxxxxxxxxxxxxxxxxxxxxxxxxxxxxxxxxxxxxxxxxxxxxxxxxxxxxxxxxxxxxxxxxxxxxxxxxxxxxxxxxxxxxxxxxxxxxxxxxxxxxxxxxxxxxxxxxxxxxxxxxxxxxxxxxxxxxxxxxxxxxxxxxxxxxxxxxxxxxxxxxxxxxxxxxxxxxxxxxxxxxxxxxxxxxxxxxxxxxxxxxxxx\" \n") 3000 16384 32768
+          ∷ Piece 0 (bytes "change t1:l  \"xxxxxxxxxxxxxxxxxxxxxxxxxxxxxxxxxxxxxxxxxxxxxxxxxxxxxxxxxxxxxxxxxxxxxxxxxxxxxxxxxxxxxxxxxxxxxxxxxxxxxxxxxxxxxxxxxxxxxxxxxxxxxxxxxxxxxxxxxxxxxxxxxxxxxxxxxxxxxxxxxxxxxxxxxxxxxxxxxxxxxxxxxxxxxxxxxxxxxxxxxxxxxxxxxxxxxxxxxxxxxxxxxxxxxxxxxxxxxxxxxxxxxxxxxxxxxxx\" \n") 4000 16384 32768
+          ∷ Piece 0 (bytes "read t1:l\n") 5000 16384 32768
+          ∷ [];
+      due =
+          record { number = 0; used = 0; written = bytes "" }
+          ∷ record { number = 0; used = 271; written = bytes "DR\0\u{1}\u{1}\0\"xxxxxxxxxxxxxxxxxxxxxxxxxxxxxxxxxxxxxxxxxxxxxxxxxxxxxxxxxxxxxxxxxxxxxxxxxxxxxxxxxxxxxxxxxxxxxxxxxxxxxxxxxxxxxxxxxxxxxxxxxxxxxxxxxxxxxxxxxxxxxxxxxxxxxxxxxxxxxxxxxxxxxxxxxxxxxxxxxxxxxxxxxxxxxxxxxxxxxxxxxxxxxxxxxxxxxxxxxxxxxxxxxxxxxxxxxxxxxxxxxxxxxxxxxxxxxx\"RP\0\u{1}\u{1c}changed t1:l [\"xxxxxxxxxxxxxxxxxxxxxxxxxxxxxxxxxxxxxxxxxxxxxxxxxxxxxxxxxxxxxxxxxxxxxxxxxxxxxxxxxxxxxxxxxxxxxxxxxxxxxxxxxxxxxxxxxxxxxxxxxxxxxxxxxxxxxxxxxxxxxxxxxxxxxxxxxxxxxxxxxxxxxxxxxxxxxxxxxxxxxxxxxxxxxxxxxxxxxxxxxxxxxxxxxxxxxxxxxxxxxxxxxxxxxxxxxxxxxxxxxxxxxxxxxxxxxx\",{\"t\":3.000}]\n" }
+          ∷ record { number = 0; used = 272; written = bytes "RP\0\0<error_change t1:l [\"RangeError\",\"value is out of range\",{}]\n" }
+          ∷ record { number = 0; used = 10; written = bytes "RP\0\u{1}\u{1a}reply t1:l [\"xxxxxxxxxxxxxxxxxxxxxxxxxxxxxxxxxxxxxxxxxxxxxxxxxxxxxxxxxxxxxxxxxxxxxxxxxxxxxxxxxxxxxxxxxxxxxxxxxxxxxxxxxxxxxxxxxxxxxxxxxxxxxxxxxxxxxxxxxxxxxxxxxxxxxxxxxxxxxxxxxxxxxxxxxxxxxxxxxxxxxxxxxxxxxxxxxxxxxxxxxxxxxxxxxxxxxxxxxxxxxxxxxxxxxxxxxxxxxxxxxxxxxxxxxxxxxx\",{\"t\":3.000}]\n" }
+          ∷ [];
+    }
+
+unfoldable pub history-32 : History
+history-32 =
+    record {
+      table = bytes "ND\u{1}s\0MO\u{2}t1\0PA\u{1}d\0\0\u{1}\0\0\0\0\0\0\0\0\0\0\0\0\0\0\0\0\u{1}\0\0\u{1}1EN";
+      area = 16384;
+      time = 1000;
+      start = 0;
+      calls =
+          Open 0 2000 16384
+          ∷ Piece 0 (bytes "change t1:d 0.000000000000000000000000000000\n") 3000 16384 32768
+          ∷ Piece 0 (bytes "change t1:d 0.0000000000000000000000000000000\n") 4000 16384 32768
+          ∷ Piece 0 (bytes "change t1:d 0e99\n") 5000 16384 32768
+          ∷ Piece 0 (bytes "change t1:d 0e100\n") 6000 16384 32768
+          ∷ Piece 0 (bytes "change t1:d 1e-99\n") 7000 16384 32768
+          ∷ Piece 0 (bytes "change t1:d 1e-100\n") 8000 16384 32768
+          ∷ [];
+      due =
+          record { number = 0; used = 0; written = bytes "" }
+          ∷ record { number = 0; used = 45; written = bytes "DR\0\0!\00.000000000000000000000000000000RP\0\0<changed t1:d [0.000000000000000000000000000000,{\"t\":3.000}]\n" }
+          ∷ record { number = 0; used = 46; written = bytes "RP\0\0<error_change t1:d [\"RangeError\",\"value is out of range\",{}]\n" }
+          ∷ record { number = 0; used = 17; written = bytes "DR\0\0\u{5}\00e99RP\0\0 changed t1:d [0e99,{\"t\":5.000}]\n" }
+          ∷ record { number = 0; used = 18; written = bytes "RP\0\0<error_change t1:d [\"RangeError\",\"value is out of range\",{}]\n" }
+          ∷ record { number = 0; used = 18; written = bytes "DR\0\0\u{6}\01e-99RP\0\0!changed t1:d [1e-99,{\"t\":7.000}]\n" }
+          ∷ record { number = 0; used = 19; written = bytes "RP\0\0<error_change t1:d [\"RangeError\",\"value is out of range\",{}]\n" }
+          ∷ [];
+    }
+
+unfoldable pub history-33 : History
+history-33 =
+    record {
+      table = bytes "ND\u{1}s\0MO\u{2}t1\0PA\u{1}p\0\0\u{2}\0\0\0\0\0\0\0\0\0\0\0\0\0\0\0\t\0\u{1}3PA\u{1}m\0\0\u{4}\u{2}\u{3}off\0\0\0\0\u{2}on\0\0\0\u{1}\0\u{1}1EN";
+      area = 16384;
+      time = 1000;
+      start = 0;
+      calls =
+          Open 0 2000 16384
+          ∷ Piece 0 (bytes "change t1:p -0\n") 3000 16384 32768
+          ∷ Piece 0 (bytes "change t1:m -0\n") 4000 16384 32768
+          ∷ Piece 0 (bytes "change t1:m 2\n") 5000 16384 32768
+          ∷ Piece 0 (bytes "read t1:m\n") 6000 16384 32768
+          ∷ [];
+      due =
+          record { number = 0; used = 0; written = bytes "" }
+          ∷ record { number = 0; used = 15; written = bytes "DR\0\0\u{3}\0-0RP\0\0\u{1e}changed t1:p [-0,{\"t\":3.000}]\n" }
+          ∷ record { number = 0; used = 15; written = bytes "DR\0\0\u{3}\u{1}-0RP\0\0\u{1e}changed t1:m [-0,{\"t\":4.000}]\n" }
+          ∷ record { number = 0; used = 14; written = bytes "RP\0\0<error_change t1:m [\"RangeError\",\"value is out of range\",{}]\n" }
+          ∷ record { number = 0; used = 10; written = bytes "RP\0\0\u{1c}reply t1:m [-0,{\"t\":4.000}]\n" }
+          ∷ [];
+    }
+
+unfoldable pub history-34 : History
+history-34 =
+    record {
+      table = bytes "ND\u{1}s\0MO\u{2}t1\0EN";
+      area = 16384;
+      time = 1000;
+      start = 0;
+      calls =
+          Open 0 9999999999999 16384
+          ∷ Open 1 3000 16383
+          ∷ Open 1 10000000000000 16384
+          ∷ Open 8 5000 16384
+          ∷ Open 0 6000 16384
+          ∷ Close 0 7000 16383
+          ∷ Close 0 10000000000000 16384
+          ∷ Close 8 9000 16384
+          ∷ Close 1 10000 16384
+          ∷ Close 0 9999999999999 16384
+          ∷ [];
+      due =
+          record { number = 0; used = 0; written = bytes "" }
+          ∷ record { number = 8; used = 0; written = bytes "" }
+          ∷ record { number = 10; used = 0; written = bytes "" }
+          ∷ record { number = 11; used = 0; written = bytes "" }
+          ∷ record { number = 13; used = 0; written = bytes "" }
+          ∷ record { number = 8; used = 0; written = bytes "" }
+          ∷ record { number = 10; used = 0; written = bytes "" }
+          ∷ record { number = 11; used = 0; written = bytes "" }
+          ∷ record { number = 12; used = 0; written = bytes "" }
+          ∷ record { number = 0; used = 0; written = bytes "" }
+          ∷ [];
+    }
+
+unfoldable pub history-35 : History
+history-35 =
+    record {
+      table = bytes "ND\u{1}s\0MO\u{2}t1\0EN";
+      area = 16384;
+      time = 1000;
+      start = 0;
+      calls =
+          Open 0 2000 16384
+          ∷ Piece 0 (bytes "ping\n") 3000 16384 32767
+          ∷ Piece 0 (bytes "ping\n") 4000 16383 32768
+          ∷ Piece 0 (bytes "ping\n") 10000000000000 16384 32768
+          ∷ Piece 8 (bytes "ping\n") 6000 16384 32768
+          ∷ Piece 1 (bytes "ping\n") 7000 16384 32768
+          ∷ Piece 0 (bytes "ping\n") 9999999999999 16384 32768
+          ∷ [];
+      due =
+          record { number = 0; used = 0; written = bytes "" }
+          ∷ record { number = 7; used = 0; written = bytes "" }
+          ∷ record { number = 8; used = 0; written = bytes "" }
+          ∷ record { number = 10; used = 0; written = bytes "" }
+          ∷ record { number = 11; used = 0; written = bytes "" }
+          ∷ record { number = 12; used = 0; written = bytes "" }
+          ∷ record { number = 0; used = 5; written = bytes "RP\0\0\"pong  [null,{\"t\":9999999999.999}]\n" }
+          ∷ [];
+    }
+
+unfoldable pub history-36 : History
+history-36 =
+    record {
+      table = bytes "ND\u{1}s\0MO\u{2}t1\0PA\u{1}p\0\0\u{2}\0\0\0\0\0\0\0\0\0\0\0\0\0\0\0\t\0\u{1}3EN";
+      area = 16384;
+      time = 1000;
+      start = 0;
+      calls =
+          Open 0 2000 16384
+          ∷ Piece 0 (bytes "activate\n") 3000 16384 32768
+          ∷ Reading 0 (bytes "4") 4000 16384 32767
+          ∷ Reading 0 (bytes "4") 5000 16383 32768
+          ∷ Reading 0 (bytes "4") 10000000000000 16384 32768
+          ∷ Reading 1 (bytes "4") 7000 16384 32768
+          ∷ Reading 0 (bytes "10") 8000 16384 32768
+          ∷ Reading 0 (bytes "") 9000 16384 32768
+          ∷ Piece 0 (bytes "read t1:p\n") 10000 16384 32768
+          ∷ [];
+      due =
+          record { number = 0; used = 0; written = bytes "" }
+          ∷ record { number = 0; used = 9; written = bytes "UP\0\0\u{1c}update t1:p [3,{\"t\":1.000}]\nRP\0\0\u{7}active\n" }
+          ∷ record { number = 7; used = 0; written = bytes "" }
+          ∷ record { number = 8; used = 0; written = bytes "" }
+          ∷ record { number = 10; used = 0; written = bytes "" }
+          ∷ record { number = 14; used = 0; written = bytes "" }
+          ∷ record { number = 15; used = 0; written = bytes "" }
+          ∷ record { number = 15; used = 0; written = bytes "" }
+          ∷ record { number = 0; used = 10; written = bytes "RP\0\0\u{1b}reply t1:p [3,{\"t\":1.000}]\n" }
+          ∷ [];
+    }
+
+unfoldable pub history-37 : History
+history-37 =
+    record {
+      table = bytes "ND\u{1}s\0MO\u{2}t1\0PA\u{1}p\0\0\u{2}\0\0\0\0\0\0\0\0\0\0\0\0\0\0\0\t\0\u{1}3EN";
+      area = 16384;
+      time = 1000;
+      start = 0;
+      calls =
+          Open 0 2000 16384
+          ∷ Open 8 10000000000000 16383
+          ∷ Open 0 10000000000000 16384
+          ∷ Close 1 5000 16383
+          ∷ Piece 1 (bytes "ping\n") 6000 16383 32767
+          ∷ Piece 8 (bytes "ping\n") 10000000000000 16384 32768
+          ∷ Reading 1 (bytes "4") 10000000000000 16384 32767
+          ∷ Reading 1 (bytes "") 9000 16384 32768
+          ∷ [];
+      due =
+          record { number = 0; used = 0; written = bytes "" }
+          ∷ record { number = 8; used = 0; written = bytes "" }
+          ∷ record { number = 10; used = 0; written = bytes "" }
+          ∷ record { number = 8; used = 0; written = bytes "" }
+          ∷ record { number = 7; used = 0; written = bytes "" }
+          ∷ record { number = 10; used = 0; written = bytes "" }
+          ∷ record { number = 7; used = 0; written = bytes "" }
+          ∷ record { number = 14; used = 0; written = bytes "" }
+          ∷ [];
+    }
+
+unfoldable pub history-38 : History
+history-38 =
+    record {
+      table = bytes "ND\u{1}s\0MO\u{2}t1\0PA\u{1}p\0\0\u{2}\0\0\0\0\0\0\0\0\0\0\0\0\0\0\0\t\0\u{1}3EN";
+      area = 16384;
+      time = 10000000000000;
+      start = 10;
+      calls =
+          Open 0 2000 16384
+          ∷ Piece 0 (bytes "read t1:p\n") 3000 16384 32768
+          ∷ Piece 0 (bytes "change t1:p 4\n") 4000 16384 32768
+          ∷ [];
+      due =
+          record { number = 0; used = 0; written = bytes "" }
+          ∷ record { number = 0; used = 10; written = bytes "RP\0\0\u{1b}reply t1:p [3,{\"t\":0.000}]\n" }
+          ∷ record { number = 0; used = 14; written = bytes "DR\0\0\u{2}\04RP\0\0\u{1d}changed t1:p [4,{\"t\":4.000}]\n" }
+          ∷ [];
+    }
+
+unfoldable pub history-39 : History
+history-39 =
+    record {
+      table = bytes "ND\u{1}s\0MO\u{2}t1\0PA\u{1}p\0\0\u{2}\0\0\0\0\0\0\0\0\0\0\0\0\0\0\0\t\0\u{1}3EN";
+      area = 16383;
+      time = 1000;
+      start = 8;
+      calls =
+          Open 0 2000 16384
+          ∷ Piece 0 (bytes "activate\n") 3000 16384 32768
+          ∷ Reading 0 (bytes "4") 4000 16384 32768
+          ∷ [];
+      due =
+          record { number = 0; used = 0; written = bytes "" }
+          ∷ record { number = 0; used = 9; written = bytes "UP\0\0\u{1c}update t1:p [3,{\"t\":0.000}]\nRP\0\0\u{7}active\n" }
+          ∷ record { number = 0; used = 0; written = bytes "UP\0\0\u{1c}update t1:p [4,{\"t\":4.000}]\n" }
+          ∷ [];
+    }
+
+unfoldable pub history-40 : History
+history-40 =
+    record {
+      table = bytes "ND\u{1}s\0MO\u{2}t1\0EN";
+      area = 16384;
+      time = 1000;
+      start = 0;
+      calls =
+          Open 0 2000 16384
+          ∷ Open 1 3000 16384
+          ∷ Piece 0 (bytes "ping a\r") 4000 16384 32768
+          ∷ Piece 1 (bytes "ping b\r\n") 5000 16384 32768
+          ∷ Piece 0 (bytes "\n") 6000 16384 32768
+          ∷ [];
+      due =
+          record { number = 0; used = 0; written = bytes "" }
+          ∷ record { number = 0; used = 0; written = bytes "" }
+          ∷ record { number = 0; used = 7; written = bytes "" }
+          ∷ record { number = 0; used = 8; written = bytes "RP\u{1}\0\u{1a}pong b [null,{\"t\":5.000}]\n" }
+          ∷ record { number = 0; used = 1; written = bytes "RP\0\0\u{1a}pong a [null,{\"t\":6.000}]\n" }
+          ∷ [];
+    }
+
+unfoldable pub history-41 : History
+history-41 =
+    record {
+      table = bytes "ND\u{1}s\0MO\u{2}t1\0EN";
+      area = 16384;
+      time = 1000;
+      start = 0;
+      calls =
+          Open 0 2000 16384
+          ∷ Piece 0 (bytes "ping a\nping b\nping") 3000 16384 32768
+          ∷ Piece 0 (bytes "ping b\nping") 4000 16384 32768
+          ∷ Piece 0 (bytes "ping") 5000 16384 32768
+          ∷ Piece 0 (bytes " c\n") 6000 16384 32768
+          ∷ [];
+      due =
+          record { number = 0; used = 0; written = bytes "" }
+          ∷ record { number = 0; used = 7; written = bytes "RP\0\0\u{1a}pong a [null,{\"t\":3.000}]\n" }
+          ∷ record { number = 0; used = 7; written = bytes "RP\0\0\u{1a}pong b [null,{\"t\":4.000}]\n" }
+          ∷ record { number = 0; used = 4; written = bytes "" }
+          ∷ record { number = 0; used = 3; written = bytes "RP\0\0\u{1a}pong c [null,{\"t\":6.000}]\n" }
+          ∷ [];
+    }
+
+unfoldable pub history-42 : History
+history-42 =
+    record {
+      table = bytes "ND\u{1}s\0MO\u{2}t1\0PA\u{1}p\0\0\u{2}\0\0\0\0\0\0\0\0\0\0\0\0\0\0\0\t\0\u{1}3EN";
+      area = 16384;
+      time = 1000;
+      start = 0;
+      calls =
+          Open 0 2000 16384
+          ∷ Reading 0 (bytes "4") 9000 16384 32768
+          ∷ Reading 0 (bytes "5") 3000 16384 32768
+          ∷ Piece 0 (bytes "read t1:p\n") 5000 16384 32768
+          ∷ Piece 0 (bytes "change t1:p 6\n") 2500 16384 32768
+          ∷ Piece 0 (bytes "read t1:p\n") 7000 16384 32768
+          ∷ Piece 0 (bytes "ping\n") 5 16384 32768
+          ∷ [];
+      due =
+          record { number = 0; used = 0; written = bytes "" }
+          ∷ record { number = 0; used = 0; written = bytes "" }
+          ∷ record { number = 0; used = 0; written = bytes "" }
+          ∷ record { number = 0; used = 10; written = bytes "RP\0\0\u{1b}reply t1:p [5,{\"t\":3.000}]\n" }
+          ∷ record { number = 0; used = 14; written = bytes "DR\0\0\u{2}\06RP\0\0\u{1d}changed t1:p [6,{\"t\":2.500}]\n" }
+          ∷ record { number = 0; used = 10; written = bytes "RP\0\0\u{1b}reply t1:p [6,{\"t\":2.500}]\n" }
+          ∷ record { number = 0; used = 5; written = bytes "RP\0\0\u{19}pong  [null,{\"t\":0.005}]\n" }
+          ∷ [];
+    }
+
+unfoldable pub history-43 : History
+history-43 =
+    record {
+      table = bytes "ND\u{1}s\0MO\u{2}t1\0ENEN";
+      area = 16384;
+      time = 1000;
+      start = 1;
+      calls =
+          Open 0 2000 16384
+          ∷ [];
+      due =
+          record { number = 1; used = 0; written = bytes "" }
+          ∷ [];
+    }
+
+unfoldable pub history-44 : History
+history-44 =
+    record {
+      table = bytes "ND\u{1}s\0EN";
+      area = 16384;
+      time = 1000;
+      start = 2;
+      calls =
+          Open 0 2000 16384
+          ∷ [];
+      due =
+          record { number = 2; used = 0; written = bytes "" }
+          ∷ [];
+    }
+
+unfoldable pub history-45 : History
+history-45 =
+    record {
+      table = bytes "ND\u{1}s\0MO\u{2}9x\0EN";
+      area = 16384;
+      time = 1000;
+      start = 3;
+      calls =
+          Open 0 2000 16384
+          ∷ [];
+      due =
+          record { number = 3; used = 0; written = bytes "" }
+          ∷ [];
+    }
+
+unfoldable pub history-46 : History
+history-46 =
+    record {
+      table = bytes "ND\u{1}s\0MO\u{2}t1\0CM\u{1}c\0\u{1}\u{2}\0\0\0\0\0\0\0\u{1}\0\0\0\0\0\0\0\0EN";
+      area = 16384;
+      time = 1000;
+      start = 4;
+      calls =
+          Open 0 2000 16384
+          ∷ [];
+      due =
+          record { number = 4; used = 0; written = bytes "" }
+          ∷ [];
+    }
+
+unfoldable pub history-47 : History
+history-47 =
+    record {
+      table = bytes "ND\u{1}s\0MO\u{2}t1\0PA\u{1}p\0\0\u{2}\0\0\0\0\0\0\0\0\0\0\0\0\0\0\0\t\0\u{2}3 EN";
+      area = 16384;
+      time = 1000;
+      start = 5;
+      calls =
+          Open 0 2000 16384
+          ∷ [];
+      due =
+          record { number = 5; used = 0; written = bytes "" }
+          ∷ [];
+    }
+
+unfoldable pub history-48 : History
+history-48 =
+    record {
+      table = bytes "ND\u{1}s\0MO\u{2}9x\0CM\u{1}c\0\u{2}EN";
+      area = 16384;
+      time = 1000;
+      start = 1;
+      calls =
+          Open 0 2000 16384
+          ∷ [];
+      due =
+          record { number = 1; used = 0; written = bytes "" }
+          ∷ [];
+    }
+
+unfoldable pub history-49 : History
+history-49 =
+    record {
+      table = bytes "ND\u{1}s\u{1}\"EN";
+      area = 16384;
+      time = 1000;
+      start = 2;
+      calls =
+          Open 0 2000 16384
+          ∷ [];
+      due =
+          record { number = 2; used = 0; written = bytes "" }
+          ∷ [];
+    }
+
+unfoldable pub history-50 : History
+history-50 =
+    record {
+      table = bytes "ND\u{1}s\0MO\u{2}t1\0CM\u{1}c\0\u{1}\u{4}\u{2}\u{1}a\0\0\0\0\u{1}A\0\0\0\0EN";
+      area = 16384;
+      time = 1000;
+      start = 3;
+      calls =
+          Open 0 2000 16384
+          ∷ [];
+      due =
+          record { number = 3; used = 0; written = bytes "" }
+          ∷ [];
+    }
+
+unfoldable pub history-51 : History
+history-51 =
+    record {
+      table = bytes "ND\u{1}s\0MO\u{2}t1\0PA\u{1}p\0\0\u{5}\0\u{1}\0\0\0\u{1}2EN";
+      area = 16384;
+      time = 1000;
+      start = 4;
+      calls =
+          Open 0 2000 16384
+          ∷ [];
+      due =
+          record { number = 4; used = 0; written = bytes "" }
+          ∷ [];
+    }
+
+unfoldable pub history-52 : History
+history-52 =
+    record {
+      table = bytes "ND\u{1}s\0MO\u{2}t1\0PA\u{1}p\0\0\u{2}\0\0\0\0\0\0\0\0\0\0\0\0\0\0\0\t\0\u{2}3 EN";
+      area = 16383;
+      time = 1000;
+      start = 5;
+      calls =
+          Open 0 2000 16384
+          ∷ [];
+      due =
+          record { number = 5; used = 0; written = bytes "" }
+          ∷ [];
+    }
+
 unfoldable pub histories : List History
-histories = history-1 ∷ history-2 ∷ history-3 ∷ history-4 ∷ history-5 ∷ history-6 ∷ history-7 ∷ history-8 ∷ history-9 ∷ history-10 ∷ history-11 ∷ history-12 ∷ history-13 ∷ history-14 ∷ history-15 ∷ history-16 ∷ history-17 ∷ history-18 ∷ history-19 ∷ history-20 ∷ []
+histories = history-1 ∷ history-2 ∷ history-3 ∷ history-4 ∷ history-5 ∷ history-6 ∷ history-7 ∷ history-8 ∷ history-9 ∷ history-10 ∷ history-11 ∷ history-12 ∷ history-13 ∷ history-14 ∷ history-15 ∷ history-16 ∷ history-17 ∷ history-18 ∷ history-19 ∷ history-20 ∷ history-21 ∷ history-22 ∷ history-23 ∷ history-24 ∷ history-25 ∷ history-26 ∷ history-27 ∷ history-28 ∷ history-29 ∷ history-30 ∷ history-31 ∷ history-32 ∷ history-33 ∷ history-34 ∷ history-35 ∷ history-36 ∷ history-37 ∷ history-38 ∷ history-39 ∷ history-40 ∷ history-41 ∷ history-42 ∷ history-43 ∷ history-44 ∷ history-45 ∷ history-46 ∷ history-47 ∷ history-48 ∷ history-49 ∷ history-50 ∷ history-51 ∷ history-52 ∷ []

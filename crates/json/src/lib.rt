@@ -1,7 +1,7 @@
 // JSON texts over the bytes 32 to 126.
 ghost use mathlib.Core.Path.{_≡_};
 ghost use mathlib.Core.Bool.{true};
-ghost use Rattle.json.specs.Theorems.{CompactIsReadBack};
+ghost use Rattle.json.specs.Theorems.{CompactIsReadBack, CountsNeverCut};
 
 pub mod characters;
 pub mod compact;
@@ -10,6 +10,13 @@ pub mod read;
 // The compact text of a value that was read is read as the same value: nothing is run, the promise is the theorem.
 pub fn compact_is_read_back() -> bool
     ensures { λ r. ⌜ (r ≡ true) × CompactIsReadBack ⌝ }
+{
+    true
+}
+
+// The counts by which the definitions read strings, items and members never cut a text short.
+pub fn counts_never_cut() -> bool
+    ensures { λ r. ⌜ (r ≡ true) × CountsNeverCut ⌝ }
 {
     true
 }

@@ -2,9 +2,10 @@
 
 use super::datainfos;
 use super::encode;
-use crate::datainfo::{Datainfo, Limit};
+use super::parts::{self, array, command, double, module, parameter, string};
+use crate::datainfo::Datainfo;
 use crate::report;
-use crate::table::{Accessible, Kind, Module, Table};
+use crate::table::{Accessible, Table};
 
 /// A table at a border, with the number due.
 #[derive(Clone, Debug)]
@@ -57,18 +58,8 @@ fn arguments() -> Vec<(&'static str, Datainfo, u8)> {
         let members = (0..count).map(|at| (format!("n{at}").into_bytes(), Datainfo::Bool));
         Datainfo::Struct(members.collect())
     };
-    let double = |min: i8, max: i8| Datainfo::Double {
-        min: Limit {
-            mantissa: -1,
-            power: min,
-        },
-        max: Limit {
-            mantissa: 1,
-            power: max,
-        },
-    };
+    let powers = |min: i8, max: i8| double((-1, min), (1, max));
     let int = |min, max| Datainfo::Int { min, max };
-    let string = |minchars, maxchars| Datainfo::String { minchars, maxchars };
     vec![
         ("enum of none", enumeration(0), 4),
         ("enum of 1", enumeration(1), 0),
@@ -81,9 +72,9 @@ fn arguments() -> Vec<(&'static str, Datainfo, u8)> {
         ("struct of none", structure(0), 4),
         ("struct of 8", structure(8), 0),
         ("struct of 9", structure(9), 4),
-        ("powers -30 and 30", double(-30, 30), 0),
-        ("power -31", double(-31, 30), 4),
-        ("power 31", double(-30, 31), 4),
+        ("powers -30 and 30", powers(-30, 30), 0),
+        ("power -31", powers(-31, 30), 4),
+        ("power 31", powers(-30, 31), 4),
         ("limits of an int equal", int(7, 7), 0),
         ("limits of an int at the ends", int(i64::MIN, i64::MAX), 0),
         ("limits of an int swapped", int(8, 7), 4),
@@ -97,48 +88,14 @@ fn arguments() -> Vec<(&'static str, Datainfo, u8)> {
 fn nested(levels: usize) -> Datainfo {
     match levels {
         1 => Datainfo::Bool,
-        _ => Datainfo::Array {
-            minlen: 0,
-            maxlen: 1,
-            members: Box::new(nested(levels - 1)),
-        },
-    }
-}
-
-fn module(name: &str, accessibles: Vec<Accessible>) -> Module {
-    Module {
-        name: name.as_bytes().to_vec(),
-        description: Vec::new(),
-        note: None,
-        accessibles,
+        _ => array(0, 1, nested(levels - 1)),
     }
 }
 
 fn table(accessibles: Vec<Accessible>) -> Table {
     Table {
         equipment_id: b"border".to_vec(),
-        description: Vec::new(),
-        modules: vec![module("m", accessibles)],
-    }
-}
-
-fn command(name: &str, argument: Option<Datainfo>) -> Accessible {
-    Accessible {
-        name: name.as_bytes().to_vec(),
-        description: Vec::new(),
-        kind: Kind::Command { argument },
-    }
-}
-
-fn parameter(name: &str, datainfo: Datainfo, initial: &[u8]) -> Accessible {
-    Accessible {
-        name: name.as_bytes().to_vec(),
-        description: Vec::new(),
-        kind: Kind::Parameter {
-            readonly: false,
-            datainfo,
-            initial: initial.to_vec(),
-        },
+        ..parts::table(vec![module("m", accessibles)])
     }
 }
 
@@ -160,7 +117,7 @@ fn with_accessibles(count: usize) -> Table {
 }
 
 fn with_parameters(count: usize) -> Table {
-    let parameters = (0..count).map(|at| parameter(&format!("p{at}"), Datainfo::Bool, b"true"));
+    let parameters = (0..count).map(|at| parameter(&format!("p{at}"), Datainfo::Bool, "true"));
     table(parameters.collect())
 }
 
@@ -169,12 +126,8 @@ fn with_name(length: usize) -> Table {
 }
 
 fn with_initial(length: usize) -> Table {
-    let datainfo = Datainfo::String {
-        minchars: 0,
-        maxchars: 1_000,
-    };
     let initial = format!("\"{}\"", "x".repeat(length - 2));
-    table(vec![parameter("p", datainfo, initial.as_bytes())])
+    table(vec![parameter("p", string(0, 1_000), &initial)])
 }
 
 /// A table of so many bytes with a report well below its limit.

@@ -3,11 +3,15 @@
 
 pub mod borders;
 pub mod datainfos;
+pub mod directed;
 pub mod encode;
 pub mod histories;
 pub mod lines;
 pub mod names;
+mod parts;
+mod script;
 pub mod second;
 pub mod small;
 pub mod tables;
 pub mod values;
+pub mod vectors;

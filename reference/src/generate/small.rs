@@ -4,13 +4,16 @@
 
 use super::encode;
 use super::histories::Host;
+use super::parts::{
+    self, array, command, digit, double, enumeration, parameter, string, structure,
+};
 use super::values;
-use crate::datainfo::{Datainfo, Limit};
+use crate::datainfo::Datainfo;
 use crate::history::{Call, History};
 use crate::node::{MAX_TIME, MIN_VALUES};
 use crate::outbox::MIN_OUTBOX;
 use crate::random::Random;
-use crate::table::{Accessible, Kind, Module, Table};
+use crate::table::{Accessible, Module, Table};
 
 /// The longest value in a line.
 const MAX_VALUE: usize = 20;
@@ -66,87 +69,43 @@ fn table(random: &mut Random) -> Table {
     if !second.is_empty() || random.one_in(4) {
         modules.push(module("mf", second));
     }
-    Table {
-        equipment_id: b"s".to_vec(),
-        description: Vec::new(),
-        modules,
-    }
+    parts::table(modules)
 }
 
 fn module(name: &str, accessibles: Vec<Accessible>) -> Module {
     Module {
-        name: name.as_bytes().to_vec(),
         description: b"d".to_vec(),
-        note: None,
-        accessibles,
+        ..parts::module(name, accessibles)
     }
 }
 
 fn kelvin() -> Datainfo {
-    let limit = |mantissa, power| Limit { mantissa, power };
-    Datainfo::Double {
-        min: limit(0, 0),
-        max: limit(3, 2),
-    }
-}
-
-fn digit() -> Datainfo {
-    Datainfo::Int { min: 0, max: 9 }
+    double((0, 0), (3, 2))
 }
 
 fn readonly() -> Vec<Accessible> {
     vec![
-        parameter("value", true, kelvin(), "295.13"),
-        parameter("ready", true, Datainfo::Bool, "false"),
+        parts::readonly("value", kelvin(), "295.13"),
+        parts::readonly("ready", Datainfo::Bool, "false"),
     ]
 }
 
 fn changeable() -> Vec<Accessible> {
-    let name = |name: &str| name.as_bytes().to_vec();
-    let modes = Datainfo::Enum(vec![(name("off"), 0), (name("on"), 1)]);
-    let string = Datainfo::String {
-        minchars: 0,
-        maxchars: 8,
-    };
-    let array = Datainfo::Array {
-        minlen: 0,
-        maxlen: 2,
-        members: Box::new(digit()),
-    };
-    let tuple = Datainfo::Tuple(vec![Datainfo::Bool, digit()]);
-    let structure = Datainfo::Struct(vec![(name("p"), digit()), (name("q"), Datainfo::Bool)]);
+    let modes = enumeration(&[("off", 0), ("on", 1)]);
+    let pair = Datainfo::Tuple(vec![Datainfo::Bool, digit()]);
+    let pid = structure(&[("p", digit()), ("q", Datainfo::Bool)]);
     vec![
-        parameter("target", false, kelvin(), "0"),
-        parameter("mode", false, modes, "0"),
-        parameter("label", false, string, "\"ok\""),
-        parameter("list", false, array, "[]"),
-        parameter("pair", false, tuple, "[true,1]"),
-        parameter("pid", false, structure, "{\"p\":1,\"q\":true}"),
+        parameter("target", kelvin(), "0"),
+        parameter("mode", modes, "0"),
+        parameter("label", string(0, 8), "\"ok\""),
+        parameter("list", array(0, 2, digit()), "[]"),
+        parameter("pair", pair, "[true,1]"),
+        parameter("pid", pid, "{\"p\":1,\"q\":true}"),
     ]
 }
 
 fn commands() -> Vec<Accessible> {
     vec![command("stop", None), command("go", Some(digit()))]
-}
-
-fn parameter(name: &str, readonly: bool, datainfo: Datainfo, initial: &str) -> Accessible {
-    Accessible {
-        name: name.as_bytes().to_vec(),
-        description: Vec::new(),
-        kind: Kind::Parameter {
-            readonly,
-            datainfo,
-            initial: initial.as_bytes().to_vec(),
-        },
-    }
-}
-
-fn command(name: &str, argument: Option<Datainfo>) -> Accessible {
-    Accessible {
-        name: name.as_bytes().to_vec(),
-        description: Vec::new(),
-        kind: Kind::Command { argument },
-    }
 }
 
 /// A host over a small table.

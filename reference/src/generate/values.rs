@@ -7,7 +7,7 @@ use crate::random::Random;
 
 /// Texts that try the corners of RFC 8259 and of the value rules.
 #[rustfmt::skip]
-const CORNERS: &[&str] = &[
+pub const CORNERS: &[&str] = &[
     "", " ", "   ", "null", " null ", "true", " false", "nul", "truefalse", "True", "0", "-0",
     "00", "01", "-01", "-", "+1", "1.", ".5", "-.5", "1.0", "1.5", "0.0", "-0.0", "1e5", "1E5",
     "1E+05", "1e-05", "1e", "1e+", "1e1.0", "0e99", "0e100", "0e-99", "0e-100", "1e99", "1e100",

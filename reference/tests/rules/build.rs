@@ -198,3 +198,21 @@ pub fn line_of(record: &Record) -> String {
         .expect("a line feed ends it")
         .to_string()
 }
+
+/// A reply or an update as `client mark line`, an order as its bytes.
+pub fn shown(records: &[Record]) -> Vec<String> {
+    records
+        .iter()
+        .map(|record| match record.mark {
+            Mark::Reply => format!("{} < {}", record.client, line_of(record)),
+            Mark::Update => format!("{} * {}", record.client, line_of(record)),
+            Mark::DriverChange => format!("{} DR {}", record.client, shown_order(record)),
+            Mark::DriverCommand => format!("{} DC {}", record.client, shown_order(record)),
+        })
+        .collect()
+}
+
+fn shown_order(record: &Record) -> String {
+    let stored = String::from_utf8(record.body[1..].to_vec()).expect("ASCII");
+    format!("{} {stored}", record.body[0])
+}

@@ -3,13 +3,16 @@
 use crate::build::line_of;
 use crate::watch::{watch, Seen};
 use reference::error::ErrorClass;
-use reference::generate::{borders, datainfos, encode, histories, second, small, tables, values};
+use reference::generate::{
+    borders, datainfos, directed, encode, histories, second, small, tables, values,
+};
 use reference::history::{Call, History};
 use reference::json;
 use reference::outbox::{Mark, Record};
 use reference::random::Random;
 use reference::table::Table;
 use reference::value::{judge, ValueFault};
+use std::collections::BTreeSet;
 
 fn number(table: &[u8]) -> u8 {
     Table::judge(table).map_or_else(|refusal| refusal.number(), |_| 0)
@@ -394,6 +397,38 @@ fn small_histories_are_small_and_various() {
         all.records.windows(2).any(updates),
         "updates to two clients"
     );
+}
+
+/// The histories that the script `print-histories` asks for.
+fn printed_histories() -> Vec<History> {
+    let script = include_str!("../../print-histories");
+    let (_, arguments) = script
+        .rsplit_once(" definitions ")
+        .expect("the seeds come last");
+    let histories = |argument| match argument {
+        "directed" => directed::all()
+            .into_iter()
+            .map(|scene| scene.history)
+            .collect(),
+        seed => vec![small::history(seed.parse().expect("a seed"))],
+    };
+    arguments.split_whitespace().flat_map(histories).collect()
+}
+
+/// What the comment in `print-histories` says.
+#[test]
+fn the_printed_histories_have_all_kinds_of_records_and_numbers_but_6_and_9() {
+    let seen: Vec<Seen> = printed_histories().iter().map(watch).collect();
+    let records: Vec<Record> = seen.iter().flat_map(|one| one.records.clone()).collect();
+    assert_records_of_all_kinds(&records);
+    let starts: BTreeSet<u8> = seen.iter().map(|one| one.numbers[0]).collect();
+    assert_eq!(starts, BTreeSet::from([0, 1, 2, 3, 4, 5, 8, 10]));
+    let later: BTreeSet<u8> = seen
+        .iter()
+        .flat_map(|one| one.numbers[1..].to_vec())
+        .collect();
+    let expected = (0..=15).filter(|number| ![6, 9].contains(number));
+    assert_eq!(later, expected.collect());
 }
 
 #[test]

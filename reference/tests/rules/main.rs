@@ -3,6 +3,7 @@
 
 mod build;
 mod calls;
+mod directed;
 mod examples;
 mod generated;
 mod lines;
@@ -10,4 +11,5 @@ mod program;
 mod reports;
 mod tables;
 mod values;
+mod vectors;
 mod watch;

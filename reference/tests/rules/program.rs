@@ -1,6 +1,7 @@
 //! The command line and the text form of histories.
 
 use crate::build::lab;
+use reference::definitions;
 use reference::generate::histories;
 use reference::history::{Call, History};
 use reference::text;
@@ -25,10 +26,14 @@ fn run(arguments: &[&str], input: &str) -> Output {
     child.wait_with_output().expect("the program ends")
 }
 
-fn printed(arguments: &[&str], input: &str) -> String {
+pub fn printed_bytes(arguments: &[&str], input: &str) -> Vec<u8> {
     let output = run(arguments, input);
     assert!(output.status.success(), "{arguments:?}");
-    String::from_utf8(output.stdout).expect("text")
+    output.stdout
+}
+
+pub fn printed(arguments: &[&str], input: &str) -> String {
+    String::from_utf8(printed_bytes(arguments, input)).expect("text")
 }
 
 #[test]
@@ -137,6 +142,7 @@ fn run_repeats_what_history_and_small_and_second_print() {
         &["second", "5"],
         &["small", "5"],
         &["small", "6"],
+        &["directed", "1"],
     ] {
         let first = printed(arguments, "");
         assert!(first.starts_with("table "));
@@ -181,6 +187,86 @@ fn tables_and_values_are_printed_one_to_a_line() {
 }
 
 #[test]
+fn directed_histories_have_numbers_and_names() {
+    let names = printed(&["directed"], "");
+    assert!(names.starts_with("1 one of two modules deactivated\n"));
+    let count = names.lines().count();
+    for (at, line) in (1..).zip(names.lines()) {
+        assert!(line.starts_with(&format!("{at} ")), "{line}");
+        let history = printed(&["directed", &at.to_string()], "");
+        assert!(history.starts_with("table "), "{line}");
+    }
+    for beyond in [0, count + 1] {
+        let output = run(&["directed", &beyond.to_string()], "");
+        assert!(!output.status.success(), "{beyond}");
+    }
+}
+
+#[test]
+fn definitions_of_a_refused_start() {
+    let history = History {
+        table: b"ND\x00\x00EN".to_vec(),
+        calls: vec![
+            Call::Start {
+                values_len: 16_384,
+                time: 5,
+            },
+            Call::Open {
+                client: 7,
+                values_len: 1,
+                time: 6,
+            },
+            Call::Piece {
+                client: 0,
+                values_len: 2,
+                outbox_len: 3,
+                time: 7,
+                bytes: b"'\\u{0}\"\0\x7f\n".to_vec(),
+            },
+        ],
+    };
+    // No module: number 2, for every call.
+    let expected = r#"
+unfoldable pub history-1 : History
+history-1 =
+    record {
+      table = bytes "ND\0\0EN";
+      area = 16384;
+      time = 5;
+      start = 2;
+      calls =
+          Open 7 6 1
+          ∷ Piece 0 (bytes "'\\u{0}\"\0\u{7f}\n") 7 2 3
+          ∷ [];
+      due =
+          record { number = 2; used = 0; written = bytes "" }
+          ∷ record { number = 2; used = 0; written = bytes "" }
+          ∷ [];
+    }
+
+unfoldable pub histories : List History
+histories = history-1 ∷ []
+"#;
+    let printed = definitions::print(std::slice::from_ref(&history)).expect("one start");
+    assert!(printed.ends_with(expected), "{printed}");
+    let started_twice = History {
+        calls: [history.calls.clone(), history.calls.clone()].concat(),
+        ..history
+    };
+    assert_eq!(definitions::print(&[started_twice]), None);
+}
+
+#[test]
+fn definitions_count_seeds_and_directed_histories() {
+    let names = printed(&["directed"], "").lines().count();
+    let printed = printed(&["definitions", "1", "directed", "3"], "");
+    let defined = printed.matches("\nunfoldable pub history-").count();
+    assert_eq!(defined, names + 2);
+    let last = format!("\nunfoldable pub history-{} : History\n", names + 2);
+    assert!(printed.contains(&last));
+}
+
+#[test]
 fn help_and_mistakes() {
     assert!(printed(&["--help"], "").contains("history SEED [CALLS]"));
     let mistakes = [
@@ -189,6 +275,8 @@ fn help_and_mistakes() {
         (&["run", "-"], "table 4e\nstart 16384\n"),
         (&["run", "/no/such/file"], ""),
         (&["small", "x"], ""),
+        (&["definitions", "1", "x"], ""),
+        (&["value-input", "1"], ""),
         (&["nonsense"], ""),
         (&[], ""),
     ];

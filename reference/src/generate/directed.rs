@@ -1,0 +1,448 @@
+//! Directed small histories: each shows one rule or a few that belong
+//! together, over a small table and with a handful of calls, for an evaluator
+//! that is slow. Nothing in them is random.
+
+use super::encode;
+use super::parts::{
+    array, command, digit, double, enumeration, module, parameter, readonly, string, structure,
+    table,
+};
+use super::script::Script;
+use crate::datainfo::Datainfo;
+use crate::history::History;
+use crate::node::{MAX_TIME, MIN_VALUES};
+use crate::outbox::MIN_OUTBOX;
+use crate::table::{Accessible, Table};
+
+const LATE: u64 = MAX_TIME + 1;
+const SHORT_VALUES: usize = MIN_VALUES - 1;
+const SHORT_OUTBOX: usize = MIN_OUTBOX - 1;
+
+/// A history with the name of what it shows.
+#[derive(Clone, Debug, PartialEq)]
+pub struct Scene {
+    pub name: &'static str,
+    pub history: History,
+}
+
+/// All scenes, those with faulty tables last.
+pub fn all() -> Vec<Scene> {
+    let scene = |(name, script): (_, Script)| Scene {
+        name,
+        history: script.history(),
+    };
+    let good = over_good_tables().into_iter();
+    good.chain(over_faulty_tables()).map(scene).collect()
+}
+
+fn over_good_tables() -> Vec<(&'static str, Script)> {
+    vec![
+        ("one of two modules deactivated", deactivation()),
+        ("closed and opened again", reopening()),
+        ("two commands", commands()),
+        ("lines of 1,024 bytes", longest_lines()),
+        ("lines of 1,025 bytes", overlong_lines()),
+        ("names that do not do", names()),
+        ("refused changes", refused_changes()),
+        ("members of a struct", struct_members()),
+        ("counts of tuples and arrays", counts()),
+        ("characters of a string", characters()),
+        ("stored forms of 256 and 257 bytes", stored_forms()),
+        ("tokens and powers", tokens_and_powers()),
+        ("minus zero and enum members", whole_numbers()),
+        ("refused opens and closes", refused_opens_and_closes()),
+        ("refused pieces", refused_pieces()),
+        ("refused readings", refused_readings()),
+        ("the lowest of several numbers", lowest_numbers()),
+        ("start too late", late_start()),
+        ("start with a short values area", short_start()),
+        ("pieces of two clients", mingled_pieces()),
+        ("several lines in one piece", several_lines()),
+        ("times that go back", earlier_times()),
+    ]
+}
+
+fn one_module(accessibles: Vec<Accessible>) -> Table {
+    table(vec![module("t1", accessibles)])
+}
+
+/// A history over a module `t1`, started.
+fn started(accessibles: Vec<Accessible>) -> Script {
+    Script::over(encode::table(&one_module(accessibles))).start()
+}
+
+/// The parameter `p`, an int from 0 to 9, with 3 as its initial value.
+fn three() -> Accessible {
+    parameter("p", digit(), "3")
+}
+
+/// The activation is one set of modules: what is left of it sends updates.
+fn deactivation() -> Script {
+    let modules = vec![
+        module("t1", vec![parameter("p", Datainfo::Bool, "false")]),
+        module("mf", vec![parameter("q", digit(), "0")]),
+    ];
+    Script::over(encode::table(&table(modules)))
+        .start()
+        .open(1)
+        .open(2)
+        .line(1, "activate")
+        .line(1, "deactivate t1")
+        .line(2, "change t1:p true")
+        .line(2, "change mf:q 7")
+}
+
+/// A close forgets what was active, and an open begins with nothing active.
+fn reopening() -> Script {
+    started(vec![three()])
+        .open(0)
+        .line(0, "activate")
+        .close(0)
+        .reading(0, "4")
+        .open(0)
+        .reading(0, "5")
+        .line(0, "read t1:p")
+}
+
+/// Commands are counted over commands alone. The order has the argument's
+/// stored form, or nothing where none is declared.
+fn commands() -> Script {
+    let modules = vec![
+        module("t1", vec![three(), command("stop", None)]),
+        module("mf", vec![command("go", Some(array(0, 2, digit())))]),
+    ];
+    Script::over(encode::table(&table(modules)))
+        .start()
+        .open(0)
+        .lines(&["do mf:go  [ 1 , 2 ] ", "do t1:stop"])
+}
+
+/// A ping of so many bytes, the return at its end included if it has one.
+fn ping_of(length: usize, end: &str) -> String {
+    let token = "x".repeat(length - "ping ".len() - end.len());
+    format!("ping {token}{end}")
+}
+
+fn longest_lines() -> Script {
+    started(Vec::new())
+        .open(0)
+        .line(0, &ping_of(1_024, ""))
+        .line(0, &ping_of(1_024, "\r"))
+}
+
+/// The return counts, so a line of 1,024 bytes and a return is overlong.
+fn overlong_lines() -> Script {
+    started(Vec::new())
+        .open(0)
+        .line(0, &ping_of(1_025, ""))
+        .line(0, &ping_of(1_025, "\r"))
+        .line(0, "ping")
+}
+
+/// Bad names, names that nothing has, and accessibles of the other kind.
+fn names() -> Script {
+    started(vec![three(), command("stop", None)])
+        .open(0)
+        .lines(&[
+            "activate 9x",
+            "activate tx",
+            "deactivate :",
+            "read t1",
+            "read t1:tx",
+            "read t1:stop",
+            "do t1:p",
+        ])
+}
+
+/// ReadOnly comes before the data is looked at; a refused change stores
+/// nothing.
+fn refused_changes() -> Script {
+    started(vec![readonly("v", Datainfo::Bool, "false"), three()])
+        .open(0)
+        .lines(&[
+            "change t1:v }",
+            "change t1:p 01",
+            "change t1:p true",
+            "change t1:p 10",
+            "read t1:p",
+        ])
+}
+
+/// Every member exactly once, in any order.
+fn struct_members() -> Script {
+    let members = structure(&[("a", Datainfo::Bool), ("b", digit())]);
+    started(vec![parameter("s", members, r#"{"a":true,"b":1}"#)])
+        .open(0)
+        .lines(&[
+            r#"change t1:s {"b":2,"a":false}"#,
+            r#"change t1:s {"a":true,"a":true}"#,
+            r#"change t1:s {"a":true,"b":1,"b":1}"#,
+            r#"change t1:s {"a":true,"b":1,"c":1}"#,
+            r#"change t1:s {"a":true}"#,
+            "read t1:s",
+        ])
+}
+
+/// A wrong count is a fault of type for a tuple, of range for an array, where
+/// a wrong type past the limit wins.
+fn counts() -> Script {
+    let pair = Datainfo::Tuple(vec![Datainfo::Bool, digit()]);
+    started(vec![
+        parameter("u", pair, "[true,1]"),
+        parameter("l", array(0, 2, Datainfo::Bool), "[]"),
+    ])
+    .open(0)
+    .lines(&[
+        "change t1:u [true]",
+        "change t1:u [true,1,2]",
+        "change t1:l [true,true,1]",
+        "change t1:l [true,true,true]",
+        "change t1:l [ true , false ]",
+    ])
+}
+
+/// Two characters at most, each escape one; none above 007F.
+fn characters() -> Script {
+    started(vec![parameter("l", string(0, 2), r#""""#)])
+        .open(0)
+        .lines(&[
+            r#"change t1:l "\n\u0041""#,
+            r#"change t1:l "\n\n\n""#,
+            r#"change t1:l "\u0080""#,
+            r#"change t1:l "\u007F""#,
+        ])
+}
+
+/// Spaces outside the string are not part of the stored form.
+fn stored_forms() -> Script {
+    let change = |characters| format!("change t1:l  \"{}\" ", "x".repeat(characters));
+    started(vec![parameter("l", string(0, 300), r#""""#)])
+        .open(0)
+        .line(0, &change(254))
+        .line(0, &change(255))
+        .line(0, "read t1:l")
+}
+
+/// Tokens of 32 bytes and powers from -99 to 99 will do, zero or not.
+fn tokens_and_powers() -> Script {
+    let change_of_length = |length: usize| format!("change t1:d 0.{}", "0".repeat(length - 2));
+    started(vec![parameter("d", double((0, 0), (1, 0)), "1")])
+        .open(0)
+        .line(0, &change_of_length(32))
+        .line(0, &change_of_length(33))
+        .lines(&[
+            "change t1:d 0e99",
+            "change t1:d 0e100",
+            "change t1:d 1e-99",
+            "change t1:d 1e-100",
+        ])
+}
+
+/// The number -0 is 0 and is stored as sent.
+fn whole_numbers() -> Script {
+    let modes = enumeration(&[("off", 0), ("on", 1)]);
+    started(vec![three(), parameter("m", modes, "1")])
+        .open(0)
+        .lines(&[
+            "change t1:p -0",
+            "change t1:m -0",
+            "change t1:m 2",
+            "read t1:m",
+        ])
+}
+
+fn refused_opens_and_closes() -> Script {
+    started(Vec::new())
+        .at(MAX_TIME)
+        .open(0)
+        .values(SHORT_VALUES)
+        .open(1)
+        .at(LATE)
+        .open(1)
+        .open(8)
+        .open(0)
+        .values(SHORT_VALUES)
+        .close(0)
+        .at(LATE)
+        .close(0)
+        .close(8)
+        .close(1)
+        .at(MAX_TIME)
+        .close(0)
+}
+
+fn refused_pieces() -> Script {
+    started(Vec::new())
+        .open(0)
+        .outbox(SHORT_OUTBOX)
+        .line(0, "ping")
+        .values(SHORT_VALUES)
+        .line(0, "ping")
+        .at(LATE)
+        .line(0, "ping")
+        .line(8, "ping")
+        .line(1, "ping")
+        .at(MAX_TIME)
+        .line(0, "ping")
+}
+
+/// A refused reading stores and sends nothing.
+fn refused_readings() -> Script {
+    started(vec![three()])
+        .open(0)
+        .line(0, "activate")
+        .outbox(SHORT_OUTBOX)
+        .reading(0, "4")
+        .values(SHORT_VALUES)
+        .reading(0, "4")
+        .at(LATE)
+        .reading(0, "4")
+        .reading(1, "4")
+        .reading(0, "10")
+        .reading(0, "")
+        .line(0, "read t1:p")
+}
+
+/// Calls with several faults.
+fn lowest_numbers() -> Script {
+    started(vec![three()])
+        .open(0)
+        .values(SHORT_VALUES)
+        .at(LATE)
+        .open(8)
+        .at(LATE)
+        .open(0)
+        .values(SHORT_VALUES)
+        .close(1)
+        .outbox(SHORT_OUTBOX)
+        .values(SHORT_VALUES)
+        .line(1, "ping")
+        .at(LATE)
+        .line(8, "ping")
+        .outbox(SHORT_OUTBOX)
+        .at(LATE)
+        .reading(1, "4")
+        .reading(1, "")
+}
+
+/// A refused start over a good table can be gone on with; it leaves initial
+/// values with time 0.
+fn late_start() -> Script {
+    Script::over(encode::table(&one_module(vec![three()])))
+        .at(LATE)
+        .start()
+        .open(0)
+        .lines(&["read t1:p", "change t1:p 4"])
+}
+
+fn short_start() -> Script {
+    Script::over(encode::table(&one_module(vec![three()])))
+        .values(SHORT_VALUES)
+        .start()
+        .open(0)
+        .line(0, "activate")
+        .reading(0, "4")
+}
+
+/// A line cut between return and line feed, with another client's line in
+/// between.
+fn mingled_pieces() -> Script {
+    started(Vec::new())
+        .open(0)
+        .open(1)
+        .piece(0, "ping a\r")
+        .piece(1, "ping b\r\n")
+        .piece(0, "\n")
+}
+
+/// A call takes one line; the rest is offered again.
+fn several_lines() -> Script {
+    started(Vec::new())
+        .open(0)
+        .piece(0, "ping a\nping b\nping")
+        .piece(0, "ping b\nping")
+        .piece(0, "ping")
+        .piece(0, " c\n")
+}
+
+/// A later event with a smaller time sets the stored time all the same.
+fn earlier_times() -> Script {
+    started(vec![three()])
+        .open(0)
+        .at(9_000)
+        .reading(0, "4")
+        .at(3_000)
+        .reading(0, "5")
+        .line(0, "read t1:p")
+        .at(2_500)
+        .line(0, "change t1:p 6")
+        .line(0, "read t1:p")
+        .at(5)
+        .line(0, "ping")
+}
+
+/// One table for each of the numbers 1 to 5, then tables with two faults. An
+/// open after the start answers with the same number.
+fn over_faulty_tables() -> Vec<(&'static str, Script)> {
+    let short_start = Script::over(unfit_initial_value()).values(SHORT_VALUES);
+    let with_open = |script: Script| script.start().open(0);
+    let over = |table| with_open(Script::over(table));
+    vec![
+        ("bytes after the table's end", over(bytes_after_the_end())),
+        ("no module", over(encode::table(&table(Vec::new())))),
+        ("bad name", over(bad_name())),
+        ("limits swapped", over(limits_swapped())),
+        ("unfit initial value", over(unfit_initial_value())),
+        ("bad flag after a bad name", over(bad_flag_and_bad_name())),
+        ("no module and a bad text", over(no_module_and_bad_text())),
+        ("enum with all twice", over(name_and_value_twice())),
+        ("limits and initial value", over(limits_and_initial_value())),
+        (
+            "unfit initial value and short start",
+            with_open(short_start),
+        ),
+    ]
+}
+
+fn bytes_after_the_end() -> Vec<u8> {
+    [encode::table(&one_module(Vec::new())), b"EN".to_vec()].concat()
+}
+
+fn bad_name() -> Vec<u8> {
+    encode::table(&table(vec![module("9x", Vec::new())]))
+}
+
+fn limits_swapped() -> Vec<u8> {
+    let argument = Datainfo::Int { min: 1, max: 0 };
+    encode::table(&one_module(vec![command("c", Some(argument))]))
+}
+
+/// It would fit but for the space, so it isn't in stored form.
+fn unfit_initial_value() -> Vec<u8> {
+    encode::table(&one_module(vec![parameter("p", digit(), "3 ")]))
+}
+
+/// The flag of the last record is 2.
+fn bad_flag_and_bad_name() -> Vec<u8> {
+    let table = table(vec![module("9x", vec![command("c", None)])]);
+    let mut encoded = encode::encoded(&table);
+    encoded.bytes[encoded.flags[0]] = 2;
+    encoded.bytes
+}
+
+fn no_module_and_bad_text() -> Vec<u8> {
+    encode::table(&Table {
+        description: b"\"".to_vec(),
+        ..table(Vec::new())
+    })
+}
+
+/// Names are compared in lower case.
+fn name_and_value_twice() -> Vec<u8> {
+    let argument = enumeration(&[("a", 0), ("A", 0)]);
+    encode::table(&one_module(vec![command("c", Some(argument))]))
+}
+
+fn limits_and_initial_value() -> Vec<u8> {
+    encode::table(&one_module(vec![parameter("p", string(1, 0), "2")]))
+}

@@ -1,0 +1,640 @@
+//! The directed small histories, each as a course of calls and what they
+//! send.
+//!
+//! A call is written as `@TIME` and what it is about, with lengths where they
+//! are unusual, ` = NUMBER` where it is refused and `used` where a piece is
+//! not used up. The records sent follow it. A run of twenty or more equal
+//! characters is written as the character, `*` and the count.
+
+use crate::build::*;
+use crate::watch::watch;
+use reference::generate::directed;
+use reference::history::{Answer, Call, History};
+use reference::outbox;
+
+fn history(name: &str) -> History {
+    let scenes = directed::all().into_iter();
+    let mut named = scenes.filter(|scene| scene.name == name);
+    named.next().expect("a scene of this name").history
+}
+
+#[track_caller]
+fn assert_course(name: &str, expected: &str) {
+    let expected: Vec<&str> = expected.trim().lines().map(str::trim).collect();
+    assert_eq!(course(&history(name)), expected);
+}
+
+fn course(history: &History) -> Vec<String> {
+    let answers = history.run().expect("a start comes first").answers;
+    let lines = history
+        .calls
+        .iter()
+        .zip(&answers)
+        .flat_map(|(call, answer)| {
+            let records = outbox::read(&answer.outbox).expect("nothing but records");
+            [
+                vec![call_line(call) + &ending(call, answer)],
+                shown(&records),
+            ]
+            .concat()
+        });
+    lines.map(|line| abbreviated(line.trim_end())).collect()
+}
+
+fn call_line(call: &Call) -> String {
+    let text = |bytes: &[u8]| {
+        let text = String::from_utf8(bytes.to_vec()).expect("ASCII");
+        text.replace('\r', "\\r").replace('\n', "\\n")
+    };
+    match call {
+        Call::Start { time, .. } => format!("@{time} start"),
+        Call::Open { client, time, .. } => format!("@{time} open {client}"),
+        Call::Close { client, time, .. } => format!("@{time} close {client}"),
+        Call::Piece {
+            client,
+            time,
+            bytes,
+            ..
+        } => format!("@{time} {client} > {}", text(bytes)),
+        Call::Reading {
+            parameter,
+            time,
+            text: value,
+            ..
+        } => format!("@{time} reading {parameter} {}", text(value)),
+    }
+}
+
+/// What is unusual about the lengths and the answer.
+fn ending(call: &Call, answer: &Answer) -> String {
+    let (values_len, outbox_len, offered) = match call {
+        Call::Start { values_len, .. }
+        | Call::Open { values_len, .. }
+        | Call::Close { values_len, .. } => (*values_len, OUTBOX, 0),
+        Call::Piece {
+            values_len,
+            outbox_len,
+            bytes,
+            ..
+        } => (*values_len, *outbox_len, bytes.len()),
+        Call::Reading {
+            values_len,
+            outbox_len,
+            ..
+        } => (*values_len, *outbox_len, 0),
+    };
+    let mut ending = String::new();
+    if values_len != VALUES {
+        ending += &format!(" values={values_len}");
+    }
+    if outbox_len != OUTBOX {
+        ending += &format!(" outbox={outbox_len}");
+    }
+    if answer.number != 0 {
+        ending += &format!(" = {}", answer.number);
+    } else if answer.used != offered {
+        ending += &format!(" used {}", answer.used);
+    }
+    ending
+}
+
+fn abbreviated(line: &str) -> String {
+    let characters: Vec<char> = line.chars().collect();
+    let runs = characters.chunk_by(|one, next| one == next);
+    runs.map(|run| match run.len() {
+        20.. => format!("{}*{}", run[0], run.len()),
+        _ => run.iter().collect(),
+    })
+    .collect()
+}
+
+#[test]
+fn they_are_small_and_hold_together() {
+    for scene in directed::all() {
+        let (name, history) = (scene.name, &scene.history);
+        assert!(history.table.len() <= 300, "{name}");
+        assert!((2..=11).contains(&history.calls.len()), "{name}");
+        let starts = |call: &&Call| matches!(call, Call::Start { .. });
+        assert_eq!(history.calls.iter().filter(starts).count(), 1, "{name}");
+        watch(history);
+    }
+}
+
+#[test]
+fn their_names_differ() {
+    let mut names: Vec<&str> = directed::all().iter().map(|scene| scene.name).collect();
+    let count = names.len();
+    names.sort();
+    names.dedup();
+    assert_eq!(names.len(), count);
+}
+
+#[test]
+fn one_of_two_modules_deactivated() {
+    assert_course(
+        "one of two modules deactivated",
+        r#"
+        @1000 start
+        @2000 open 1
+        @3000 open 2
+        @4000 1 > activate\n
+        1 * update t1:p [false,{"t":1.000}]
+        1 * update mf:q [0,{"t":1.000}]
+        1 < active
+        @5000 1 > deactivate t1\n
+        1 < inactive t1
+        @6000 2 > change t1:p true\n
+        2 DR 0 true
+        2 < changed t1:p [true,{"t":6.000}]
+        @7000 2 > change mf:q 7\n
+        2 DR 1 7
+        1 * update mf:q [7,{"t":7.000}]
+        2 < changed mf:q [7,{"t":7.000}]
+        "#,
+    );
+}
+
+#[test]
+fn closed_and_opened_again() {
+    assert_course(
+        "closed and opened again",
+        r#"
+        @1000 start
+        @2000 open 0
+        @3000 0 > activate\n
+        0 * update t1:p [3,{"t":1.000}]
+        0 < active
+        @4000 close 0
+        @5000 reading 0 4
+        @6000 open 0
+        @7000 reading 0 5
+        @8000 0 > read t1:p\n
+        0 < reply t1:p [5,{"t":7.000}]
+        "#,
+    );
+}
+
+#[test]
+fn two_commands() {
+    assert_course(
+        "two commands",
+        r#"
+        @1000 start
+        @2000 open 0
+        @3000 0 > do mf:go  [ 1 , 2 ] \n
+        0 DC 1 [1,2]
+        0 < done mf:go [null,{"t":3.000}]
+        @4000 0 > do t1:stop\n
+        0 DC 0
+        0 < done t1:stop [null,{"t":4.000}]
+        "#,
+    );
+}
+
+#[test]
+fn lines_of_1024_bytes() {
+    // `ping`, a space and 1,019 bytes more; the return is one of them.
+    assert_course(
+        "lines of 1,024 bytes",
+        r#"
+        @1000 start
+        @2000 open 0
+        @3000 0 > ping x*1019\n
+        0 < pong x*1019 [null,{"t":3.000}]
+        @4000 0 > ping x*1018\r\n
+        0 < pong x*1018 [null,{"t":4.000}]
+        "#,
+    );
+}
+
+#[test]
+fn lines_of_1025_bytes() {
+    assert_course(
+        "lines of 1,025 bytes",
+        r#"
+        @1000 start
+        @2000 open 0
+        @3000 0 > ping x*1020\n
+        0 < error_  ["ProtocolError","malformed or unknown request",{}]
+        @4000 0 > ping x*1019\r\n
+        0 < error_  ["ProtocolError","malformed or unknown request",{}]
+        @5000 0 > ping\n
+        0 < pong  [null,{"t":5.000}]
+        "#,
+    );
+}
+
+#[test]
+fn names_that_do_not_do() {
+    assert_course(
+        "names that do not do",
+        r#"
+        @1000 start
+        @2000 open 0
+        @3000 0 > activate 9x\n
+        0 < error_activate 9x ["ProtocolError","malformed or unknown request",{}]
+        @4000 0 > activate tx\n
+        0 < error_activate tx ["NoSuchModule","no such module",{}]
+        @5000 0 > deactivate :\n
+        0 < error_deactivate : ["ProtocolError","malformed or unknown request",{}]
+        @6000 0 > read t1\n
+        0 < error_read t1 ["ProtocolError","malformed or unknown request",{}]
+        @7000 0 > read t1:tx\n
+        0 < error_read t1:tx ["NoSuchParameter","no such parameter",{}]
+        @8000 0 > read t1:stop\n
+        0 < error_read t1:stop ["NoSuchParameter","no such parameter",{}]
+        @9000 0 > do t1:p\n
+        0 < error_do t1:p ["NoSuchCommand","no such command",{}]
+        "#,
+    );
+}
+
+#[test]
+fn refused_changes() {
+    assert_course(
+        "refused changes",
+        r#"
+        @1000 start
+        @2000 open 0
+        @3000 0 > change t1:v }\n
+        0 < error_change t1:v ["ReadOnly","parameter is read only",{}]
+        @4000 0 > change t1:p 01\n
+        0 < error_change t1:p ["BadJSON","data is not JSON",{}]
+        @5000 0 > change t1:p true\n
+        0 < error_change t1:p ["WrongType","value has the wrong type",{}]
+        @6000 0 > change t1:p 10\n
+        0 < error_change t1:p ["RangeError","value is out of range",{}]
+        @7000 0 > read t1:p\n
+        0 < reply t1:p [3,{"t":1.000}]
+        "#,
+    );
+}
+
+#[test]
+fn members_of_a_struct() {
+    assert_course(
+        "members of a struct",
+        r#"
+        @1000 start
+        @2000 open 0
+        @3000 0 > change t1:s {"b":2,"a":false}\n
+        0 DR 0 {"b":2,"a":false}
+        0 < changed t1:s [{"b":2,"a":false},{"t":3.000}]
+        @4000 0 > change t1:s {"a":true,"a":true}\n
+        0 < error_change t1:s ["WrongType","value has the wrong type",{}]
+        @5000 0 > change t1:s {"a":true,"b":1,"b":1}\n
+        0 < error_change t1:s ["WrongType","value has the wrong type",{}]
+        @6000 0 > change t1:s {"a":true,"b":1,"c":1}\n
+        0 < error_change t1:s ["WrongType","value has the wrong type",{}]
+        @7000 0 > change t1:s {"a":true}\n
+        0 < error_change t1:s ["WrongType","value has the wrong type",{}]
+        @8000 0 > read t1:s\n
+        0 < reply t1:s [{"b":2,"a":false},{"t":3.000}]
+        "#,
+    );
+}
+
+#[test]
+fn counts_of_tuples_and_arrays() {
+    assert_course(
+        "counts of tuples and arrays",
+        r#"
+        @1000 start
+        @2000 open 0
+        @3000 0 > change t1:u [true]\n
+        0 < error_change t1:u ["WrongType","value has the wrong type",{}]
+        @4000 0 > change t1:u [true,1,2]\n
+        0 < error_change t1:u ["WrongType","value has the wrong type",{}]
+        @5000 0 > change t1:l [true,true,1]\n
+        0 < error_change t1:l ["WrongType","value has the wrong type",{}]
+        @6000 0 > change t1:l [true,true,true]\n
+        0 < error_change t1:l ["RangeError","value is out of range",{}]
+        @7000 0 > change t1:l [ true , false ]\n
+        0 DR 1 [true,false]
+        0 < changed t1:l [[true,false],{"t":7.000}]
+        "#,
+    );
+}
+
+#[test]
+fn characters_of_a_string() {
+    assert_course(
+        "characters of a string",
+        r#"
+        @1000 start
+        @2000 open 0
+        @3000 0 > change t1:l "\n\u0041"\n
+        0 DR 0 "\n\u0041"
+        0 < changed t1:l ["\n\u0041",{"t":3.000}]
+        @4000 0 > change t1:l "\n\n\n"\n
+        0 < error_change t1:l ["RangeError","value is out of range",{}]
+        @5000 0 > change t1:l "\u0080"\n
+        0 < error_change t1:l ["RangeError","value is out of range",{}]
+        @6000 0 > change t1:l "\u007F"\n
+        0 DR 0 "\u007F"
+        0 < changed t1:l ["\u007F",{"t":6.000}]
+        "#,
+    );
+}
+
+#[test]
+fn stored_forms_of_256_and_257_bytes() {
+    // With its quotes a string of 254 characters has 256 bytes.
+    assert_course(
+        "stored forms of 256 and 257 bytes",
+        r#"
+        @1000 start
+        @2000 open 0
+        @3000 0 > change t1:l  "x*254" \n
+        0 DR 0 "x*254"
+        0 < changed t1:l ["x*254",{"t":3.000}]
+        @4000 0 > change t1:l  "x*255" \n
+        0 < error_change t1:l ["RangeError","value is out of range",{}]
+        @5000 0 > read t1:l\n
+        0 < reply t1:l ["x*254",{"t":3.000}]
+        "#,
+    );
+}
+
+#[test]
+fn tokens_and_powers() {
+    // With 0 and the dot 30 zeros make 32 bytes.
+    assert_course(
+        "tokens and powers",
+        r#"
+        @1000 start
+        @2000 open 0
+        @3000 0 > change t1:d 0.0*30\n
+        0 DR 0 0.0*30
+        0 < changed t1:d [0.0*30,{"t":3.000}]
+        @4000 0 > change t1:d 0.0*31\n
+        0 < error_change t1:d ["RangeError","value is out of range",{}]
+        @5000 0 > change t1:d 0e99\n
+        0 DR 0 0e99
+        0 < changed t1:d [0e99,{"t":5.000}]
+        @6000 0 > change t1:d 0e100\n
+        0 < error_change t1:d ["RangeError","value is out of range",{}]
+        @7000 0 > change t1:d 1e-99\n
+        0 DR 0 1e-99
+        0 < changed t1:d [1e-99,{"t":7.000}]
+        @8000 0 > change t1:d 1e-100\n
+        0 < error_change t1:d ["RangeError","value is out of range",{}]
+        "#,
+    );
+}
+
+#[test]
+fn minus_zero_and_enum_members() {
+    assert_course(
+        "minus zero and enum members",
+        r#"
+        @1000 start
+        @2000 open 0
+        @3000 0 > change t1:p -0\n
+        0 DR 0 -0
+        0 < changed t1:p [-0,{"t":3.000}]
+        @4000 0 > change t1:m -0\n
+        0 DR 1 -0
+        0 < changed t1:m [-0,{"t":4.000}]
+        @5000 0 > change t1:m 2\n
+        0 < error_change t1:m ["RangeError","value is out of range",{}]
+        @6000 0 > read t1:m\n
+        0 < reply t1:m [-0,{"t":4.000}]
+        "#,
+    );
+}
+
+#[test]
+fn refused_opens_and_closes() {
+    assert_course(
+        "refused opens and closes",
+        r#"
+        @1000 start
+        @9999999999999 open 0
+        @3000 open 1 values=16383 = 8
+        @10000000000000 open 1 = 10
+        @5000 open 8 = 11
+        @6000 open 0 = 13
+        @7000 close 0 values=16383 = 8
+        @10000000000000 close 0 = 10
+        @9000 close 8 = 11
+        @10000 close 1 = 12
+        @9999999999999 close 0
+        "#,
+    );
+}
+
+#[test]
+fn refused_pieces() {
+    assert_course(
+        "refused pieces",
+        r#"
+        @1000 start
+        @2000 open 0
+        @3000 0 > ping\n outbox=32767 = 7
+        @4000 0 > ping\n values=16383 = 8
+        @10000000000000 0 > ping\n = 10
+        @6000 8 > ping\n = 11
+        @7000 1 > ping\n = 12
+        @9999999999999 0 > ping\n
+        0 < pong  [null,{"t":9999999999.999}]
+        "#,
+    );
+}
+
+#[test]
+fn refused_readings() {
+    assert_course(
+        "refused readings",
+        r#"
+        @1000 start
+        @2000 open 0
+        @3000 0 > activate\n
+        0 * update t1:p [3,{"t":1.000}]
+        0 < active
+        @4000 reading 0 4 outbox=32767 = 7
+        @5000 reading 0 4 values=16383 = 8
+        @10000000000000 reading 0 4 = 10
+        @7000 reading 1 4 = 14
+        @8000 reading 0 10 = 15
+        @9000 reading 0  = 15
+        @10000 0 > read t1:p\n
+        0 < reply t1:p [3,{"t":1.000}]
+        "#,
+    );
+}
+
+#[test]
+fn the_lowest_of_several_numbers() {
+    assert_course(
+        "the lowest of several numbers",
+        r#"
+        @1000 start
+        @2000 open 0
+        @10000000000000 open 8 values=16383 = 8
+        @10000000000000 open 0 = 10
+        @5000 close 1 values=16383 = 8
+        @6000 1 > ping\n values=16383 outbox=32767 = 7
+        @10000000000000 8 > ping\n = 10
+        @10000000000000 reading 1 4 outbox=32767 = 7
+        @9000 reading 1  = 14
+        "#,
+    );
+}
+
+#[test]
+fn refused_starts_over_a_good_table() {
+    assert_course(
+        "start too late",
+        r#"
+        @10000000000000 start = 10
+        @2000 open 0
+        @3000 0 > read t1:p\n
+        0 < reply t1:p [3,{"t":0.000}]
+        @4000 0 > change t1:p 4\n
+        0 DR 0 4
+        0 < changed t1:p [4,{"t":4.000}]
+        "#,
+    );
+    assert_course(
+        "start with a short values area",
+        r#"
+        @1000 start values=16383 = 8
+        @2000 open 0
+        @3000 0 > activate\n
+        0 * update t1:p [3,{"t":0.000}]
+        0 < active
+        @4000 reading 0 4
+        0 * update t1:p [4,{"t":4.000}]
+        "#,
+    );
+}
+
+#[test]
+fn pieces_of_two_clients() {
+    assert_course(
+        "pieces of two clients",
+        r#"
+        @1000 start
+        @2000 open 0
+        @3000 open 1
+        @4000 0 > ping a\r
+        @5000 1 > ping b\r\n
+        1 < pong b [null,{"t":5.000}]
+        @6000 0 > \n
+        0 < pong a [null,{"t":6.000}]
+        "#,
+    );
+}
+
+#[test]
+fn several_lines_in_one_piece() {
+    assert_course(
+        "several lines in one piece",
+        r#"
+        @1000 start
+        @2000 open 0
+        @3000 0 > ping a\nping b\nping used 7
+        0 < pong a [null,{"t":3.000}]
+        @4000 0 > ping b\nping used 7
+        0 < pong b [null,{"t":4.000}]
+        @5000 0 > ping
+        @6000 0 >  c\n
+        0 < pong c [null,{"t":6.000}]
+        "#,
+    );
+}
+
+#[test]
+fn times_that_go_back() {
+    assert_course(
+        "times that go back",
+        r#"
+        @1000 start
+        @2000 open 0
+        @9000 reading 0 4
+        @3000 reading 0 5
+        @5000 0 > read t1:p\n
+        0 < reply t1:p [5,{"t":3.000}]
+        @2500 0 > change t1:p 6\n
+        0 DR 0 6
+        0 < changed t1:p [6,{"t":2.500}]
+        @7000 0 > read t1:p\n
+        0 < reply t1:p [6,{"t":2.500}]
+        @5 0 > ping\n
+        0 < pong  [null,{"t":0.005}]
+        "#,
+    );
+}
+
+/// The course of a start and an open that both answer with the number.
+fn assert_faulty(name: &str, table: &[&[u8]], number: u8) {
+    assert_eq!(history(name).table, table.concat(), "{name}");
+    let course = course(&history(name));
+    assert_eq!(
+        course,
+        [
+            format!("@1000 start = {number}"),
+            format!("@2000 open 0 = {number}")
+        ],
+        "{name}"
+    );
+}
+
+#[test]
+fn tables_with_one_fault() {
+    let (front, end) = (b"ND\x01s\x00", b"EN");
+    let module = b"MO\x02t1\x00";
+    assert_faulty("bytes after the table's end", &[front, module, end, end], 1);
+    assert_faulty("no module", &[front, end], 2);
+    assert_faulty("bad name", &[front, b"MO\x029x\x00", end], 3);
+    let swapped = [&[0; 7][..], &[1], &[0; 8]].concat();
+    let command = b"CM\x01c\x00\x01\x02";
+    assert_faulty(
+        "limits swapped",
+        &[front, module, command, &swapped, end],
+        4,
+    );
+    let digit = [&[2][..], &[0; 15], &[9]].concat();
+    let parameter = b"PA\x01p\x00\x00";
+    assert_faulty(
+        "unfit initial value",
+        &[front, module, parameter, &digit, b"\x00\x023 ", end],
+        5,
+    );
+}
+
+#[test]
+fn tables_with_two_faults() {
+    let (front, end) = (b"ND\x01s\x00", b"EN");
+    let module = b"MO\x02t1\x00";
+    assert_faulty(
+        "bad flag after a bad name",
+        &[front, b"MO\x029x\x00", b"CM\x01c\x00\x02", end],
+        1,
+    );
+    assert_faulty("no module and a bad text", &[b"ND\x01s\x01\"", end], 2);
+    let argument = b"\x04\x02\x01a\x00\x00\x00\x00\x01A\x00\x00\x00\x00";
+    assert_faulty(
+        "enum with all twice",
+        &[front, module, b"CM\x01c\x00\x01", argument, end],
+        3,
+    );
+    let parameter = b"PA\x01p\x00\x00\x05\x00\x01\x00\x00\x00\x012";
+    assert_faulty(
+        "limits and initial value",
+        &[front, module, parameter, end],
+        4,
+    );
+}
+
+#[test]
+fn a_table_counts_before_what_a_call_is_lent() {
+    assert_course(
+        "unfit initial value and short start",
+        "
+        @1000 start values=16383 = 5
+        @2000 open 0 = 5
+        ",
+    );
+}
