@@ -2,3 +2,4 @@ pub mod Lists
 pub mod Numbers
 pub mod Lines
 pub mod Records
+pub mod Written

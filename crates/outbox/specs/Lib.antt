@@ -1,2 +1,3 @@
 pub mod Outbox
 pub mod Theorems
+pub mod Written

@@ -1,3 +1,6 @@
+// Outbox records: their bytes can be read back, and are written into a lent buffer.
+pub mod write;
+
 ghost use mathlib.Core.Path.{_≡_};
 ghost use mathlib.Core.Bool.{true};
 ghost use Rattle.outbox.specs.Theorems.{EncodingIsReadBack};
