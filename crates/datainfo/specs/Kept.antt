@@ -74,7 +74,7 @@ ReadsLimit s Short o = o ≡ none
 
 -- ## Members, by the bytes from each on
 
--- a member's name, and the number of an enum's
+-- a member's name, empty where it is cut off, and the number of an enum's, then 0
 unfoldable pub nameOf : List ℕ → List ℕ
 nameOf xs = Option·getD (counted xs >>= λ p. some (p .0)) []
 
