@@ -15,7 +15,7 @@ use Rattle.ascii.specs.Names.{isName}
 use Rattle.message.specs.Line.{Parts, beforeSpace, afterSpace, partsOf, content, whole}
 use Rattle.message.specs.Request as R
 use Rattle.message.specs.Request.{modulePart, accessiblePart, scoped, named, request}
-use Rattle.message.specs.Parsed.{part, Within, Ends, before, fromStop, after, Cuts, Parted, actionOf, AsksScoped, AsksNamed, Asks, parts, switchRequest, verbRequest}
+use Rattle.message.specs.Parsed.{part, Within, Ends, before, fromStop, after, Cuts, Parted, actionOf, meaning, AsksScoped, AsksNamed, Asks, parts, switchRequest, verbRequest}
 use Rattle.message.specs.declared.line.Part.{Part}
 use Rattle.message.specs.declared.line.Cut.{Cut}
 use Rattle.message.specs.declared.line.Switch.{Switch}
@@ -208,3 +208,11 @@ module _ (xs : List ℕ) (p : Part) (v : Verb) (r : Cut) (k : Cuts xs p 58 r) {t
 
     pub good-execute : u ≡ true → v ≡ Verb.Execute → AsksNamed xs p v (Q.Execute (r .first) (r .second))
     good-execute g q = record { is = λ x. sym (good g x ∙ rw q); inside = (k .first-in, k .second-in) }
+
+-- ## A whole line
+
+-- what the code finds in a line's parts is what the definitions find in the line's content
+pub requested :
+    (xs : List ℕ) (a s p : Part) (r : Request) → Parted xs a s p → Asks xs a s r
+    → meaning xs (part xs s) (part xs p) r ≡ request (partsOf (content (whole xs)))
+requested xs a s p r h k = k .is (part xs p) ∙ ap request (rw (h .action-is, h .specifier-is, h .payload-is))

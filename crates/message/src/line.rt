@@ -120,6 +120,7 @@ fn past(s: &[u8], at: usize) -> usize
     if at < s.len() { at + 1 } else { at }
 }
 
+// A part cut at the first and the second `stop`.
 fn cut_at(line: &[u8], whole: Part, stop: u8) -> Cut
     requires { ⌜ Within (now line) whole ⌝ }
     ensures { λ r. ⌜ Cuts (now (line .entry)) whole stop r ⌝ }
@@ -191,6 +192,7 @@ fn action_of(word: &[u8]) -> Action
     Action::Unknown
 }
 
+// Whether the bytes of a part are a name.
 fn is_name_part(line: &[u8], name: Part) -> bool
     requires { ⌜ Within (now line) name ⌝ }
     ensures { λ r. ⌜ r ≡ isName (part (now (line .entry)) name) ⌝ }

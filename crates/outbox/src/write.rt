@@ -48,6 +48,7 @@ fn put_header(out: &mut [u8], at: usize, mark: &[u8], client: u8, size: usize) -
     put_byte(out, fourth, (size % 256) as u8)
 }
 
+// The line has 36 bytes, and its line feed is the 37th.
 pub fn put_final_identification(out: &mut [u8], at: usize, client: u8) -> usize
     requires { ⌜ RoomFor (now out) at (final client identification) ⌝ }
     ensures { λ r. ⌜ Puts (now (out .entry)) at (encode (final client identification)) (now (out .exit)) r ⌝ }
