@@ -1,0 +1,2 @@
+// The table: reading its records, judging it, and finding parameters and commands in it.
+pub mod layout;

@@ -1,0 +1,4 @@
+pub mod Records
+pub mod Accessibles
+pub mod Enough
+pub mod Modules

@@ -1,0 +1,212 @@
+-- Laws of modules and of the whole table, one for each way through a function that reads them. Assumes nothing.
+use Prim.Native.Nat.{ℕ, zero, suc, _+_, _-_, _≤_, _<_}
+use native.Mathlib.Omega.{arith}
+use mathlib.Core.Path.{_≡_, refl, sym, ap, _∙_}
+use mathlib.Core.Bool.{Bool, true, false, cond}
+use mathlib.Core.List.{List, [], _∷_}
+use mathlib.Core.Option.{Option, none, some}
+use lib.ListN.{length, drop, length-drop}
+use lib.Dec.{leb, eqb}
+use borrow.Author.Tests.{le-leb, lt-leb, eq-eqb, ne-eqb, eqb-true, eqb-false}
+use Rattle.ascii.specs.declared.Next.{Next}
+use Rattle.ascii.specs.declared.Next.the-variants.{At, Bad}
+use Rattle.ascii.specs.Text.{bytes}
+use Rattle.ascii.specs.Bytes.{_>>=_, isSome, after}
+use Rattle.ascii.specs.Reader.{Ends, rest}
+use Rattle.datainfo.specs.Layout.{counted}
+use Rattle.datainfo.proofs.Ends.{rest-map}
+use Rattle.table.specs.Table as Table
+use Rattle.table.specs.Layout.{begins, accessiblesAt, noteAt, moduleAt, modulesAt, wholeTable, readTable}
+use Rattle.table.specs.declared.layout.Part.{Part}
+use Rattle.table.specs.declared.layout.Bytes as B
+use Rattle.table.specs.declared.layout.Texts as T
+use Rattle.table.specs.declared.layout.Note as N
+use Rattle.table.specs.declared.layout.ModuleAt.{ModuleAt}
+use Rattle.table.specs.declared.layout.Heading as H
+use Rattle.table.specs.At.{bytesOf, Inside, Sized, textsAt, TextsAt, accessibleBegins, accessibleAt, accessiblesFrom, NoteRead, NoteIs, headingAt, moduleOf, ModuleIs, HeadingIs, modulesFrom}
+use Rattle.table.proofs.Records.{text-bad, text-is, text-inside}
+use Rattle.table.proofs.Accessibles.{goesOn, texts-then, rest-none, Got, got}
+use Rattle.table.proofs.Enough.{before, accessibles-stop, accessibles-more, accessible-less, modules-stop, modules-more, module-less}
+
+-- ## The beginning of a module
+
+module _ (s : List ℕ) (at : ℕ) (n : Next) (hn : Ends s n (after (78 ∷ 79 ∷ []) (drop at s))) where
+  pub note-absent : n ≡ Bad → noteAt (drop at s) ≡ some (none, drop at s)
+  unfolding noteAt begins bytes
+  note-absent e = simp (rw e at hn)
+
+  module _ (a : ℕ) (en : n ≡ At a) (r : B.Bytes) (h : Sized s a 1 r) where
+    pub note-bad : r ≡ B.the-variants.Bad → noteAt (drop at s) ≡ none
+    unfolding noteAt begins bytes
+    note-bad e = simp ((rw en at hn) .0, text-bad s a r h e)
+
+    pub note-good : (p : Part) → r ≡ B.the-variants.At p → NoteRead s at p
+    unfolding noteAt begins bytes
+    note-good p e = record { is = simp ((rw en at hn) .0, text-is s a r h p e); inside = text-inside s a r h p e }
+
+module _ (s : List ℕ) (at : ℕ) (t : T.Texts) (ht : TextsAt s t (textsAt (77 ∷ 79 ∷ []) (drop at s))) where
+  pub heading-untold : t ≡ T.the-variants.Bad → headingAt (drop at s) ≡ none
+  unfolding headingAt bytes
+  heading-untold e = simp (rw e at ht)
+
+  module _ (p q : Part) (et : t ≡ T.the-variants.At p q) (n : N.Note) (hn : NoteIs s (q .to) n) where
+    pub heading-noted : (x : Part) → n ≡ N.the-variants.At x → ModuleIs s (record { name = p; description = q; noted = true; note = x; next = x .to }) (headingAt (drop at s))
+    unfolding headingAt bytes moduleOf
+    heading-noted x e =
+        record {
+          is = simp ((rw et at ht) .is, (rw e at hn) .is);
+          name = (rw et at ht) .name;
+          description = (rw et at ht) .description;
+          note = (rw e at hn) .inside;
+          nextWithin = (rw e at hn) .inside .within;
+        }
+
+    pub heading-plain : n ≡ N.the-variants.Nothing → ModuleIs s (record { name = p; description = q; noted = false; note = record { from = q .to; to = q .to }; next = q .to }) (headingAt (drop at s))
+    unfolding headingAt bytes moduleOf
+    heading-plain e =
+        let w = (rw et at ht) .description .within in
+        record {
+          is = simp ((rw et at ht) .is, rw e at hn);
+          name = (rw et at ht) .name;
+          description = (rw et at ht) .description;
+          note = record { order = omega arith; within = w };
+          nextWithin = w;
+        }
+
+    pub heading-bad : n ≡ N.the-variants.Bad → headingAt (drop at s) ≡ none
+    unfolding headingAt bytes
+    heading-bad e = simp ((rw et at ht) .is, rw e at hn)
+
+-- ## A module with its accessibles
+
+abbrev pub withAccessibles : Table.Module → List Table.Accessible → Table.Module
+withAccessibles m xs = record { name = m .name; description = m .description; note = m .note; accessibles = xs }
+
+-- what follows a module's beginning
+abbrev pub members : ℕ → Table.Module × List ℕ → Option (Table.Module × List ℕ)
+members n h = accessiblesAt n (length (h .1)) (h .1) >>= λ q. some (withAccessibles (h .0) (q .0), q .1)
+
+pub module-as : (n : ℕ) (xs : List ℕ) → moduleAt n xs ≡ (headingAt xs >>= members n)
+unfolding moduleAt headingAt
+module-as n xs =
+    texts-then (λ name text c. noteAt c >>= λ d. accessiblesAt n (length (d .1)) (d .1) >>= λ e. some (record { name = name; description = text; note = d .0; accessibles = e .0 }, e .1)) (bytes "MO") xs
+    ∙ go (textsAt (bytes "MO") xs)
+  where
+    noted : (name text : List ℕ) (o : Option (Option (List ℕ) × List ℕ)) → (o >>= λ d. accessiblesAt n (length (d .1)) (d .1) >>= λ e. some (record { name = name; description = text; note = d .0; accessibles = e .0 }, e .1)) ≡ ((o >>= λ d. some (record { name = name; description = text; note = d .0; accessibles = [] }, d .1)) >>= members n)
+    noted name text none = refl
+    noted name text (some d) = refl
+
+    go : (o : Option ((List ℕ × List ℕ) × List ℕ)) → (o >>= goesOn (λ name text c. noteAt c >>= λ d. accessiblesAt n (length (d .1)) (d .1) >>= λ e. some (record { name = name; description = text; note = d .0; accessibles = e .0 }, e .1))) ≡ ((o >>= λ t. noteAt (t .1) >>= λ d. some (record { name = t .0 .0; description = t .0 .1; note = d .0; accessibles = [] }, d .1)) >>= members n)
+    go none = refl
+    go (some t) = noted (t .0 .0) (t .0 .1) (noteAt (t .1))
+
+module _ (s : List ℕ) (at : ℕ) (h : H.Heading) (hh : HeadingIs s h (headingAt (drop at s))) where
+  pub module-bad : h ≡ H.the-variants.Bad → rest (moduleAt (length s) (drop at s)) ≡ none
+  module-bad e = simp (module-as, rw e at hh)
+
+  module _ (m : ModuleAt) (eh : h ≡ H.the-variants.Read m) where
+    pub module-within : m .next ≤ length s
+    module-within = (rw eh at hh) .nextWithin
+
+    pub module-is : moduleAt (length s) (drop at s) ≡ members (length s) (moduleOf s m, drop (m .next) s)
+    module-is = module-as _ _ ∙ rw ((rw eh at hh) .is)
+
+    pub module-ends : (r : Next) → Ends s r (rest (accessiblesFrom s (m .next))) → Ends s r (rest (moduleAt (length s) (drop at s)))
+    module-ends r k = rw (module-is, rest-map (accessiblesFrom s (m .next)) (λ q. withAccessibles (moduleOf s m) (q .0))) k
+
+-- ## As many as follow
+
+module _ {A : Type 0} (f : List ℕ → Option (List A × List ℕ)) (o : Option (A × List ℕ)) where
+  goes-on : (r : List ℕ) → rest o ≡ some r → rest (o >>= λ p. before (p .0) (f (p .1))) ≡ rest (f r)
+  goes-on r e = let g = got o r e in rw (g .is) (rest-map (f r) (λ q. g .it ∷ q .0))
+
+  stops : rest o ≡ none → rest (o >>= λ p. before (p .0) (f (p .1))) ≡ none
+  stops e = ap rest (rest-none o (λ p. before (p .0) (f (p .1))) e)
+
+less : (s : List ℕ) (i j : ℕ) → length (drop j s) < length (drop i s) → length s - j < length s - i
+less s i j h = simp length-drop at h
+
+-- accessibles o, from position i on
+module _ (s : List ℕ) (o : Option (List ℕ)) (i : ℕ) (e : o ≡ rest (accessiblesFrom s i)) (b : Bool) (hb : b ≡ accessibleBegins (drop i s)) where
+  pub accessibles-last : b ≡ false → i ≤ length s → Ends s (At i) o
+  accessibles-last z w = (e ∙ ap rest (accessibles-stop s i (sym hb ∙ z)), w)
+
+  module _ (z : b ≡ true) (r : Next) (hr : Ends s r (rest (accessibleAt (length s) (drop i s)))) where
+    pub accessibles-bad : r ≡ Bad → o ≡ none
+    accessibles-bad x = e ∙ ap rest (accessibles-more s i (sym hb ∙ z)) ∙ stops (λ xs. accessiblesAt (length s) (length xs) xs) (accessibleAt (length s) (drop i s)) (rw x at hr)
+
+    pub accessibles-next : (j : ℕ) → r ≡ At j → o ≡ rest (accessiblesFrom s j)
+    accessibles-next j x = e ∙ ap rest (accessibles-more s i (sym hb ∙ z)) ∙ goes-on (λ xs. accessiblesAt (length s) (length xs) xs) (accessibleAt (length s) (drop i s)) (drop j s) ((rw x at hr) .0)
+
+    pub accessibles-less : (j : ℕ) → r ≡ At j → length s - j < length s - i
+    accessibles-less j x = less s i j (accessible-less s i (drop j s) (sym hb ∙ z) ((rw x at hr) .0))
+
+-- modules o, from position i on
+module _ (s : List ℕ) (o : Option (List ℕ)) (i : ℕ) (e : o ≡ rest (modulesFrom s i)) (b : Bool) (hb : b ≡ begins (bytes "MO") (drop i s)) where
+  pub modules-last : b ≡ false → i ≤ length s → Ends s (At i) o
+  modules-last z w = (e ∙ ap rest (modules-stop s i (sym hb ∙ z)), w)
+
+  module _ (z : b ≡ true) (r : Next) (hr : Ends s r (rest (moduleAt (length s) (drop i s)))) where
+    pub modules-bad : r ≡ Bad → o ≡ none
+    modules-bad x = e ∙ ap rest (modules-more s i (sym hb ∙ z)) ∙ stops (λ xs. modulesAt (length s) (length xs) xs) (moduleAt (length s) (drop i s)) (rw x at hr)
+
+    pub modules-next : (j : ℕ) → r ≡ At j → o ≡ rest (modulesFrom s j)
+    modules-next j x = e ∙ ap rest (modules-more s i (sym hb ∙ z)) ∙ goes-on (λ xs. modulesAt (length s) (length xs) xs) (moduleAt (length s) (drop i s)) (drop j s) ((rw x at hr) .0)
+
+    pub modules-less : (j : ℕ) → r ≡ At j → length s - j < length s - i
+    modules-less j x = less s i j (module-less s i (drop j s) (sym hb ∙ z) ((rw x at hr) .0))
+
+pub module-begins : (s : List ℕ) (at : ℕ) (b : Bool) → b ≡ begins (77 ∷ 79 ∷ []) (drop at s) → b ≡ begins (bytes "MO") (drop at s)
+unfolding bytes
+module-begins s at b h = h
+
+-- ## The whole table
+
+-- what follows the table's texts
+abbrev pub afterNode : ℕ → List ℕ → List ℕ → List ℕ → Option Table.Table
+afterNode n id text c =
+    modulesAt n (length c) c >>= λ m. after (69 ∷ 78 ∷ []) (m .1) >>= λ e.
+    cond (eqb (length e) 0) (some (record { equipmentId = id; description = text; modules = m .0 })) none
+
+pub table-as : (s : List ℕ) → wholeTable s ≡ (textsAt (78 ∷ 68 ∷ []) (drop 0 s) >>= goesOn (afterNode (length s)))
+unfolding wholeTable bytes
+table-as s = texts-then (afterNode (length s)) (78 ∷ 68 ∷ []) s
+
+pub readable-long : (s : List ℕ) → 16384 < length s → false ≡ isSome (readTable s)
+unfolding readTable
+readable-long s h = simp (lt-leb _ _ h)
+
+module _ (s : List ℕ) (short : length s ≤ 16384) (t : T.Texts) (ht : TextsAt s t (textsAt (78 ∷ 68 ∷ []) (drop 0 s))) where
+  whole : readTable s ≡ wholeTable s
+  unfolding readTable
+  whole = simp (le-leb _ _ short)
+
+  pub readable-untold : t ≡ T.the-variants.Bad → false ≡ isSome (readTable s)
+  readable-untold e = simp (whole, table-as, rw e at ht)
+
+  module _ (p q : Part) (et : t ≡ T.the-variants.At p q) (m : Next) (hm : Ends s m (rest (modulesFrom s (q .to)))) where
+    begun : wholeTable s ≡ afterNode (length s) (bytesOf s p) (bytesOf s q) (drop (q .to) s)
+    begun = table-as s ∙ rw ((rw et at ht) .is)
+
+    pub readable-unmodelled : m ≡ Bad → false ≡ isSome (readTable s)
+    readable-unmodelled e = simp (whole, begun) (ap isSome (sym (rest-none (modulesFrom s (q .to)) _ (rw e at hm))))
+
+    module _ (l : ℕ) (em : m ≡ At l) (n : Next) (hn : Ends s n (after (69 ∷ 78 ∷ []) (drop l s))) where
+      ended : (g : Got (modulesFrom s (q .to)) (drop l s)) → wholeTable s ≡ (after (69 ∷ 78 ∷ []) (drop l s) >>= λ e. cond (eqb (length e) 0) (some (record { equipmentId = bytesOf s p; description = bytesOf s q; modules = g .it })) none)
+      ended g = begun ∙ rw (g .is)
+
+      read : Got (modulesFrom s (q .to)) (drop l s)
+      read = got (modulesFrom s (q .to)) (drop l s) ((rw em at hm) .0)
+
+      pub readable-endless : n ≡ Bad → false ≡ isSome (readTable s)
+      readable-endless e = simp (whole, ended read, rw e at hn)
+
+      pub readable-end : (k : ℕ) → n ≡ At k → eqb k (length s) ≡ isSome (readTable s)
+      readable-end k e = simp (whole, ended read, (rw e at hn) .0, length-drop) (go _ (eqb k (length s)) refl)
+        where
+          go : (x : Table.Table) (b : Bool) → eqb k (length s) ≡ b → b ≡ isSome (cond (eqb (length s - k) 0) (some x) none)
+          go x true z = let y = eqb-true k (length s) z in rw (eq-eqb (length s - k) 0 (omega arith))
+          go x false z =
+              let y = eqb-false k (length s) z in
+              let w = (rw e at hn) .1 in
+              rw (ne-eqb (length s - k) 0 (λ v. y (omega arith)))
