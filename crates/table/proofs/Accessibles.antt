@@ -14,7 +14,7 @@ use Rattle.ascii.specs.Numbers.{unsigned}
 use Rattle.ascii.specs.Reader.{Ends, rest}
 use Rattle.datainfo.specs.Datainfo.{Datainfo}
 use Rattle.datainfo.specs.Layout.{counted, datainfoIn, datainfoAt}
-use Rattle.datainfo.proofs.Ends.{rest-map}
+use Rattle.json.proofs.Rest.{rest-map}
 use Rattle.table.specs.Table as Table
 use Rattle.table.specs.Layout.{begins, flag, argumentAt, parameterAt, commandAt, noteAt}
 use Rattle.table.specs.declared.layout.Part.{Part}
@@ -55,6 +55,9 @@ module _ {B : Type 0} (f : List ℕ → List ℕ → List ℕ → Option B) wher
       go : (o : Option (List ℕ)) → (o >>= λ a. counted a >>= λ n. counted (n .1) >>= λ d. f (n .0) (d .0) (d .1)) ≡ ((o >>= λ a. counted a >>= λ n. counted (n .1) >>= λ d. some (two (n .0) d)) >>= goesOn)
       go none = refl
       go (some a) = first (counted a)
+
+pub in-some : {A : Type 0} {p q : A} → some p ≡ some q → p ≡ q
+in-some e = cc
 
 -- what a reader read that left r
 pub record Got {A : Type 0} (o : Option (A × List ℕ)) (r : List ℕ) : Type 0 where

@@ -14,7 +14,7 @@ use Rattle.ascii.specs.Text.{bytes}
 use Rattle.ascii.specs.Bytes.{_>>=_, isSome, after}
 use Rattle.ascii.specs.Reader.{Ends, rest}
 use Rattle.datainfo.specs.Layout.{counted}
-use Rattle.datainfo.proofs.Ends.{rest-map}
+use Rattle.json.proofs.Rest.{rest-map}
 use Rattle.table.specs.Table as Table
 use Rattle.table.specs.Layout.{begins, accessiblesAt, noteAt, moduleAt, modulesAt, wholeTable, readTable}
 use Rattle.table.specs.declared.layout.Part.{Part}
@@ -82,9 +82,12 @@ module _ (s : List ℕ) (at : ℕ) (t : T.Texts) (ht : TextsAt s t (textsAt (77 
 abbrev pub withAccessibles : Table.Module → List Table.Accessible → Table.Module
 withAccessibles m xs = record { name = m .name; description = m .description; note = m .note; accessibles = xs }
 
+abbrev pub withThem : Table.Module → List Table.Accessible × List ℕ → Table.Module × List ℕ
+withThem m q = (withAccessibles m (q .0), q .1)
+
 -- what follows a module's beginning
 abbrev pub members : ℕ → Table.Module × List ℕ → Option (Table.Module × List ℕ)
-members n h = accessiblesAt n (length (h .1)) (h .1) >>= λ q. some (withAccessibles (h .0) (q .0), q .1)
+members n h = accessiblesAt n (length (h .1)) (h .1) >>= λ q. some (withThem (h .0) q)
 
 pub module-as : (n : ℕ) (xs : List ℕ) → moduleAt n xs ≡ (headingAt xs >>= members n)
 unfolding moduleAt headingAt
@@ -123,8 +126,15 @@ module _ {A : Type 0} (f : List ℕ → Option (List A × List ℕ)) (o : Option
   stops : rest o ≡ none → rest (o >>= λ p. before (p .0) (f (p .1))) ≡ none
   stops e = ap rest (rest-none o (λ p. before (p .0) (f (p .1))) e)
 
-less : (s : List ℕ) (i j : ℕ) → length (drop j s) < length (drop i s) → length s - j < length s - i
+pub less : (s : List ℕ) (i j : ℕ) → length (drop j s) < length (drop i s) → length s - j < length s - i
 less s i j h = simp length-drop at h
+
+module _ (s : List ℕ) (i : ℕ) (b : Bool) (r : Next) (j : ℕ) (x : r ≡ At j) where
+  pub accessibles-less : b ≡ accessibleBegins (drop i s) → b ≡ true → Ends s r (rest (accessibleAt (length s) (drop i s))) → length s - j < length s - i
+  accessibles-less hb z hr = less s i j (accessible-less s i (drop j s) (sym hb ∙ z) ((rw x at hr) .0))
+
+  pub modules-less : b ≡ begins (bytes "MO") (drop i s) → b ≡ true → Ends s r (rest (moduleAt (length s) (drop i s))) → length s - j < length s - i
+  modules-less hb z hr = less s i j (module-less s i (drop j s) (sym hb ∙ z) ((rw x at hr) .0))
 
 -- accessibles o, from position i on
 module _ (s : List ℕ) (o : Option (List ℕ)) (i : ℕ) (e : o ≡ rest (accessiblesFrom s i)) (b : Bool) (hb : b ≡ accessibleBegins (drop i s)) where
@@ -138,9 +148,6 @@ module _ (s : List ℕ) (o : Option (List ℕ)) (i : ℕ) (e : o ≡ rest (acces
     pub accessibles-next : (j : ℕ) → r ≡ At j → o ≡ rest (accessiblesFrom s j)
     accessibles-next j x = e ∙ ap rest (accessibles-more s i (sym hb ∙ z)) ∙ goes-on (λ xs. accessiblesAt (length s) (length xs) xs) (accessibleAt (length s) (drop i s)) (drop j s) ((rw x at hr) .0)
 
-    pub accessibles-less : (j : ℕ) → r ≡ At j → length s - j < length s - i
-    accessibles-less j x = less s i j (accessible-less s i (drop j s) (sym hb ∙ z) ((rw x at hr) .0))
-
 -- modules o, from position i on
 module _ (s : List ℕ) (o : Option (List ℕ)) (i : ℕ) (e : o ≡ rest (modulesFrom s i)) (b : Bool) (hb : b ≡ begins (bytes "MO") (drop i s)) where
   pub modules-last : b ≡ false → i ≤ length s → Ends s (At i) o
@@ -152,9 +159,6 @@ module _ (s : List ℕ) (o : Option (List ℕ)) (i : ℕ) (e : o ≡ rest (modul
 
     pub modules-next : (j : ℕ) → r ≡ At j → o ≡ rest (modulesFrom s j)
     modules-next j x = e ∙ ap rest (modules-more s i (sym hb ∙ z)) ∙ goes-on (λ xs. modulesAt (length s) (length xs) xs) (moduleAt (length s) (drop i s)) (drop j s) ((rw x at hr) .0)
-
-    pub modules-less : (j : ℕ) → r ≡ At j → length s - j < length s - i
-    modules-less j x = less s i j (module-less s i (drop j s) (sym hb ∙ z) ((rw x at hr) .0))
 
 pub module-begins : (s : List ℕ) (at : ℕ) (b : Bool) → b ≡ begins (77 ∷ 79 ∷ []) (drop at s) → b ≡ begins (bytes "MO") (drop at s)
 unfolding bytes

@@ -1,2 +1,3 @@
 // The table: reading its records, judging it, and finding parameters and commands in it.
+pub mod judge;
 pub mod layout;
