@@ -3,3 +3,5 @@ pub mod Layout
 pub mod Members
 pub mod Rules
 pub mod Fit
+pub mod Verdict
+pub mod Walk

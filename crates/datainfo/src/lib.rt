@@ -1,2 +1,4 @@
 // Datainfo in the table's bytes, and which values fit it.
+pub mod fit;
 pub mod layout;
+pub mod walk;

@@ -1,0 +1,39 @@
+-- What the code that judges a value answers. Assumes nothing.
+use Prim.Native.Nat.{ℕ}
+use mathlib.Core.Path.{_≡_}
+use mathlib.Core.Bool.{cond}
+use mathlib.Core.List.{List}
+use mathlib.Core.Option.{Option, none, some}
+use lib.Dec.{eqb}
+use Rattle.ascii.specs.Numbers.{unsigned}
+use Rattle.json.specs.Json.{Json}
+use Rattle.datainfo.specs.Datainfo.{Datainfo, bool}
+use Rattle.datainfo.specs.Layout.{doubleAt, intAt, enumAt, stringAt}
+use Rattle.datainfo.specs.Rules.{isBetween}
+use Rattle.datainfo.specs.Fit as Fit
+use Rattle.datainfo.specs.Fit.{fits, rangeError, wrongType, badJSON, inRange, fit}
+use Rattle.datainfo.specs.declared.fit.Verdict.{Verdict}
+use Rattle.datainfo.specs.declared.fit.Verdict.the-variants.{Fits, RangeError, WrongType, BadJson}
+
+-- the verdict that the code's answer stands for
+abbrev pub meaning : Verdict → Fit.Verdict
+meaning Fits = fits
+meaning RangeError = rangeError
+meaning WrongType = wrongType
+meaning BadJson = badJSON
+
+-- r is how the value that q reads fits the datainfo that o reads; where either can't be read, r is any
+pub record Judges (o : Option (Datainfo × List ℕ)) (q : Option (Json × List ℕ)) (r : Verdict) : Type 0 where
+  pub is : {d : Datainfo} {x : List ℕ} {j : Json} {y : List ℕ} → o ≡ some (d, x) → q ≡ some (j, y) → meaning r ≡ fit d j
+
+-- r is how a count n fits the two limits that are read from xs; where they can't be read, r is any
+pub record Limits (xs : List ℕ) (n : ℕ) (r : Verdict) : Type 0 where
+  pub is : {lo hi : ℕ} {y z : List ℕ} → unsigned 2 xs ≡ some (lo, y) → unsigned 2 y ≡ some (hi, z) → meaning r ≡ inRange (isBetween lo hi n)
+
+-- what follows the type byte k of a type whose values are numbers
+unfoldable pub numeric : ℕ → List ℕ → Option (Datainfo × List ℕ)
+numeric k xs = cond (eqb k 1) (doubleAt xs) (cond (eqb k 2) (intAt xs) (cond (eqb k 4) (enumAt xs) none))
+
+-- what follows the type byte k of a type that holds no datainfos
+unfoldable pub plain : ℕ → List ℕ → Option (Datainfo × List ℕ)
+plain k xs = cond (eqb k 3) (some (bool, xs)) (cond (eqb k 5) (stringAt xs) (numeric k xs))

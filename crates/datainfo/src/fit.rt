@@ -1,0 +1,256 @@
+// Which values fit a datainfo: the table's bytes and the value's text are walked over together.
+ghost use mathlib.Core.Path.{_≡_};
+ghost use Prim.Native.Nat.{ℕ, _≤_};
+ghost use mathlib.Core.List.{List, []};
+ghost use mathlib.Core.Bool.{true};
+ghost use mathlib.Core.Option.{some};
+ghost use lib.ListN.{length, drop};
+ghost use Rattle.decimal.specs.Token.{isWhole};
+ghost use Rattle.decimal.specs.Decimal.{Decimal};
+ghost use Rattle.decimal.specs.Exact.{decimal};
+ghost use Rattle.json.specs.Json as Json;
+ghost use Rattle.json.specs.Json.{bare};
+ghost use Rattle.datainfo.specs.Datainfo as Datainfo;
+ghost use Rattle.datainfo.specs.Layout.{limit, doubleAt, intAt, enumAt, stringAt, arrayAt, tupleAt, datainfoIn};
+ghost use Rattle.datainfo.specs.Rules.{isBetween};
+ghost use Rattle.datainfo.specs.Fit as Fit;
+ghost use Rattle.datainfo.specs.Fit.{inRange, doubleFit, wholeFit, betweenIntegers};
+ghost use Rattle.datainfo.specs.Verdict.{meaning, Judges, Limits, numeric, plain};
+use super::layout::{counted_end, datainfo_end, part_end};
+use super::walk::{first, next, quoted};
+use ascii::Next;
+use ascii::Signed;
+use ascii::SignedByte;
+use ascii::Unsigned;
+use ascii::byte;
+use ascii::numbers::{signed, signed_byte, unsigned};
+use decimal::compare::{is_between, is_whole};
+use decimal::token::number_end;
+use json::characters::{all_low, count};
+use json::read::spaces_end;
+
+// What a value comes to, each worse than the one before.
+pub enum Verdict {
+    Fits,
+    RangeError,
+    WrongType,
+    BadJson,
+}
+
+fn severity(a: Verdict) -> u8
+    ensures { λ r. ⌜ r ≡ Fit.severity (meaning a) ⌝ }
+{
+    match a {
+        Verdict::Fits => 0,
+        Verdict::RangeError => 1,
+        Verdict::WrongType => 2,
+        Verdict::BadJson => 3,
+    }
+}
+
+// A type fault anywhere wins over a range fault anywhere.
+pub fn worse(a: Verdict, b: Verdict) -> Verdict
+    ensures { λ r. ⌜ meaning r ≡ Fit.worse (meaning a) (meaning b) ⌝ }
+{
+    if severity(b) <= severity(a) {
+        return a;
+    }
+    b
+}
+
+fn count_fit(lo: u64, hi: u64, n: usize) -> Verdict
+    ensures { λ r. ⌜ meaning r ≡ inRange (isBetween lo hi n) ⌝ }
+{
+    let count = n as u64;
+    if count < lo {
+        return Verdict::RangeError;
+    }
+    if hi < count {
+        return Verdict::RangeError;
+    }
+    Verdict::Fits
+}
+
+// RangeError for a count n outside the two limits at a position.
+fn limits_fit(s: &[u8], at: usize, n: usize) -> Verdict
+    requires { ⌜ at ≤ length (now s) ⌝ }
+    ensures { λ r. ⌜ Limits (drop at (now (s .entry))) n r ⌝ }
+{
+    let Unsigned::Read(lo, a) = unsigned(s, at, 2) else {
+        return Verdict::WrongType;
+    };
+    let Unsigned::Read(hi, _) = unsigned(s, a, 2) else {
+        return Verdict::WrongType;
+    };
+    count_fit(lo, hi, n)
+}
+
+// RangeError unless a test passes.
+fn range_fit(passes: bool) -> Verdict
+    ensures { λ r. ⌜ meaning r ≡ inRange passes ⌝ }
+{
+    if passes {
+        return Verdict::Fits;
+    }
+    Verdict::RangeError
+}
+
+// A number token for a double with the lower limit lo × 10^lo_power, at its upper limit.
+fn upper_fit(s: &[u8], at: usize, lo: i64, lo_power: i8, t: &[u8]) -> Verdict
+    requires { ⌜ at ≤ length (now s) ⌝ }
+    ensures { λ r. ⌜ ((hi : Decimal) (x : List ℕ) → limit (drop at (now (s .entry))) ≡ some (hi, x) → meaning r ≡ doubleFit (decimal lo «lo_power») hi (now (t .entry))) ⌝ }
+{
+    let Signed::Read(hi, a) = signed(s, at, 8) else {
+        return Verdict::WrongType;
+    };
+    let SignedByte::Read(hi_power, _) = signed_byte(s, a) else {
+        return Verdict::WrongType;
+    };
+    range_fit(is_between(lo, lo_power, hi, hi_power, t))
+}
+
+// A number token, of which any is of the kind.
+fn double_fit(s: &[u8], at: usize, t: &[u8]) -> Verdict
+    requires { ⌜ at ≤ length (now s) ⌝ }
+    ensures { λ r. ⌜ Judges (doubleAt (drop at (now (s .entry)))) (some (Json.number (now (t .entry)), [])) r ⌝ }
+{
+    let Signed::Read(lo, a) = signed(s, at, 8) else {
+        return Verdict::WrongType;
+    };
+    let SignedByte::Read(lo_power, b) = signed_byte(s, a) else {
+        return Verdict::WrongType;
+    };
+    upper_fit(s, b, lo, lo_power, t)
+}
+
+// A number token, which has to have no dot and no 'e', from lo to hi.
+fn whole_fit(lo: i64, hi: i64, t: &[u8]) -> Verdict
+    ensures { λ r. ⌜ meaning r ≡ wholeFit (betweenIntegers lo hi) (now (t .entry)) ⌝ }
+{
+    if is_whole(t) {
+        return range_fit(is_between(lo, 0, hi, 0, t));
+    }
+    Verdict::WrongType
+}
+
+fn int_fit(s: &[u8], at: usize, t: &[u8]) -> Verdict
+    requires { ⌜ at ≤ length (now s) ⌝ }
+    ensures { λ r. ⌜ Judges (intAt (drop at (now (s .entry)))) (some (Json.number (now (t .entry)), [])) r ⌝ }
+{
+    let Signed::Read(lo, a) = signed(s, at, 8) else {
+        return Verdict::WrongType;
+    };
+    let Signed::Read(hi, _) = signed(s, a, 8) else {
+        return Verdict::WrongType;
+    };
+    whole_fit(lo, hi, t)
+}
+
+// Whether the token t is the value of a member of an enum; of tokens with a dot or an 'e' nothing is said.
+fn member_fit(s: &[u8], at: usize, t: &[u8]) -> Verdict
+    requires { ⌜ at ≤ length (now s) ⌝ }
+    ensures { λ r. ⌜ (isWhole (now (t .entry)) ≡ true → Judges (enumAt (drop at (now (s .entry)))) (some (Json.number (now (t .entry)), [])) r) ⌝ }
+{
+    let Unsigned::Read(members, from) = unsigned(s, at, 1) else {
+        return Verdict::WrongType;
+    };
+    let mut i = from;
+    let mut left = members;
+    while 0 < left {
+        let Next::At(n) = counted_end(s, i) else {
+            return Verdict::WrongType;
+        };
+        let Signed::Read(value, e) = signed(s, n, 4) else {
+            return Verdict::WrongType;
+        };
+        if is_between(value, 0, value, 0, t) {
+            return Verdict::Fits;
+        }
+        i = e;
+        left -= 1;
+    }
+    Verdict::RangeError
+}
+
+fn enum_fit(s: &[u8], at: usize, t: &[u8]) -> Verdict
+    requires { ⌜ at ≤ length (now s) ⌝ }
+    ensures { λ r. ⌜ Judges (enumAt (drop at (now (s .entry)))) (some (Json.number (now (t .entry)), [])) r ⌝ }
+{
+    if is_whole(t) {
+        return member_fit(s, at, t);
+    }
+    Verdict::WrongType
+}
+
+// A number token for the type k, one of double (1), int (2) and enum (4).
+fn token_fit(s: &[u8], at: usize, k: u64, t: &[u8]) -> Verdict
+    requires { ⌜ at ≤ length (now s) ⌝ }
+    ensures { λ r. ⌜ Judges (numeric k (drop at (now (s .entry)))) (some (Json.number (now (t .entry)), [])) r ⌝ }
+{
+    if k == 1 {
+        return double_fit(s, at, t);
+    }
+    if k == 2 {
+        return int_fit(s, at, t);
+    }
+    enum_fit(s, at, t)
+}
+
+fn number_fit(s: &[u8], at: usize, k: u64, v: &[u8], p: usize) -> Verdict
+    requires { ⌜ (at ≤ length (now s)) × (p ≤ length (now v)) ⌝ }
+    ensures { λ r. ⌜ ((depth : ℕ) → Judges (numeric k (drop at (now (s .entry)))) (bare depth (drop p (now (v .entry)))) r) ⌝ }
+{
+    let Next::At(e) = number_end(v, p) else {
+        return Verdict::WrongType;
+    };
+    token_fit(s, at, k, &v[p..e])
+}
+
+// Of the values only `true` and `false` begin with a 't' or an 'f'.
+fn bool_fit(v: &[u8], p: usize) -> Verdict
+    ensures { λ r. ⌜ ((depth : ℕ) → Judges (some (Datainfo.bool, [])) (bare depth (drop p (now (v .entry)))) r) ⌝ }
+{
+    let b = byte(v, p);
+    if b == b't' {
+        return Verdict::Fits;
+    }
+    if b == b'f' {
+        return Verdict::Fits;
+    }
+    Verdict::WrongType
+}
+
+// A string with the bytes t between its quotes.
+fn characters_fit(s: &[u8], at: usize, t: &[u8]) -> Verdict
+    requires { ⌜ at ≤ length (now s) ⌝ }
+    ensures { λ r. ⌜ Judges (stringAt (drop at (now (s .entry)))) (some (Json.string (now (t .entry)), [])) r ⌝ }
+{
+    if all_low(t) {
+        return limits_fit(s, at, count(t));
+    }
+    Verdict::RangeError
+}
+
+fn string_fit(s: &[u8], at: usize, v: &[u8], p: usize) -> Verdict
+    requires { ⌜ (at ≤ length (now s)) × (p ≤ length (now v)) ⌝ }
+    ensures { λ r. ⌜ ((depth : ℕ) → Judges (stringAt (drop at (now (s .entry)))) (bare depth (drop p (now (v .entry)))) r) ⌝ }
+{
+    if byte(v, p) != b'"' {
+        return Verdict::WrongType;
+    }
+    characters_fit(s, at, quoted(v, p))
+}
+
+// What follows the type byte k of a type that holds no datainfos.
+fn plain_fit(s: &[u8], at: usize, k: u64, v: &[u8], p: usize) -> Verdict
+    requires { ⌜ (at ≤ length (now s)) × (p ≤ length (now v)) ⌝ }
+    ensures { λ r. ⌜ ((depth : ℕ) → Judges (plain k (drop at (now (s .entry)))) (bare depth (drop p (now (v .entry)))) r) ⌝ }
+{
+    if k == 3 {
+        return bool_fit(v, p);
+    }
+    if k == 5 {
+        return string_fit(s, at, v, p);
+    }
+    number_fit(s, at, k, v, p)
+}
