@@ -177,11 +177,13 @@ module _ (s : List ℕ) (at : ℕ) (t : List ℕ) (u : Unsigned) (k : ReadsUnsig
 
   pub members-first : (n i : ℕ) → u ≡ U.the-variants.Read n i → Members s at t i n
   unfolding fit expect asNumber wholeFit
-  members-first n i e = record { from = λ h g. enum-some (drop at s) g λ m r vs a b z. record {
-    vs = vs;
-    reads = rw (same-read ((rw e at k) .0) a, same-left ((rw e at k) .0) a) b;
-    is = rw (z, h);
-  } }
+  members-first n i e = record {
+    from = λ h g. enum-some (drop at s) g λ m r vs a b z. record {
+      vs = vs;
+      reads = rw (same-read ((rw e at k) .0) a, same-left ((rw e at k) .0) a) b;
+      is = rw (z, h);
+    };
+  }
 
 -- a test of one member more
 hit : (a b c : Bool) → (a && b) ≡ true → (a && (b || c)) ≡ true
@@ -205,6 +207,7 @@ module _ (s : List ℕ) (at : ℕ) (t : List ℕ) (i n : ℕ) (m : Members s at 
     where
       empty-vs : {vs : List Variant} {x : List ℕ} → n ≡ 0 → variants n (drop i s) ≡ some (vs, x) → [] ≡ vs
       empty-vs z e = ap (λ p. p .0) (just (rw z at e))
+
       none-left : (d : Datainfo) {x : List ℕ} → n ≡ 0 → (vs : List Variant) → variants n (drop i s) ≡ some (vs, x)
           → fit d (Json.number t) ≡ inRange (isWithinLimits t && isVariant vs (exactly t)) → rangeError ≡ fit d (Json.number t)
       none-left d z vs e g = sym (g ∙ rw (← (empty-vs z e), and-false (isWithinLimits t)))
@@ -236,11 +239,13 @@ module _ (s : List ℕ) (at : ℕ) (t : List ℕ) (i n : ℕ) (m : Members s at 
 
         pub members-more : c ≡ false → Members s at t b (n - 1)
         unfolding isVariant betweenIntegers any
-        members-more q = record { from = λ w o. let j = m .from w o in variants-some n (drop i s) h (j .reads) λ k' r y ws' ws a' b' c' z. record {
-          vs = ws;
-          reads = rw (same-left ((rw f at l) .0) (rw (past a') at b')) c';
-          is = j .is ∙ rw z (ap inRange (miss (isWithinLimits t) (between (decimal y (pos 0)) (decimal y (pos 0)) (exactly t)) (isVariant ws (exactly t)) (sym (is-first a' b') ∙ q)));
-        } }
+        members-more q = record {
+          from = λ w o. let j = m .from w o in variants-some n (drop i s) h (j .reads) λ k' r y ws' ws a' b' c' z. record {
+            vs = ws;
+            reads = rw (same-left ((rw f at l) .0) (rw (past a') at b')) c';
+            is = j .is ∙ rw z (ap inRange (miss (isWithinLimits t) (between (decimal y (pos 0)) (decimal y (pos 0)) (exactly t)) (isVariant ws (exactly t)) (sym (is-first a' b') ∙ q)));
+          };
+        }
 
 -- a token with a dot or an 'e'
 pub enum-wrong : (s : List ℕ) (at : ℕ) (t : List ℕ) (o : Bool) → o ≡ isWhole t → o ≡ false → Judges (enumAt (drop at s)) (some (Json.number t, [])) WrongType
@@ -318,6 +323,7 @@ module _ (k : ℕ) (ys v : List ℕ) (p : ℕ) (n : Next) (l : Ends v n (Token.n
       where
         same-end : {y : List ℕ} → Token.number (drop p v) ≡ some y → drop e v ≡ y
         same-end f = just (sym ((rw z at l) .0) ∙ f)
+
         size : length (drop p v) - length (drop e v) ≡ e - p
         size = simp length-drop (omega (arith, number-room v p n l e z w, (rw z at l) .1))
 

@@ -90,5 +90,7 @@ module _ (s : List ℕ) (at : ℕ) (v : List ℕ) (p b : ℕ) (x : ByteAt v p b)
 
   pub string-quoted : b ≡ 34 → (t : List ℕ) (r : Verdict) → Quoted (drop p v) t → Judges (stringAt (drop at s)) (some (Json.string t, [])) r → Judges (stringAt (drop at s)) (bare depth (drop p v)) r
   unfolding fit expect asString
-  string-quoted h t r q g = record { is = λ e k. string-some (drop at s) e λ lo hi y c f z. tells-yes (as-string (shape depth (drop p v) k)) (sym (x .is) ∙ h) λ a i w.
-      rw (z, i, w .1, ← (q .is (sym (x .is) ∙ h) (w .0))) (rw z at (g .is e refl)) }
+  string-quoted h t r q g = record {
+    is = λ e k. string-some (drop at s) e λ lo hi y c f z. tells-yes (as-string (shape depth (drop p v) k)) (sym (x .is) ∙ h) λ a i w.
+        rw (z, i, w .1, ← (q .is (sym (x .is) ∙ h) (w .0))) (rw z at (g .is e refl));
+  }

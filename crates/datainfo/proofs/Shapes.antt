@@ -8,7 +8,7 @@ use mathlib.Core.List.{List, [], _∷_}
 use mathlib.Core.Option.{Option, none, some}
 use lib.ListN.{length}
 use lib.Dec.{eqb, leb}
-use borrow.Author.Tests.{eqb-true, leb-true}
+use borrow.Author.Tests.{eqb-true, eq-eqb, leb-true}
 use Rattle.ascii.specs.Text.{bytes}
 use Rattle.ascii.specs.Bytes.{_>>=_, isSome, head, tail, dropWhile, after, isIn, isDigit}
 use Rattle.decimal.specs.Token.{minus, int, digits, frac, exp}
@@ -58,7 +58,7 @@ pub data Shape (d : ℕ) (xs : List ℕ) (j : Json) (y : List ℕ) : Type 0 wher
 
 -- ## Numbers begin with a minus (45) or a digit
 
-both : (a b : Bool) → (a && b) ≡ true → (a ≡ true) × (b ≡ true)
+pub both : (a b : Bool) → (a && b) ≡ true → (a ≡ true) × (b ≡ true)
 both true true e = (refl, refl)
 both true false e = absurd (let z : _≡_ {A = ℕ} 0 1 = cc in omega arith)
 both false b e = absurd (let z : _≡_ {A = ℕ} 0 1 = cc in omega arith)
@@ -71,9 +71,11 @@ number-begins xs {y} e = sign (eqb (head xs) 45) refl e
         → (45 ≤ head xs) × (head xs ≤ 57)
     digit true h e = let z = both (leb 48 (head xs)) (leb (head xs) 57) h in (omega (arith, leb-true 48 (head xs) (z .0)), leb-true (head xs) 57 (z .1))
     digit false h e = absurd (nothing e)
+
     null : (b : Bool) → eqb (head xs) 48 ≡ b → (cond b (some (tail xs)) (digits xs) >>= frac >>= exp) ≡ some y → (45 ≤ head xs) × (head xs ≤ 57)
     null true h e = let z = eqb-true (head xs) 48 h in (omega arith, omega arith)
     null false h e = digit (isDigit (head xs)) refl e
+
     sign : (b : Bool) → eqb (head xs) 45 ≡ b → (int (cond b (tail xs) xs) >>= frac >>= exp) ≡ some y → (45 ≤ head xs) × (head xs ≤ 57)
     sign true h e = let z = eqb-true (head xs) 45 h in (omega arith, omega arith)
     sign false h e = null (eqb (head xs) 48) refl e
@@ -125,6 +127,21 @@ module _ {j : Json} {y : List ℕ} where
       either (head xs) 91 _ _ k (λ h k. row e (suc e) xs refl h k) λ _ k.
       either (head xs) 123 _ _ k (λ h k. group e (suc e) xs refl h k) λ _ k. scalar-shape (suc e) xs k
 
+-- the members that are read past a '{'
+pub object-group : (d : ℕ) (xs : List ℕ) {ms : Members} {y : List ℕ} → objectEnd (value d) xs ≡ some (object ms, y) → Group d xs ms
+unfolding objectEnd
+object-group d xs {ms} e =
+    either (head (skip xs)) 125 _ _ e (λ b k. empty b (sym (same-members (ap (λ p. p .0) (just k))))) λ b k.
+    kept object (members (value d) (length xs) xs) k λ ns r g i. full b (g ∙ ap (λ m. some (m, r)) (sym (same-members i)))
+  where
+    same-members : {a b : Members} → object a ≡ object b → a ≡ b
+    same-members e = cc
+
+pub group-object : {S : Type 0} (d : ℕ) (xs : List ℕ) {ms : Members} → Group d xs ms → ((y : List ℕ) → objectEnd (value d) xs ≡ some (object ms, y) → S) → S
+unfolding objectEnd
+group-object d xs (empty h e) f = f (tail (skip xs)) (rw (eq-eqb _ 125 h, e))
+group-object d xs (full {y = y} h e) f = f y (rw (h, e))
+
 -- ## The kinds, each known by the first byte
 
 -- where P holds, o has something, of which Q holds; elsewhere it has nothing
@@ -147,7 +164,7 @@ neither n p q (inl z) = p z
 neither n p q (inr z) = q z
 
 -- a number, which has to begin as one
-figureless : (xs : List ℕ) → ( (45 ≤ head xs) × (head xs ≤ 57) → ⊥) → isSome (Token.number xs) ≡ true → ⊥
+figureless : (xs : List ℕ) → ((45 ≤ head xs) × (head xs ≤ 57) → ⊥) → isSome (Token.number xs) ≡ true → ⊥
 figureless xs h = go (Token.number xs) refl
   where
     go : (o : Option (List ℕ)) → Token.number xs ≡ o → isSome o ≡ true → ⊥

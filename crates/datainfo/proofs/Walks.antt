@@ -16,7 +16,7 @@ use Rattle.ascii.proofs.Bytes.{tail-drop, is-byte, no-byte}
 use Rattle.json.specs.Json.{skip, stringEnd, inside, key, value}
 use Rattle.json.proofs.ReadAgain as Again
 use Rattle.json.proofs.ReadAgain.{of-some, chars-quoted}
-use Rattle.datainfo.specs.Walk.{first, comma, afterItem, afterMember, Quoted, Reads}
+use Rattle.datainfo.specs.Walk.{first, comma, afterItem, afterMember, memberValue, Quoted, Reads}
 
 -- ## The first and the next
 
@@ -77,6 +77,7 @@ module _ (v : List ℕ) (p : ℕ) (r : Next) (k : Ends v r (stringEnd (drop (p +
       where
         size : e - 1 - (p + 1) ≡ length (drop (p + 1) v) - suc (length (drop e v))
         size = simp length-drop (omega (arith, quoted-room, (rw z at k) .1))
+
         all : (y : List ℕ) → stringEnd (tail (drop p v)) ≡ some y → take (e - 1 - (p + 1)) (drop (p + 1) v) ≡ take (length (tail (drop p v)) - suc (length y)) (tail (drop p v))
         all y f =
             let g : stringEnd (drop (p + 1) v) ≡ some y = rw tail-drop at f in
@@ -99,6 +100,7 @@ keyed xs {k} {r} e = go (eqb (head (skip xs)) 34) refl (stringEnd (tail (skip xs
   where
     found : List ℕ → Option (List ℕ × List ℕ)
     found y = cond (eqb (head (skip y)) 58) (some (inside (tail (skip xs)) y, tail (skip y))) none
+
     go : (b : Bool) → eqb (head (skip xs)) 34 ≡ b → (o : Option (List ℕ)) → stringEnd (tail (skip xs)) ≡ o → cond b (o >>= found) none ≡ some (k, r) → Keyed xs k
     go false h o g e = absurd (let z : _≡_ {A = ℕ} 0 1 = cc in omega arith)
     go true h none g e = absurd (let z : _≡_ {A = ℕ} 0 1 = cc in omega arith)
@@ -106,6 +108,7 @@ keyed xs {k} {r} e = go (eqb (head (skip xs)) 34) refl (stringEnd (tail (skip xs
       where
         one : {p q : List ℕ × List ℕ} → some p ≡ some q → p ≡ q
         one e = cc
+
         colon : (b : Bool) → cond {A = Option (List ℕ × List ℕ)} b (some (inside (tail (skip xs)) y, tail (skip y))) none ≡ some (k, r) → Keyed xs k
         colon false e = absurd (let z : _≡_ {A = ℕ} 0 1 = cc in omega arith)
         colon true e = record { end = y; quote = eqb-true _ 34 h; string = g; is = sym (ap (λ p. p .0) (one e)) }
@@ -115,3 +118,25 @@ key-quoted v t i p l q = record { is = λ e. go (keyed (drop i v) e) }
   where
     go : {k : List ℕ} → Keyed (drop i v) k → t ≡ k
     go h = (rw (← (l .is)) at q) .is (h .quote) (h .string) ∙ sym (h .is)
+
+-- ## Where a walk stands
+
+pub record Inside (v : List ℕ) (r : Next) : Type 0 where
+  pub within : (i : ℕ) → r ≡ At i → i ≤ length v
+
+pub inside-ends : (v : List ℕ) (r : Next) (o : Option (List ℕ)) → Ends v r o → Inside v r
+inside-ends v r o k = record { within = λ i e. (rw e at k) .1 }
+
+pub inside-at : (v : List ℕ) (r : Next) (i : ℕ) → Inside v r → r ≡ At i → i ≤ length v
+inside-at v r i h e = h .within i e
+
+-- ## The value of a member
+
+module _ (v : List ℕ) (i : ℕ) (r : Next) (k : Ends v r (rest (key (drop i v)))) where
+  pub value-bad : r ≡ Bad → memberValue (drop i v) ≡ none
+  unfolding memberValue
+  value-bad z = simp (rw z at k)
+
+  pub value-good : (c q : ℕ) → r ≡ At c → Left v q (skip (drop c v)) → Ends v (At q) (memberValue (drop i v))
+  unfolding memberValue
+  value-good c q z l = (simp ((rw z at k) .0, l .is), l .within)

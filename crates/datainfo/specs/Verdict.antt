@@ -1,17 +1,18 @@
 -- What the code that judges a value answers. Assumes nothing.
 use Prim.Native.Nat.{ℕ}
 use mathlib.Core.Path.{_≡_}
-use mathlib.Core.Bool.{cond}
+use mathlib.Core.Bool.{true, cond}
 use mathlib.Core.List.{List}
 use mathlib.Core.Option.{Option, none, some}
 use lib.Dec.{eqb}
 use Rattle.ascii.specs.Numbers.{unsigned}
-use Rattle.json.specs.Json.{Json}
-use Rattle.datainfo.specs.Datainfo.{Datainfo, bool}
+use Rattle.ascii.specs.Bytes.{all, count, same}
+use Rattle.json.specs.Json.{Json, object, Members}
+use Rattle.datainfo.specs.Datainfo.{Datainfo, bool, struct, Fields, fieldNames}
 use Rattle.datainfo.specs.Layout.{doubleAt, intAt, enumAt, stringAt}
 use Rattle.datainfo.specs.Rules.{isBetween}
 use Rattle.datainfo.specs.Fit as Fit
-use Rattle.datainfo.specs.Fit.{fits, rangeError, wrongType, badJSON, inRange, fit}
+use Rattle.datainfo.specs.Fit.{fits, rangeError, wrongType, badJSON, inRange, keys, fit, fieldsFit}
 use Rattle.datainfo.specs.declared.fit.Verdict.{Verdict}
 use Rattle.datainfo.specs.declared.fit.Verdict.the-variants.{Fits, RangeError, WrongType, BadJson}
 
@@ -25,6 +26,12 @@ meaning BadJson = badJSON
 -- r is how the value that q reads fits the datainfo that o reads; where either can't be read, r is any
 pub record Judges (o : Option (Datainfo × List ℕ)) (q : Option (Json × List ℕ)) (r : Verdict) : Type 0 where
   pub is : {d : Datainfo} {x : List ℕ} {j : Json} {y : List ℕ} → o ≡ some (d, x) → q ≡ some (j, y) → meaning r ≡ fit d j
+
+-- r is the worst verdict on the values of a struct's members, each of which is exactly once among the keys; where the struct that o reads
+-- or the object that q reads can't be read, or a member is missing or repeated, r is any
+pub record JudgesFields (o : Option (Datainfo × List ℕ)) (q : Option (Json × List ℕ)) (r : Verdict) : Type 0 where
+  pub is : {fs : Fields} {x : List ℕ} {ms : Members} {y : List ℕ} → o ≡ some (struct fs, x) → q ≡ some (object ms, y)
+      → all (λ n. eqb (count (same n) (keys ms)) 1) (fieldNames fs) ≡ true → meaning r ≡ fieldsFit fs ms
 
 -- r is how a count n fits the two limits that are read from xs; where they can't be read, r is any
 pub record Limits (xs : List ℕ) (n : ℕ) (r : Verdict) : Type 0 where

@@ -9,24 +9,35 @@ ghost use Rattle.decimal.specs.Token.{isWhole};
 ghost use Rattle.decimal.specs.Decimal.{Decimal};
 ghost use Rattle.decimal.specs.Exact.{decimal};
 ghost use Rattle.json.specs.Json as Json;
-ghost use Rattle.json.specs.Json.{bare};
+ghost use Rattle.json.specs.Json.{bare, value, objectEnd};
 ghost use Rattle.datainfo.specs.Datainfo as Datainfo;
-ghost use Rattle.datainfo.specs.Layout.{limit, doubleAt, intAt, enumAt, stringAt, arrayAt, tupleAt, datainfoIn};
+ghost use Rattle.datainfo.specs.Layout.{limit, doubleAt, intAt, enumAt, stringAt, arrayAt, tupleAt, structAt, datainfoIn};
 ghost use Rattle.datainfo.specs.Rules.{isBetween};
 ghost use Rattle.datainfo.specs.Fit as Fit;
 ghost use Rattle.datainfo.specs.Fit.{inRange, doubleFit, wholeFit, betweenIntegers};
-ghost use Rattle.datainfo.specs.Verdict.{meaning, Judges, Limits, numeric, plain};
-use super::layout::{counted_end, datainfo_end, part_end};
-use super::walk::{first, next, quoted};
+ghost use Rattle.datainfo.specs.Verdict.{meaning, Judges, JudgesFields, Limits, numeric, plain};
+use super::layout::counted_end;
+use super::layout::datainfo_end;
+use super::layout::part_end;
+use super::object::each_once;
+use super::object::find_key;
+use super::object::name_at;
+use super::walk::first;
+use super::walk::next;
+use super::walk::quoted;
 use ascii::Next;
 use ascii::Signed;
 use ascii::SignedByte;
 use ascii::Unsigned;
 use ascii::byte;
-use ascii::numbers::{signed, signed_byte, unsigned};
-use decimal::compare::{is_between, is_whole};
+use ascii::numbers::signed;
+use ascii::numbers::signed_byte;
+use ascii::numbers::unsigned;
+use decimal::compare::is_between;
+use decimal::compare::is_whole;
 use decimal::token::number_end;
-use json::characters::{all_low, count};
+use json::characters::all_low;
+use json::characters::count;
 use json::read::spaces_end;
 
 // What a value comes to, each worse than the one before.
@@ -253,4 +264,141 @@ fn plain_fit(s: &[u8], at: usize, k: u64, v: &[u8], p: usize) -> Verdict
         return string_fit(s, at, v, p);
     }
     number_fit(s, at, k, v, p)
+}
+
+// The items of an array are judged by one datainfo, behind the two limits of their count. An item takes a byte at least, so of a JSON text
+// none is left when the bytes are.
+fn array_fit(s: &[u8], at: usize, levels: usize, v: &[u8], p: usize, depth: usize) -> Verdict
+    requires { ⌜ (at ≤ length (now s)) × (p ≤ length (now v)) ⌝ }
+    ensures { λ r. ⌜ Judges (arrayAt (datainfoIn levels) (drop at (now (s .entry)))) (bare depth (drop p (now (v .entry)))) r ⌝ }
+{
+    if depth == 0 {
+        return Verdict::WrongType;
+    }
+    if byte(v, p) != b'[' {
+        return Verdict::WrongType;
+    }
+    let Next::At(inner) = part_end(s, at, 4) else {
+        return Verdict::WrongType;
+    };
+    let mut worst = Verdict::Fits;
+    let mut n = 0;
+    let mut item = first(v, p + 1, b']');
+    let mut left = v.len() - p;
+    while 0 < left {
+        let Next::At(i) = item else {
+            return worse(limits_fit(s, at, n), worst);
+        };
+        worst = worse(worst, fit(s, inner, levels, v, spaces_end(v, i), depth - 1));
+        n += 1;
+        item = next(v, i, depth - 1);
+        left -= 1;
+    }
+    Verdict::WrongType
+}
+
+// The items of a tuple are judged by its datainfos in turn.
+fn tuple_fit(s: &[u8], at: usize, levels: usize, v: &[u8], p: usize, depth: usize) -> Verdict
+    requires { ⌜ (at ≤ length (now s)) × (p ≤ length (now v)) ⌝ }
+    ensures { λ r. ⌜ Judges (tupleAt (datainfoIn levels) (drop at (now (s .entry)))) (bare depth (drop p (now (v .entry)))) r ⌝ }
+{
+    if depth == 0 {
+        return Verdict::WrongType;
+    }
+    if byte(v, p) != b'[' {
+        return Verdict::WrongType;
+    }
+    let Unsigned::Read(count, from) = unsigned(s, at, 1) else {
+        return Verdict::WrongType;
+    };
+    let mut worst = Verdict::Fits;
+    let mut element = from;
+    let mut left = count;
+    let mut item = first(v, p + 1, b']');
+    while 0 < left {
+        let Next::At(i) = item else {
+            return worse(worst, Verdict::WrongType);
+        };
+        let Next::At(e) = datainfo_end(s, element, levels) else {
+            return Verdict::WrongType;
+        };
+        worst = worse(
+            worst,
+            fit(s, element, levels, v, spaces_end(v, i), depth - 1),
+        );
+        item = next(v, i, depth - 1);
+        element = e;
+        left -= 1;
+    }
+    let Next::At(_) = item else {
+        return worst;
+    };
+    worse(worst, Verdict::WrongType)
+}
+
+// The values of an object, past its '{', at the names of a struct, past its type byte; each name is exactly once among the keys.
+fn fields_fit(s: &[u8], at: usize, levels: usize, v: &[u8], p: usize, depth: usize) -> Verdict
+    requires { ⌜ (at ≤ length (now s)) × (p ≤ length (now v)) ⌝ }
+    ensures { λ r. ⌜ JudgesFields (structAt (datainfoIn levels) (drop at (now (s .entry)))) (objectEnd (value depth) (drop p (now (v .entry)))) r ⌝ }
+{
+    let Unsigned::Read(count, from) = unsigned(s, at, 1) else {
+        return Verdict::WrongType;
+    };
+    let mut worst = Verdict::Fits;
+    let mut field = from;
+    let mut left = count;
+    while 0 < left {
+        let Next::At(inner) = counted_end(s, field) else {
+            return Verdict::WrongType;
+        };
+        let Next::At(q) = find_key(v, p, depth, name_at(s, field)) else {
+            return Verdict::WrongType;
+        };
+        let Next::At(e) = datainfo_end(s, inner, levels) else {
+            return Verdict::WrongType;
+        };
+        worst = worse(worst, fit(s, inner, levels, v, q, depth));
+        field = e;
+        left -= 1;
+    }
+    worst
+}
+
+fn struct_fit(s: &[u8], at: usize, levels: usize, v: &[u8], p: usize, depth: usize) -> Verdict
+    requires { ⌜ (at ≤ length (now s)) × (p ≤ length (now v)) ⌝ }
+    ensures { λ r. ⌜ Judges (structAt (datainfoIn levels) (drop at (now (s .entry)))) (bare depth (drop p (now (v .entry)))) r ⌝ }
+{
+    if depth == 0 {
+        return Verdict::WrongType;
+    }
+    if byte(v, p) != b'{' {
+        return Verdict::WrongType;
+    }
+    if each_once(s, at, levels, v, p + 1, depth - 1) {
+        return fields_fit(s, at, levels, v, p + 1, depth - 1);
+    }
+    Verdict::WrongType
+}
+
+// The value at p, without spaces before it, and the datainfo at a position, of at most `levels` levels.
+pub fn fit(s: &[u8], at: usize, levels: usize, v: &[u8], p: usize, depth: usize) -> Verdict
+    requires { ⌜ (at ≤ length (now s)) × (p ≤ length (now v)) ⌝ }
+    ensures { λ r. ⌜ Judges (datainfoIn levels (drop at (now (s .entry)))) (bare depth (drop p (now (v .entry)))) r ⌝ }
+{
+    if levels == 0 {
+        return Verdict::WrongType;
+    }
+    let Unsigned::Read(k, inner) = unsigned(s, at, 1) else {
+        return Verdict::WrongType;
+    };
+    if k == 6 {
+        return array_fit(s, inner, levels - 1, v, p, depth);
+    }
+    if k == 7 {
+        return tuple_fit(s, inner, levels - 1, v, p, depth);
+    }
+    if k == 8 {
+        return struct_fit(s, inner, levels - 1, v, p, depth);
+    }
+    plain_fit(s, inner, k, v, p)
 }

@@ -1,4 +1,5 @@
 // Datainfo in the table's bytes, and which values fit it.
 pub mod fit;
 pub mod layout;
+pub mod object;
 pub mod walk;

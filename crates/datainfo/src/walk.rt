@@ -5,10 +5,13 @@ ghost use Prim.Native.Nat.{_≤_};
 ghost use lib.ListN.{length, drop};
 ghost use Rattle.ascii.specs.Reader.{Ends};
 ghost use Rattle.json.specs.Json.{key};
-ghost use Rattle.datainfo.specs.Walk.{first, afterItem, afterMember, Quoted, Reads};
+ghost use Rattle.datainfo.specs.Walk.{first, afterItem, afterMember, memberValue, Quoted, Reads};
 use ascii::Next;
 use ascii::byte;
-use json::read::{key_end, spaces_end, string_end, value_end};
+use json::read::key_end;
+use json::read::spaces_end;
+use json::read::string_end;
+use json::read::value_end;
 
 // The first item or member, past the opening bracket, or that there is none.
 pub fn first(v: &[u8], p: usize, close: u8) -> Next
@@ -69,4 +72,15 @@ pub fn key_at(v: &[u8], i: usize) -> &[u8]
     ensures { λ r. ⌜ Reads (key (drop i (now (v .entry)))) (now r) ⌝ }
 {
     quoted(v, spaces_end(v, i))
+}
+
+// The value of the member at i.
+pub fn member_value(v: &[u8], i: usize) -> Next
+    requires { ⌜ i ≤ length (now v) ⌝ }
+    ensures { λ r. ⌜ Ends (now (v .entry)) r (memberValue (drop i (now (v .entry)))) ⌝ }
+{
+    let Next::At(c) = key_end(v, i) else {
+        return Next::Bad;
+    };
+    Next::At(spaces_end(v, c))
 }
