@@ -36,8 +36,8 @@ use Rattle.datainfo.specs.Datainfo.{Datainfo, Variant, double, int, enum
 use Rattle.datainfo.specs.Layout.{limit, doubleAt, intAt, counted, variants, enumAt, stringAt}
 use Rattle.datainfo.specs.Fit.{fits, rangeError, wrongType, inRange, expect, asNumber, doubleFit, wholeFit, betweenIntegers, isVariant, fit}
 use Rattle.datainfo.specs.Verdict.{meaning, Judges, numeric, plain}
-use Rattle.datainfo.specs.declared.fit.Verdict.{Verdict}
-use Rattle.datainfo.specs.declared.fit.Verdict.the-variants.{Fits, RangeError, WrongType}
+use Rattle.datainfo.specs.declared.Verdict.{Verdict}
+use Rattle.datainfo.specs.declared.Verdict.the-variants.{Fits, RangeError, WrongType}
 use Rattle.datainfo.proofs.Judged.{judges-none, judges-is, judges-of, same-read, same-left}
 use Rattle.datainfo.proofs.Shapes.{just, nothing, steps, either, shape, tells-yes, tells-no, as-number}
 

@@ -13,8 +13,8 @@ use Rattle.datainfo.specs.Rules.{isBetween}
 use Rattle.datainfo.specs.Fit.{fits, rangeError, wrongType, badJSON, severity, inRange, fit}
 use Rattle.datainfo.specs.Fit as Fit
 use Rattle.datainfo.specs.Verdict.{meaning, Judges}
-use Rattle.datainfo.specs.declared.fit.Verdict.{Verdict}
-use Rattle.datainfo.specs.declared.fit.Verdict.the-variants.{Fits, RangeError, WrongType, BadJson}
+use Rattle.datainfo.specs.declared.Verdict.{Verdict}
+use Rattle.datainfo.specs.declared.Verdict.the-variants.{Fits, RangeError, WrongType, BadJson}
 
 -- ## Verdicts
 

@@ -28,8 +28,8 @@ use Rattle.datainfo.specs.Fit.{fits, wrongType, inRange, expect, asArray
 use Rattle.datainfo.specs.Fit as Fit
 use Rattle.datainfo.specs.Verdict.{meaning, Judges, Limits}
 use Rattle.datainfo.specs.Walk.{first, afterItem}
-use Rattle.datainfo.specs.declared.fit.Verdict.{Verdict}
-use Rattle.datainfo.specs.declared.fit.Verdict.the-variants.{Fits, WrongType}
+use Rattle.datainfo.specs.declared.Verdict.{Verdict}
+use Rattle.datainfo.specs.declared.Verdict.the-variants.{Fits, WrongType}
 use Rattle.datainfo.proofs.Judged.{worse-fits, fits-worse, worse-worse, same-read, same-left}
 use Rattle.datainfo.proofs.Shapes.{nothing, just, either, steps, shape, tells-yes, tells-no, as-array}
 use Rattle.datainfo.proofs.Items.{ItemsAt, no-more, more, ItemStep, items-first, items-next, items-none, items-some, items-turns, unspaced}

@@ -23,8 +23,8 @@ use Rattle.datainfo.specs.Rules.{isBetween}
 use Rattle.datainfo.specs.Fit.{rangeError, inRange, expect, asNumber, asBoolean, asString, asArray, asObject, stringFit, fit}
 use Rattle.datainfo.specs.Verdict.{meaning, Judges, Limits}
 use Rattle.datainfo.specs.Walk.{Quoted}
-use Rattle.datainfo.specs.declared.fit.Verdict.{Verdict}
-use Rattle.datainfo.specs.declared.fit.Verdict.the-variants.{Fits, RangeError, WrongType}
+use Rattle.datainfo.specs.declared.Verdict.{Verdict}
+use Rattle.datainfo.specs.declared.Verdict.the-variants.{Fits, RangeError, WrongType}
 use Rattle.datainfo.proofs.Judged.{judges-of, same-read, same-left}
 use Rattle.datainfo.proofs.Shapes.{just, nothing, steps, shape, tells-yes, tells-no, as-boolean, as-string, as-number}
 

@@ -24,8 +24,8 @@ use Rattle.datainfo.specs.Fit.{fits, wrongType, expect, asObject, worse,
 use Rattle.datainfo.specs.Fit as Fit
 use Rattle.datainfo.specs.Verdict.{meaning, Judges, JudgesFields}
 use Rattle.datainfo.specs.Walk.{Reads, OfBoth, valueOf, Found, Finds}
-use Rattle.datainfo.specs.declared.fit.Verdict.{Verdict}
-use Rattle.datainfo.specs.declared.fit.Verdict.the-variants.{Fits, WrongType}
+use Rattle.datainfo.specs.declared.Verdict.{Verdict}
+use Rattle.datainfo.specs.declared.Verdict.the-variants.{Fits, WrongType}
 use Rattle.datainfo.proofs.Judged.{worse-fits, fits-worse, worse-worse}
 use Rattle.datainfo.proofs.Shapes.{nothing, just, steps, both, shape, tells-yes, tells-no, as-object, group-object}
 use Rattle.datainfo.proofs.Objects.{OnceIn, fields-some, fields-none, struct-some, struct-short, struct-first, same-fields}

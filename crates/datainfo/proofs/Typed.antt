@@ -16,7 +16,7 @@ use Rattle.json.specs.Json.{Json, bare}
 use Rattle.datainfo.specs.Datainfo.{Datainfo, bool}
 use Rattle.datainfo.specs.Layout.{doubleAt, intAt, enumAt, stringAt, arrayAt, tupleAt, structAt, typed, datainfoIn}
 use Rattle.datainfo.specs.Verdict.{Judges, numeric, plain}
-use Rattle.datainfo.specs.declared.fit.Verdict.{Verdict}
+use Rattle.datainfo.specs.declared.Verdict.{Verdict}
 use Rattle.datainfo.proofs.Judged.{judges-none, judges-like}
 
 -- a type that holds no datainfos

@@ -1,7 +1,7 @@
 -- What the code that judges a value answers. Assumes nothing.
 use Prim.Native.Nat.{ℕ}
 use mathlib.Core.Path.{_≡_}
-use mathlib.Core.Bool.{true, cond}
+use mathlib.Core.Bool.{Bool, true, cond}
 use mathlib.Core.List.{List}
 use mathlib.Core.Option.{Option, none, some}
 use lib.Dec.{eqb}
@@ -12,9 +12,9 @@ use Rattle.datainfo.specs.Datainfo.{Datainfo, bool, struct, Fields, fiel
 use Rattle.datainfo.specs.Layout.{doubleAt, intAt, enumAt, stringAt}
 use Rattle.datainfo.specs.Rules.{isBetween}
 use Rattle.datainfo.specs.Fit as Fit
-use Rattle.datainfo.specs.Fit.{fits, rangeError, wrongType, badJSON, inRange, keys, fit, fieldsFit}
-use Rattle.datainfo.specs.declared.fit.Verdict.{Verdict}
-use Rattle.datainfo.specs.declared.fit.Verdict.the-variants.{Fits, RangeError, WrongType, BadJson}
+use Rattle.datainfo.specs.Fit.{fits, rangeError, wrongType, badJSON, inRange, keys, fit, fieldsFit, isStored}
+use Rattle.datainfo.specs.declared.Verdict.{Verdict}
+use Rattle.datainfo.specs.declared.Verdict.the-variants.{Fits, RangeError, WrongType, BadJson}
 
 -- the verdict that the code's answer stands for
 abbrev pub meaning : Verdict → Fit.Verdict
@@ -26,6 +26,13 @@ meaning BadJson = badJSON
 -- r is how the value that q reads fits the datainfo that o reads; where either can't be read, r is any
 pub record Judges (o : Option (Datainfo × List ℕ)) (q : Option (Json × List ℕ)) (r : Verdict) : Type 0 where
   pub is : {d : Datainfo} {x : List ℕ} {j : Json} {y : List ℕ} → o ≡ some (d, x) → q ≡ some (j, y) → meaning r ≡ fit d j
+
+-- r is the verdict on a text by the datainfo that o reads, and whether the text is stored as it is; where o can't be read, r is any
+pub record JudgesText (o : Option (Datainfo × List ℕ)) (xs : List ℕ) (r : Verdict) : Type 0 where
+  pub is : {d : Datainfo} {x : List ℕ} → o ≡ some (d, x) → meaning r ≡ Fit.verdict d xs
+
+pub record TellsStored (o : Option (Datainfo × List ℕ)) (xs : List ℕ) (r : Bool) : Type 0 where
+  pub is : {d : Datainfo} {x : List ℕ} → o ≡ some (d, x) → r ≡ isStored d xs
 
 -- r is the worst verdict on the values of a struct's members, each of which is exactly once among the keys; where the struct that o reads
 -- or the object that q reads can't be read, or a member is missing or repeated, r is any

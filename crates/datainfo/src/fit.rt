@@ -14,8 +14,9 @@ ghost use Rattle.datainfo.specs.Datainfo as Datainfo;
 ghost use Rattle.datainfo.specs.Layout.{limit, doubleAt, intAt, enumAt, stringAt, arrayAt, tupleAt, structAt, datainfoIn};
 ghost use Rattle.datainfo.specs.Rules.{isBetween};
 ghost use Rattle.datainfo.specs.Fit as Fit;
-ghost use Rattle.datainfo.specs.Fit.{inRange, doubleFit, wholeFit, betweenIntegers};
-ghost use Rattle.datainfo.specs.Verdict.{meaning, Judges, JudgesFields, Limits, numeric, plain};
+ghost use Rattle.datainfo.specs.Fit.{isFit, inRange, doubleFit, wholeFit, betweenIntegers};
+ghost use Rattle.datainfo.specs.Verdict.{meaning, Judges, JudgesFields, JudgesText, TellsStored, Limits, numeric, plain};
+use super::Verdict;
 use super::layout::counted_end;
 use super::layout::datainfo_end;
 use super::layout::part_end;
@@ -38,15 +39,9 @@ use decimal::compare::is_whole;
 use decimal::token::number_end;
 use json::characters::all_low;
 use json::characters::count;
+use json::compact::compact_length;
+use json::read::is_text;
 use json::read::spaces_end;
-
-// What a value comes to, each worse than the one before.
-pub enum Verdict {
-    Fits,
-    RangeError,
-    WrongType,
-    BadJson,
-}
 
 fn severity(a: Verdict) -> u8
     ensures { λ r. ⌜ r ≡ Fit.severity (meaning a) ⌝ }
@@ -401,4 +396,33 @@ pub fn fit(s: &[u8], at: usize, levels: usize, v: &[u8], p: usize, depth: usize)
         return struct_fit(s, inner, levels - 1, v, p, depth);
     }
     plain_fit(s, inner, k, v, p)
+}
+
+// What a text comes to: no JSON is BadJSON, more than 256 bytes in stored form a range fault.
+pub fn verdict(s: &[u8], at: usize, v: &[u8]) -> Verdict
+    requires { ⌜ at ≤ length (now s) ⌝ }
+    ensures { λ r. ⌜ JudgesText (datainfoIn 4 (drop at (now (s .entry)))) (now (v .entry)) r ⌝ }
+{
+    if is_text(v) {
+        let size = range_fit(compact_length(v) <= 256);
+        return worse(fit(s, at, 4, v, spaces_end(v, 0), 8), size);
+    }
+    Verdict::BadJson
+}
+
+fn is_fit(a: Verdict) -> bool
+    ensures { λ r. ⌜ r ≡ isFit (meaning a) ⌝ }
+{
+    severity(a) == 0
+}
+
+// Whether a text fits and is in stored form: the form is the text without some of its spaces, so it is the text where it is as long.
+pub fn is_stored(s: &[u8], at: usize, v: &[u8]) -> bool
+    requires { ⌜ at ≤ length (now s) ⌝ }
+    ensures { λ r. ⌜ TellsStored (datainfoIn 4 (drop at (now (s .entry)))) (now (v .entry)) r ⌝ }
+{
+    if compact_length(v) == v.len() {
+        return is_fit(verdict(s, at, v));
+    }
+    false
 }

@@ -3,3 +3,11 @@ pub mod fit;
 pub mod layout;
 pub mod object;
 pub mod walk;
+
+// What a value comes to, each worse than the one before.
+pub enum Verdict {
+    Fits,
+    RangeError,
+    WrongType,
+    BadJson,
+}
