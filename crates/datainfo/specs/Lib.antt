@@ -4,3 +4,5 @@ pub mod Members
 pub mod Rules
 pub mod Kept
 pub mod Fit
+pub mod Verdict
+pub mod Walk
