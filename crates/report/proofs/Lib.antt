@@ -1,3 +1,6 @@
 pub mod Lists
 pub mod Numbers
 pub mod Read
+pub mod Trees
+pub mod Plain
+pub mod Told

@@ -12,7 +12,7 @@ use Rattle.ascii.specs.Bytes.{all, isIn, isDigit, head, tail}
 use Rattle.ascii.specs.Numbers.{digit, digitsIn, decimal, integer}
 use Rattle.decimal.specs.Decimal.{Decimal}
 use Rattle.report.specs.Report.{decimalText}
-use Rattle.report.proofs.Lists.{all-cons, all-one, all-append, all-weaker, isOther, Lacks, lacks, head-differs}
+use Rattle.report.proofs.Lists.{all-cons, all-parts, all-one, all-append, all-weaker, isOther, Lacks, lacks, head-differs}
 use Rattle.report.proofs.Lists.{before, beyond, before-all, beyond-all, before-at, beyond-at}
 
 -- ## Digits
@@ -132,8 +132,35 @@ unfolding isNumeric isIn
 power-numeric m p =
     all-append isNumeric (integer m) (101 ∷ integer p) (integer-numeric m) (all-cons isNumeric 101 (integer p) refl (integer-numeric p))
 
-pub decimal-text-numeric : (m p : ℤ) → all isNumeric (decimalText m p) ≡ true
+-- ## One byte at least
+
+-- a number's bytes, and not none
+abbrev pub Numeric : List ℕ → Type 0
+Numeric t = (all isNumeric t ≡ true) × (isNumeric (head t) ≡ true)
+
+begun : (a : List ℕ) (x : ℕ) (b : List ℕ) → all isNumeric (a ++ x ∷ b) ≡ true → Numeric (a ++ x ∷ b)
+unfolding head
+begun [] x b h = (h, all-parts isNumeric x b h .0)
+begun (y ∷ a) x b h = (h, all-parts isNumeric y (a ++ x ∷ b) h .0)
+
+pub natural-number : (n : ℕ) → Numeric (decimal n)
+unfolding decimal digitsIn
+natural-number n = go (ltb n 10) refl (decimal-numeric n)
+  where
+    go : (t : Bool) → ltb n 10 ≡ t → all isNumeric (digitsIn (suc n) n) ≡ true → Numeric (digitsIn (suc n) n)
+    go true e h = let k = rw (e, digitsIn) at h in rw (e, digitsIn) (begun [] (digit n) [] k)
+    go false e h = let k = rw (e, digitsIn) at h in rw (e, digitsIn) (begun (digitsIn n (n / 10)) (digit (n % 10)) [] k)
+
+pub integer-number : (z : ℤ) → Numeric (integer z)
+unfolding integer bytes head isNumeric isIn
+integer-number (pos n) = natural-number n
+integer-number (negsuc n) = (integer-numeric (negsuc n), refl)
+
+power-number : (m p : ℤ) → Numeric (integer m ++ 101 ∷ integer p)
+power-number m p = begun (integer m) 101 (integer p) (power-numeric m p)
+
+pub decimal-number : (m p : ℤ) → Numeric (decimalText m p)
 unfolding decimalText bytes integer
-decimal-text-numeric m (pos zero) = integer-numeric m
-decimal-text-numeric m (pos (suc n)) = rw (ne-eqb (suc n) 0 (λ e. omega arith), append-assoc) (power-numeric m (pos (suc n)))
-decimal-text-numeric m (negsuc n) = rw append-assoc (power-numeric m (negsuc n))
+decimal-number m (pos zero) = integer-number m
+decimal-number m (pos (suc n)) = rw (ne-eqb (suc n) 0 (λ e. omega arith), append-assoc) (power-number m (pos (suc n)))
+decimal-number m (negsuc n) = rw append-assoc (power-number m (negsuc n))

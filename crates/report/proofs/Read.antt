@@ -11,7 +11,7 @@ use Rattle.ascii.specs.Bytes.{all, takeWhile, dropWhile, head, tail, isIn}
 use Rattle.json.specs.Json.{Json, null, boolean, number, string, array, object, Items, no-items, item, Members, no-members, member}
 use Rattle.json.specs.Json.{quoted, compact, compactItems, moreItems, compactMembers, moreMembers}
 use Rattle.report.proofs.Lists.{all-parts, taken, dropped, taken-at, dropped-at, differs, Lacks, before, beyond, before-at, beyond-at}
-use Rattle.report.proofs.Numbers.{isNumeric}
+use Rattle.report.proofs.Numbers.{isNumeric, Numeric}
 
 -- ## The reader: n bounds how many parts are read
 
@@ -73,10 +73,6 @@ unfoldable mutual
   readMember (suc n) xs = withMember (keyOf xs) (readValue n (pastKey xs) .0) (readRest n (readValue n (pastKey xs) .1))
 
 -- ## What is read back
-
--- a number's bytes: one at least
-abbrev pub Numeric : List ℕ → Type 0
-Numeric t = (all isNumeric t ≡ true) × (isNumeric (head t) ≡ true)
 
 -- strings and keys without a quote, numbers of a number's bytes, and no null
 abbrev mutual
