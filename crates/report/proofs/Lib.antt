@@ -4,3 +4,4 @@ pub mod Read
 pub mod Trees
 pub mod Plain
 pub mod Told
+pub mod Alike
