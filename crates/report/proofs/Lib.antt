@@ -1,0 +1,7 @@
+pub mod Lists
+pub mod Numbers
+pub mod Read
+pub mod Trees
+pub mod Plain
+pub mod Told
+pub mod Alike

@@ -1,0 +1,155 @@
+-- The report of an accepted table is a plain value: its names and texts have no quote. Assumes nothing.
+use Prim.Native.Nat.{ℕ, zero, suc}
+use native.Mathlib.Omega.{arith}
+use mathlib.Core.Bool.{Bool, true, false, not, _&&_, _||_}
+use mathlib.Core.List.{List, [], _∷_, map}
+use mathlib.Core.Option.{Option, none, some}
+use mathlib.Core.Path.{_≡_, refl}
+use lib.Dec.{eqb, leb}
+use lib.ListN.{length}
+use borrow.Author.Tests.{not-false}
+use Rattle.ascii.specs.Text.{bytes}
+use Rattle.ascii.specs.Bytes.{all, head, isIn, isDigit, isLetter, isPrintable}
+use Rattle.ascii.specs.Names.{isNameByte, isName, isTextByte, isText, unique}
+use Rattle.json.specs.Json.{Json, Members}
+use Rattle.datainfo.specs.Datainfo.{Variant, Datainfo, double, int, bool, enum, string, array, tuple, struct, Elements, no-elements, element, Fields, no-fields, field, fieldNames}
+use Rattle.datainfo.specs.Rules as Datainfo
+use Rattle.datainfo.specs.Rules.{goodNames, elementsNamesGood, fieldsNamesGood}
+use Rattle.table.specs.Table.{Accessible, parameter, command, Module, Table}
+use Rattle.table.specs.Rules.{accessibleName, ifAny, noteGood, accessibleNamesGood, moduleNamesGood, namesGood, countsGood}
+use Rattle.report.specs.Report.{keyed, variantValues, datainfoValue, elementValues, fieldValues, argumentMember, accessibleMember, accessibleMembers}
+use Rattle.report.specs.Report.{noteMember, moduleMembers, reportValue}
+use Rattle.report.specs.Judge.{fault, lowest, treeNumber}
+use Rattle.report.proofs.Lists.{both, all-parts, Lacks, lacks}
+use Rattle.report.proofs.Numbers.{natural-number, integer-number, decimal-number}
+use Rattle.report.proofs.Read.{Plain, PlainItems, PlainMembers}
+
+-- ## Names and texts
+
+text-lacks : (xs : List ℕ) → isText xs ≡ true → Lacks 34 xs
+unfolding isText isTextByte isIn
+text-lacks xs h = lacks isTextByte 34 refl xs h
+
+name-lacks : (xs : List ℕ) → isName xs ≡ true → Lacks 34 xs
+unfolding isName isNameByte isLetter isIn
+name-lacks xs h = lacks isNameByte 34 refl xs (both (leb 1 (length xs) && leb (length xs) 63 && not (isDigit (head xs))) (all isNameByte xs) h .1)
+
+names-all : (ks : List (List ℕ)) → goodNames ks ≡ true → all isName ks ≡ true
+unfolding goodNames
+names-all ks h = both (all isName ks) (unique ks) h .0
+
+-- ## Datainfo
+
+variants-plain : (vs : List Variant) → all isName (map (λ (v : Variant). v .name) vs) ≡ true → PlainMembers (variantValues vs)
+unfolding variantValues
+variants-plain [] h = tt
+variants-plain (v ∷ vs) h =
+    let p = all-parts isName (v .name) (map (λ (v : Variant). v .name) vs) h in
+    (name-lacks (v .name) (p .0), integer-number (v .number), variants-plain vs (p .1))
+
+mutual
+  unfolding datainfoValue Datainfo.namesGood fieldNames all bytes
+  datainfo-plain : (d : Datainfo) → Datainfo.namesGood d ≡ true → Plain (datainfoValue d)
+  datainfo-plain (double lo hi) h = (refl, refl, (refl, decimal-number (lo .whole) (lo .power), (refl, decimal-number (hi .whole) (hi .power), tt)))
+  datainfo-plain (int lo hi) h = (refl, refl, (refl, integer-number lo, (refl, integer-number hi, tt)))
+  datainfo-plain bool h = (refl, refl, tt)
+  datainfo-plain (enum vs) h = (refl, refl, (refl, variants-plain vs (names-all (map (λ (v : Variant). v .name) vs) h), tt))
+  datainfo-plain (string lo hi) h = (refl, refl, (refl, natural-number lo, (refl, natural-number hi, tt)))
+  datainfo-plain (array lo hi d) h = (refl, refl, (refl, natural-number lo, (refl, natural-number hi, (refl, datainfo-plain d h, tt))))
+  datainfo-plain (tuple ds) h = (refl, refl, (refl, elements-plain ds h, tt))
+  datainfo-plain (struct fs) h =
+      let p = both (goodNames (fieldNames fs)) (fieldsNamesGood fs) h in
+      (refl, refl, (refl, fields-plain fs (names-all (fieldNames fs) (p .0)) (p .1), tt))
+
+  elements-plain : (ds : Elements) → elementsNamesGood ds ≡ true → PlainItems (elementValues ds)
+  elements-plain no-elements h = tt
+  elements-plain (element d ds) h =
+      let p = both (Datainfo.namesGood d) (elementsNamesGood ds) h in
+      (datainfo-plain d (p .0), elements-plain ds (p .1))
+
+  fields-plain : (fs : Fields) → all isName (fieldNames fs) ≡ true → fieldsNamesGood fs ≡ true → PlainMembers (fieldValues fs)
+  fields-plain no-fields g h = tt
+  fields-plain (field k d fs) g h =
+      let q = both (isName k) (all isName (fieldNames fs)) g in
+      let p = both (Datainfo.namesGood d) (fieldsNamesGood fs) h in
+      (name-lacks k (q .0), datainfo-plain d (p .0), fields-plain fs (q .1) (p .1))
+
+-- ## Accessibles, modules, the table
+
+argument-plain : (o : Option Datainfo) → ifAny Datainfo.namesGood o ≡ true → PlainMembers (argumentMember o)
+unfolding argumentMember ifAny all bytes
+argument-plain none h = tt
+argument-plain (some d) h = (refl, datainfo-plain d h, tt)
+
+accessible-plain : (a : Accessible) → isName (accessibleName a) ≡ true → accessibleNamesGood a ≡ true → (rest : Members) → PlainMembers rest
+    → PlainMembers (accessibleMember a rest)
+unfolding accessibleMember accessibleName accessibleNamesGood all bytes
+accessible-plain (parameter p) g h rest r =
+    let q = both (isText (p .description)) (Datainfo.namesGood (p .datainfo)) h in
+    (name-lacks (p .name) g, (refl, text-lacks (p .description) (q .0), (refl, tt, (refl, datainfo-plain (p .datainfo) (q .1), tt))), r)
+accessible-plain (command c) g h rest r =
+    let q = both (isText (c .description)) (ifAny Datainfo.namesGood (c .argument)) h in
+    (name-lacks (c .name) g, (refl, text-lacks (c .description) (q .0), (refl, (refl, refl, argument-plain (c .argument) (q .1)), tt)), r)
+
+accessibles-plain : (l : List Accessible) → all isName (map accessibleName l) ≡ true → all accessibleNamesGood l ≡ true
+    → PlainMembers (accessibleMembers l)
+unfolding accessibleMembers
+accessibles-plain [] g h = tt
+accessibles-plain (a ∷ l) g h =
+    let q = all-parts isName (accessibleName a) (map accessibleName l) g in
+    let p = all-parts accessibleNamesGood a l h in
+    accessible-plain a (q .0) (p .0) (accessibleMembers l) (accessibles-plain l (q .1) (p .1))
+
+note-plain : (o : Option (List ℕ)) → noteGood o ≡ true → (rest : Members) → PlainMembers rest → PlainMembers (noteMember o rest)
+unfolding noteMember noteGood all bytes
+note-plain none h rest r = r
+note-plain (some x) h rest r = (refl, text-lacks x h, r)
+
+modules-plain : (ms : List Module) → all isName (map (λ (m : Module). m .name) ms) ≡ true → all moduleNamesGood ms ≡ true
+    → PlainMembers (moduleMembers ms)
+unfolding moduleMembers moduleNamesGood all bytes
+modules-plain [] g h = tt
+modules-plain (m ∷ ms) g h =
+    let q = all-parts isName (m .name) (map (λ (m : Module). m .name) ms) g in
+    let p = all-parts moduleNamesGood m ms h in
+    let l = m .accessibles in
+    let a = both (isText (m .description) && noteGood (m .note) && goodNames (map accessibleName l)) (all accessibleNamesGood l) (p .0) in
+    let b = both (isText (m .description) && noteGood (m .note)) (goodNames (map accessibleName l)) (a .0) in
+    let c = both (isText (m .description)) (noteGood (m .note)) (b .0) in
+    let inner = accessibles-plain l (names-all (map accessibleName l) (b .1)) (a .1) in
+    (
+      name-lacks (m .name) (q .0),
+      (refl, tt, (refl, text-lacks (m .description) (c .0), note-plain (m .note) (c .1) _ (refl, inner, tt))),
+      modules-plain ms (q .1) (p .1),
+    )
+
+names-plain : (t : Table) → namesGood t ≡ true → Plain (reportValue t)
+unfolding namesGood reportValue all bytes
+names-plain t h =
+    let names = map (λ (m : Module). m .name) (t .modules) in
+    let a = both (isText (t .equipmentId) && isText (t .description) && goodNames names) (all moduleNamesGood (t .modules)) h in
+    let b = both (isText (t .equipmentId) && isText (t .description)) (goodNames names) (a .0) in
+    let c = both (isText (t .equipmentId)) (isText (t .description)) (b .0) in
+    (
+      refl,
+      modules-plain (t .modules) (names-all names (b .1)) (a .1),
+      (refl, text-lacks (t .equipmentId) (c .0), (refl, text-lacks (t .description) (c .1), tt)),
+    )
+
+-- ## Accepted tables
+
+-- where the lowest of some faults is none, neither the first nor the lowest of the others is there
+later : (k : ℕ) (ks : List ℕ) → lowest (k ∷ ks) ≡ 0 → (k ≡ 0) × (lowest ks ≡ 0)
+unfolding lowest
+later zero ks e = (refl, e)
+later (suc k) ks e = absurd (omega arith)
+
+no-fault : (k : ℕ) (b : Bool) → fault (suc k) b ≡ 0 → b ≡ false
+no-fault k true e = absurd (omega arith)
+no-fault k false e = refl
+
+pub report-plain : (t : Table) → treeNumber t ≡ 0 → Plain (reportValue t)
+unfolding treeNumber
+report-plain t e =
+    let h = later _ _ (later _ _ e .1) .0 in
+    names-plain t (not-false (namesGood t) (no-fault 2 (not (namesGood t)) h))
