@@ -5,7 +5,6 @@ use mathlib.Core.List.{List, [], _∷_, _++_, map, map-map, map-append}
 use mathlib.Core.Option.{Option, none, some}
 use mathlib.Core.Path.{_≡_, refl, sym, _∙_, ap, ap₂}
 use Rattle.ascii.specs.Bytes.{same}
-use Rattle.json.specs.Json.{Json}
 use Rattle.datainfo.specs.Datainfo.{Datainfo}
 use Rattle.datainfo.specs.Fit.{fit, verdict}
 use Rattle.table.specs.Table.{Parameter, Command, Accessible, parameter, command, Module, Table}
@@ -39,7 +38,7 @@ module _ {A : Type 0} (of : List Accessible → List A) (g : A → A) where
   placed-enforced h n (m ∷ ms) =
       let place : A → Placed A = λ a. record { home = n; moduleName = m .name; it = a } in
       let these : map place (of (map enforcedAccessible (m .accessibles))) ≡ map within (map place (of (m .accessibles))) =
-          ap (map place) (h (m .accessibles)) ∙ map-map place g (of (m .accessibles)) ∙ sym (map-map within place (of (m .accessibles))) in
+      ap (map place) (h (m .accessibles)) ∙ map-map place g (of (m .accessibles)) ∙ sym (map-map within place (of (m .accessibles))) in
       ap₂ (λ (x y : List (Placed A)). x ++ y) these (placed-enforced h (suc n) ms)
       ∙ sym (map-append within (map place (of (m .accessibles))) (placedFrom of (suc n) ms))
 
