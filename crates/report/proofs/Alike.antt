@@ -5,7 +5,6 @@ use mathlib.Core.List.{List, [], _∷_, _++_, map, map-map, map-append}
 use mathlib.Core.Option.{Option, none, some}
 use mathlib.Core.Path.{_≡_, refl, sym, _∙_, ap, ap₂}
 use Rattle.ascii.specs.Bytes.{same}
-use Rattle.json.specs.Json.{Json}
 use Rattle.datainfo.specs.Datainfo.{Datainfo}
 use Rattle.datainfo.specs.Fit.{fit, verdict}
 use Rattle.table.specs.Table.{Parameter, Command, Accessible, parameter, command, Module, Table}

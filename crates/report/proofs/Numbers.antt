@@ -2,7 +2,7 @@
 use Prim.Native.Nat.{ℕ, zero, suc, _+_, _*_, _-_, _/_, _%_, _<_}
 use mathlib.Core.Bool.{Bool, true, false, cond, _&&_, _||_}
 use mathlib.Core.List.{List, [], _∷_, _++_, append-assoc, append-nil}
-use mathlib.Core.Path.{_≡_, refl, sym, _∙_, ap, ap₂}
+use mathlib.Core.Path.{_≡_, refl, _∙_, ap, ap₂}
 use lib.Dec.{ltb, eqb}
 use lib.IntN.{ℤ, pos, negsuc}
 use native.Mathlib.Omega.{arith}
@@ -100,7 +100,8 @@ integer-numeric (negsuc n) = all-cons isNumeric 45 (decimal (suc n)) refl (decim
 integer-lacks : (z : ℤ) → Lacks 101 (integer z)
 unfolding integer bytes isIn
 integer-lacks (pos n) = lacks isDigit 101 refl (decimal n) (decimal-digits n)
-integer-lacks (negsuc n) = all-cons (isOther 101) 45 (decimal (suc n)) refl (lacks isDigit 101 refl (decimal (suc n)) (decimal-digits (suc n)))
+integer-lacks (negsuc n) =
+    all-cons (isOther 101) 45 (decimal (suc n)) refl (lacks isDigit 101 refl (decimal (suc n)) (decimal-digits (suc n)))
 
 -- ## Decimals
 
@@ -119,7 +120,8 @@ plain-decimal m = rw (before-all 101 (integer m) (integer-lacks m), beyond-all 1
 power-decimal : (m p : ℤ) → decimalOf (integer m ++ 101 ∷ integer p) ≡ record { whole = m; power = p }
 unfolding decimalOf
 power-decimal m p =
-    rw (before-at 101 (integer m) (integer-lacks m) (integer p), beyond-at 101 (integer m) (integer-lacks m) (integer p), integer-back m, integer-back p)
+    let l = integer-lacks m in
+    rw (before-at 101 (integer m) l (integer p), beyond-at 101 (integer m) l (integer p), integer-back m, integer-back p)
 
 pub decimal-back : (m p : ℤ) → decimalOf (decimalText m p) ≡ record { whole = m; power = p }
 unfolding decimalText bytes integer

@@ -1,23 +1,23 @@
 -- The report of an accepted table is a plain value: its names and texts have no quote. Assumes nothing.
 use Prim.Native.Nat.{ℕ, zero, suc}
 use native.Mathlib.Omega.{arith}
-use mathlib.Core.Bool.{Bool, true, false, not, _&&_, _||_}
+use mathlib.Core.Bool.{Bool, true, false, not, _&&_}
 use mathlib.Core.List.{List, [], _∷_, map}
 use mathlib.Core.Option.{Option, none, some}
 use mathlib.Core.Path.{_≡_, refl}
-use lib.Dec.{eqb, leb}
+use lib.Dec.{leb}
 use lib.ListN.{length}
 use borrow.Author.Tests.{not-false}
 use Rattle.ascii.specs.Text.{bytes}
-use Rattle.ascii.specs.Bytes.{all, head, isIn, isDigit, isLetter, isPrintable}
+use Rattle.ascii.specs.Bytes.{all, head, isIn, isDigit, isLetter}
 use Rattle.ascii.specs.Names.{isNameByte, isName, isTextByte, isText, unique}
-use Rattle.json.specs.Json.{Json, Members}
+use Rattle.json.specs.Json.{Members}
 use Rattle.datainfo.specs.Datainfo.{Variant, Datainfo, double, int, bool, enum, string, array, tuple, struct, Elements, no-elements, element, Fields, no-fields, field, fieldNames}
 use Rattle.datainfo.specs.Rules as Datainfo
 use Rattle.datainfo.specs.Rules.{goodNames, elementsNamesGood, fieldsNamesGood}
 use Rattle.table.specs.Table.{Accessible, parameter, command, Module, Table}
-use Rattle.table.specs.Rules.{accessibleName, ifAny, noteGood, accessibleNamesGood, moduleNamesGood, namesGood, countsGood}
-use Rattle.report.specs.Report.{keyed, variantValues, datainfoValue, elementValues, fieldValues, argumentMember, accessibleMember, accessibleMembers}
+use Rattle.table.specs.Rules.{accessibleName, ifAny, noteGood, accessibleNamesGood, moduleNamesGood, namesGood}
+use Rattle.report.specs.Report.{variantValues, datainfoValue, elementValues, fieldValues, argumentMember, accessibleMember, accessibleMembers}
 use Rattle.report.specs.Report.{noteMember, moduleMembers, reportValue}
 use Rattle.report.specs.Judge.{fault, lowest, treeNumber}
 use Rattle.report.proofs.Lists.{both, all-parts, Lacks, lacks}
@@ -32,7 +32,9 @@ text-lacks xs h = lacks isTextByte 34 refl xs h
 
 name-lacks : (xs : List ℕ) → isName xs ≡ true → Lacks 34 xs
 unfolding isName isNameByte isLetter isIn
-name-lacks xs h = lacks isNameByte 34 refl xs (both (leb 1 (length xs) && leb (length xs) 63 && not (isDigit (head xs))) (all isNameByte xs) h .1)
+name-lacks xs h =
+    lacks isNameByte 34 refl xs
+    (both (leb 1 (length xs) && leb (length xs) 63 && not (isDigit (head xs))) (all isNameByte xs) h .1)
 
 names-all : (ks : List (List ℕ)) → goodNames ks ≡ true → all isName ks ≡ true
 unfolding goodNames
@@ -51,7 +53,8 @@ mutual
   unfolding datainfoValue Datainfo.namesGood fieldNames all bytes
 
   datainfo-plain : (d : Datainfo) → Datainfo.namesGood d ≡ true → Plain (datainfoValue d)
-  datainfo-plain (double lo hi) h = (refl, refl, (refl, decimal-number (lo .whole) (lo .power), (refl, decimal-number (hi .whole) (hi .power), tt)))
+  datainfo-plain (double lo hi) h =
+      (refl, refl, (refl, decimal-number (lo .whole) (lo .power), (refl, decimal-number (hi .whole) (hi .power), tt)))
   datainfo-plain (int lo hi) h = (refl, refl, (refl, integer-number lo, (refl, integer-number hi, tt)))
   datainfo-plain bool h = (refl, refl, tt)
   datainfo-plain (enum vs) h = (refl, refl, (refl, variants-plain vs (names-all (map (λ (v : Variant). v .name) vs) h), tt))

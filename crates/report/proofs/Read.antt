@@ -10,7 +10,7 @@ use Rattle.ascii.specs.Text.{bytes}
 use Rattle.ascii.specs.Bytes.{all, takeWhile, dropWhile, head, tail, isIn}
 use Rattle.json.specs.Json.{Json, null, boolean, number, string, array, object, Items, no-items, item, Members, no-members, member}
 use Rattle.json.specs.Json.{quoted, compact, compactItems, moreItems, compactMembers, moreMembers}
-use Rattle.report.proofs.Lists.{all-parts, taken, dropped, taken-at, dropped-at, differs, Lacks, before, beyond, before-at, beyond-at}
+use Rattle.report.proofs.Lists.{taken, dropped, taken-at, dropped-at, differs, Lacks, before, beyond, before-at, beyond-at}
 use Rattle.report.proofs.Numbers.{isNumeric, Numeric}
 
 -- ## The reader: n bounds how many parts are read
@@ -205,7 +205,8 @@ unfolding quoted bytes
 member-text k v ms rest = simp append-assoc
 
 first-item : (n : ℕ) (v : Json) (is js : Items) (rest : List ℕ) → Plain v
-    → readItem n (compact v ++ (moreItems is ++ 93 ∷ rest)) ≡ (js, rest) → readItems (suc n) (compactItems (item v is) ++ 93 ∷ rest) ≡ (js, rest)
+    → readItem n (compact v ++ (moreItems is ++ 93 ∷ rest)) ≡ (js, rest)
+    → readItems (suc n) (compactItems (item v is) ++ 93 ∷ rest) ≡ (js, rest)
 unfolding readItems compactItems isNumeric isIn
 first-item n v is js rest p e =
     let ys = moreItems is ++ 93 ∷ rest in
@@ -253,11 +254,16 @@ mutual
   value-back (string t) p zero h rest s = absurd (omega arith)
   value-back (string t) p (suc n) h rest s = ap (readValue (suc n)) (quoted-is t rest) ∙ string-back t p n rest
   value-back (array is) p zero h rest s = absurd (omega arith)
-  value-back (array is) p (suc n) h rest s = ap (readValue (suc n)) (array-text is rest) ∙ array-back n is (compactItems is ++ 93 ∷ rest) rest (items-back is p n (omega arith) rest)
+  value-back (array is) p (suc n) h rest s =
+      ap (readValue (suc n)) (array-text is rest)
+      ∙ array-back n is (compactItems is ++ 93 ∷ rest) rest (items-back is p n (omega arith) rest)
   value-back (object ms) p zero h rest s = absurd (omega arith)
-  value-back (object ms) p (suc n) h rest s = ap (readValue (suc n)) (object-text ms rest) ∙ object-back n ms (compactMembers ms ++ 125 ∷ rest) rest (members-back ms p n (omega arith) rest)
+  value-back (object ms) p (suc n) h rest s =
+      ap (readValue (suc n)) (object-text ms rest)
+      ∙ object-back n ms (compactMembers ms ++ 125 ∷ rest) rest (members-back ms p n (omega arith) rest)
 
-  items-back : (is : Items) → PlainItems is → (n : ℕ) → itemsSize is ≤ n → (rest : List ℕ) → readItems n (compactItems is ++ 93 ∷ rest) ≡ (is, rest)
+  items-back : (is : Items) → PlainItems is → (n : ℕ) → itemsSize is ≤ n → (rest : List ℕ)
+      → readItems n (compactItems is ++ 93 ∷ rest) ≡ (is, rest)
   items-back no-items p zero h rest = absurd (omega arith)
   items-back no-items p (suc n) h rest = refl
   items-back (item v is) p zero h rest = absurd (omega arith)
@@ -267,7 +273,8 @@ mutual
       first-item (suc n) v is (item v is) rest (p .0) (item-back n v is (compact v ++ ys) ys rest
       (value-back v (p .0) n (omega arith) ys (items-stop is rest)) (more-back is (p .1) n (omega arith) rest))
 
-  more-back : (is : Items) → PlainItems is → (n : ℕ) → itemsSize is ≤ n → (rest : List ℕ) → readMore n (moreItems is ++ 93 ∷ rest) ≡ (is, rest)
+  more-back : (is : Items) → PlainItems is → (n : ℕ) → itemsSize is ≤ n → (rest : List ℕ)
+      → readMore n (moreItems is ++ 93 ∷ rest) ≡ (is, rest)
   more-back no-items p zero h rest = absurd (omega arith)
   more-back no-items p (suc n) h rest = refl
   more-back (item v is) p zero h rest = absurd (omega arith)

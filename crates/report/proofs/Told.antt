@@ -1,8 +1,8 @@
 -- The structure report tells the table that is enforced. Assumes nothing.
 use Prim.Native.Nat.{ℕ, _+_, _≤_}
 use native.Mathlib.Omega.{arith}
-use mathlib.Core.List.{List, [], append-nil}
-use mathlib.Core.Path.{_≡_, refl, sym, _∙_, ap}
+use mathlib.Core.List.{[], append-nil}
+use mathlib.Core.Path.{_≡_, sym, _∙_, ap}
 use Rattle.json.specs.Json.{Json, compact}
 use Rattle.table.specs.Table.{Table}
 use Rattle.report.specs.Report.{reportValue, report}
@@ -24,4 +24,5 @@ report-back t e n h k = ap (told n) (compact-back (reportValue t) (report-plain 
 pub reports-tell : ReportsTell
 reports-tell t u e f same =
     let n = size (reportValue t) + size (reportValue u) + tableLevels t + tableLevels u in
-    sym (report-back t e n (omega arith) (omega arith)) ∙ ap (λ xs. told n (readValue n xs .0)) same ∙ report-back u f n (omega arith) (omega arith)
+    sym (report-back t e n (omega arith) (omega arith)) ∙ ap (λ xs. told n (readValue n xs .0)) same
+    ∙ report-back u f n (omega arith) (omega arith)

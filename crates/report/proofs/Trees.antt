@@ -1,19 +1,18 @@
 -- The table that a report's value tells, and that this is the table that is enforced. Assumes nothing.
 use Prim.Native.Nat.{ℕ, zero, suc, _+_, _≤_}
 use native.Mathlib.Omega.{arith}
-use mathlib.Core.Bool.{Bool, true, false, cond}
+use mathlib.Core.Bool.{Bool, false, cond}
 use mathlib.Core.List.{List, [], _∷_, map}
 use mathlib.Core.Option.{Option, none, some}
 use mathlib.Core.Path.{_≡_, refl, ap, ap₂}
 use lib.IntN.{ℤ}
 use Rattle.ascii.specs.Text.{bytes}
 use Rattle.ascii.specs.Bytes.{same}
-use Rattle.decimal.specs.Decimal.{Decimal}
 use Rattle.json.specs.Json as Json
 use Rattle.json.specs.Json.{Json, null, Items, no-items, item, Members, no-members, member}
 use Rattle.datainfo.specs.Datainfo.{Variant, Datainfo, double, int, bool, enum, string, array, tuple, struct, Elements, no-elements, element, Fields, no-fields, field}
 use Rattle.datainfo.specs.Fit.{asNumber, asBoolean, asString, asArray, asObject}
-use Rattle.table.specs.Table.{Parameter, Command, Accessible, parameter, command, Module, Table}
+use Rattle.table.specs.Table.{Accessible, parameter, command, Module, Table}
 use Rattle.report.specs.Report.{variantValues, datainfoValue, elementValues, fieldValues, argumentMember, accessibleMember, accessibleMembers}
 use Rattle.report.specs.Report.{keyed, noteMember, moduleMembers, reportValue}
 use Rattle.report.specs.Theorems.{enforcedAccessible, enforcedModule, enforced}
@@ -106,7 +105,8 @@ mutual
 variants-back : (vs : List Variant) → variantsFrom (variantValues vs) ≡ vs
 unfolding variantsFrom variantValues asNumber
 variants-back [] = refl
-variants-back (v ∷ vs) = ap₂ (λ (z : ℤ) (l : List Variant). record { name = v .name; number = z } ∷ l) (integer-back (v .number)) (variants-back vs)
+variants-back (v ∷ vs) =
+    ap₂ (λ (z : ℤ) (l : List Variant). record { name = v .name; number = z } ∷ l) (integer-back (v .number)) (variants-back vs)
 
 mutual
   unfolding datainfoOf typed at elementsFrom fieldsFrom datainfoValue levels same bytes asNumber asString asArray asObject
@@ -123,7 +123,9 @@ mutual
   datainfo-back (string lo hi) zero h = absurd (omega arith)
   datainfo-back (string lo hi) (suc n) h = ap₂ string (natural-back lo) (natural-back hi)
   datainfo-back (array lo hi d) zero h = absurd (omega arith)
-  datainfo-back (array lo hi d) (suc n) h = let e = datainfo-back d n (omega arith) in rw (natural-back lo, natural-back hi) (ap (array lo hi) e)
+  datainfo-back (array lo hi d) (suc n) h =
+      let e = datainfo-back d n (omega arith) in
+      rw (natural-back lo, natural-back hi) (ap (array lo hi) e)
   datainfo-back (tuple ds) zero h = absurd (omega arith)
   datainfo-back (tuple ds) (suc n) h = ap tuple (elements-back ds n (omega arith))
   datainfo-back (struct fs) zero h = absurd (omega arith)
@@ -220,7 +222,8 @@ unfolding accessiblesFrom accessibleMember accessibleOf accessibleLevels enforce
 accessible-back (parameter p) n h ms = rw (datainfo-back (p .datainfo) n h)
 accessible-back (command c) n h ms = rw (argument-back (c .argument) n h)
 
-accessibles-back : (l : List Accessible) (n : ℕ) → accessiblesLevels l ≤ n → accessiblesFrom n (accessibleMembers l) ≡ map enforcedAccessible l
+accessibles-back : (l : List Accessible) (n : ℕ) → accessiblesLevels l ≤ n
+    → accessiblesFrom n (accessibleMembers l) ≡ map enforcedAccessible l
 unfolding accessiblesFrom accessibleMembers accessiblesLevels
 accessibles-back [] n h = refl
 accessibles-back (a ∷ l) n h = rw (accessible-back a n (omega arith) (accessibleMembers l), accessibles-back l n (omega arith))
@@ -238,7 +241,8 @@ modules-back : (l : List Module) (n : ℕ) → modulesLevels l ≤ n → modules
 unfolding modulesFrom moduleMembers modulesLevels enforcedModule asObject
 modules-back [] n h = refl
 modules-back (m ∷ l) n h =
-    ap₂ (λ (x : Module) (xs : List Module). x ∷ xs) (module-back (m .name) (m .description) (m .note) (m .accessibles) n (omega arith)) (modules-back l n (omega arith))
+    ap₂ (λ (x : Module) (xs : List Module). x ∷ xs)
+    (module-back (m .name) (m .description) (m .note) (m .accessibles) n (omega arith)) (modules-back l n (omega arith))
 
 pub told-back : (t : Table) (n : ℕ) → tableLevels t ≤ n → told n (reportValue t) ≡ enforced t
 unfolding told reportValue tableLevels enforced at asObject asString
