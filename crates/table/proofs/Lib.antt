@@ -5,3 +5,4 @@ pub mod Modules
 pub mod Tests
 pub mod Named
 pub mod Heads
+pub mod Whole
