@@ -6,3 +6,4 @@ pub mod Tests
 pub mod Named
 pub mod Heads
 pub mod Whole
+pub mod Searches

@@ -47,12 +47,15 @@ module _ (s : List ℕ) (r : T.Texts) (o : Option ((List ℕ × List ℕ) × Lis
   pub description-text : Inside s q
   description-text = (rw e at h) .description
 
-never : {A : Type 0} {t : A} → none ≡ some t → ⊥
+pub never : {A : Type 0} {t : A} → none ≡ some t → ⊥
 never e = let z : _≡_ {A = ℕ} 0 1 = cc in omega arith
 
 module _ (s : List ℕ) (r : T.Texts) (h : TextsAt s r (textsAt (78 ∷ 68 ∷ []) (drop 0 s))) (t : Table.Table) (w : wholeTable s ≡ some t) where
+  pub unread : r ≡ T.the-variants.Bad → ⊥
+  unread e = never (sym (table-as s ∙ rw (rw e at h)) ∙ w)
+
   pub untold : (b : Bool) → r ≡ T.the-variants.Bad → false ≡ b
-  untold b e = absurd (never (sym (table-as s ∙ rw (rw e at h)) ∙ w))
+  untold b e = absurd (unread e)
 
   module _ (p q : Part) (e : r ≡ T.the-variants.At p q) where
     pub opened : Opened s p q t
