@@ -5,3 +5,5 @@ pub mod Modules
 pub mod Tests
 pub mod Named
 pub mod Heads
+pub mod Whole
+pub mod Searches

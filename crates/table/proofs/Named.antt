@@ -97,19 +97,19 @@ module _ {A : Type 0} (f : A → List ℕ) where
   allNamed q = (map f (q .0), q .1)
 
   -- what a record was whose name was read
-  record Was (o : Option (A × List ℕ)) (x r : List ℕ) : Type 0 where
-    it : A
-    is : o ≡ some (it, r)
-    name : f it ≡ x
+  pub record Was (o : Option (A × List ℕ)) (x r : List ℕ) : Type 0 where
+    pub it : A
+    pub is : o ≡ some (it, r)
+    pub name : f it ≡ x
 
-  was : (o : Option (A × List ℕ)) (x r : List ℕ) → (o >>= λ a. some (named a)) ≡ some (x, r) → Was o x r
+  pub was : (o : Option (A × List ℕ)) (x r : List ℕ) → (o >>= λ a. some (named a)) ≡ some (x, r) → Was o x r
   was none x r e = let z : _≡_ {A = ℕ} 0 1 = cc in absurd (omega arith)
   was (some a) x r e =
       let y : f (a .0) ≡ x = ap (λ (l : List ℕ × List ℕ). l .0) (in-some e) in
       let z : a .1 ≡ r = ap (λ (l : List ℕ × List ℕ). l .1) (in-some e) in
       record { it = a .0; is = ap (λ (l : List ℕ). some (a .0, l)) z; name = y }
 
-  none-was : (o : Option (A × List ℕ)) → (o >>= λ a. some (named a)) ≡ none → o ≡ none
+  pub none-was : (o : Option (A × List ℕ)) → (o >>= λ a. some (named a)) ≡ none → o ≡ none
   none-was none e = refl
   none-was (some a) e = let z : _≡_ {A = ℕ} 0 1 = cc in absurd (omega arith)
 

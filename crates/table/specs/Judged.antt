@@ -4,6 +4,7 @@ use mathlib.Core.Path.{_≡_}
 use mathlib.Core.Bool.{Bool, true, false, cond, not, _&&_}
 use mathlib.Core.List.{List, [], _∷_, map}
 use mathlib.Core.Option.{Option, none, some}
+use lib.Dec.{leb}
 use lib.ListN.{length, drop}
 use Rattle.ascii.specs.Text.{bytes}
 use Rattle.ascii.specs.Bytes.{_>>=_, all, same}
@@ -13,7 +14,7 @@ use Rattle.datainfo.specs.Rules as Datainfo
 use Rattle.datainfo.specs.Rules.{goodNames}
 use Rattle.table.specs.Table.{Accessible, Module}
 use Rattle.table.specs.Layout.{begins, moduleAt}
-use Rattle.table.specs.Rules.{accessibleName, noteGood, accessibleNamesGood, moduleNamesGood, rulesKept}
+use Rattle.table.specs.Rules.{accessibleName, accessibleCount, noteGood, accessibleNamesGood, moduleNamesGood, rulesKept}
 use Rattle.table.specs.At.{bytesOf, Inside, accessibleBegins, accessibleAt, accessiblesFrom, modulesFrom}
 use Rattle.table.specs.declared.layout.Part.{Part}
 use Rattle.table.specs.declared.layout.ModuleAt.{ModuleAt}
@@ -22,6 +23,7 @@ use Rattle.table.specs.declared.judge.Test.the-variants.{Names, Rules}
 use Rattle.table.specs.declared.judge.Kind.{Kind}
 use Rattle.table.specs.declared.judge.Kind.the-variants.{Modules, Accessibles}
 use Rattle.table.specs.declared.judge.Named as N
+use Rattle.table.specs.declared.judge.Members as M
 
 -- a test of what was read; what can't be read does not pass
 abbrev pub passed : {A : Type 0} → (A → Bool) → Option (A × List ℕ) → Bool
@@ -95,3 +97,20 @@ headPasses Names s m =
     isText (bytesOf s (m .description)) && noteGood (cond (m .noted) (some (bytesOf s (m .note))) none)
     && passed goodNames (namesFrom Accessibles s (m .next))
 headPasses Rules s m = true
+
+-- ## Counts
+
+-- o is a module with n accessibles, after which the bytes from j on are left
+pub record ModuleHas (s : List ℕ) (n j : ℕ) (o : Option (Module × List ℕ)) : Type 0 where
+  pub it : Module
+  pub is : o ≡ some (it, drop j s)
+  pub many : n ≡ length (it .accessibles)
+  pub within : j ≤ length s
+
+abbrev pub MembersAre : List ℕ → M.Members → Option (Module × List ℕ) → Type 0
+MembersAre s (M.the-variants.Read n j) o = ModuleHas s n j o
+MembersAre s M.the-variants.Bad o = o ≡ none
+
+-- at most so many accessibles in all
+unfoldable pub few : ℕ → List Module → Bool
+few most ms = leb (accessibleCount ms) most

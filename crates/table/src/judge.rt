@@ -19,8 +19,6 @@ use ascii::Next;
 use ascii::names::is_name;
 use ascii::names::is_text;
 use ascii::names::same_lowercase;
-use datainfo::rules::names_good;
-use datainfo::rules::rules_kept;
 ghost use mathlib.Core.Path.{_≡_};
 ghost use mathlib.Core.Bool.{cond};
 ghost use mathlib.Core.List.{List};
@@ -38,7 +36,7 @@ ghost use Rattle.table.specs.Rules.{noteGood, countsGood, namesGood, dat
 ghost use Rattle.table.specs.At.{bytesOf, Inside, accessibleAt, accessiblesFrom, parameterOf, commandOf, moduleOf, modulesFrom};
 ghost use Rattle.table.specs.declared.judge.Kind.the-variants as Kind;
 ghost use Rattle.table.specs.declared.judge.Test.the-variants as Test;
-ghost use Rattle.table.specs.Judged.{passed, textPasses, infoPasses, passes, modulePasses, headPasses, kindBegins, namedAt, namesFrom, differs, NamedIs, howMany};
+ghost use Rattle.table.specs.Judged.{passed, textPasses, infoPasses, passes, modulePasses, headPasses, kindBegins, namedAt, namesFrom, differs, NamedIs, howMany, MembersAre, few};
 
 // What is asked of each accessible: its texts and the names in its datainfo, or the rules of its datainfo.
 pub enum Test {
@@ -50,6 +48,12 @@ pub enum Test {
 pub enum Kind {
     Modules,
     Accessibles,
+}
+
+// How many accessibles a module has, with the position after the module.
+pub enum Members {
+    Read(usize, usize),
+    Bad,
 }
 
 // A record's name, with the position after the record.
@@ -73,8 +77,8 @@ fn info_passes(s: &[u8], at: usize, test: Test) -> bool
     ensures { λ r. ⌜ ((d : Datainfo) (x : List ℕ) → datainfoIn 4 (drop at (now (s .entry))) ≡ some (d, x) → r ≡ infoPasses test d) ⌝ }
 {
     match test {
-        Test::Names => names_good(s, at, 4),
-        Test::Rules => rules_kept(s, at, 4),
+        Test::Names => datainfo::rules::names_good(s, at, 4),
+        Test::Rules => datainfo::rules::rules_kept(s, at, 4),
     }
 }
 
@@ -343,4 +347,88 @@ fn modules_pass(s: &[u8], at: usize, test: Test) -> bool
         i = e;
     }
     true
+}
+
+fn members_at(s: &[u8], at: usize) -> Members
+    requires { ⌜ at ≤ length (now s) ⌝ }
+    ensures { λ r. ⌜ MembersAre (now (s .entry)) r (moduleAt (length (now (s .entry))) (drop at (now (s .entry)))) ⌝ }
+{
+    let Heading::Read(m) = heading_at(s, at) else {
+        return Members::Bad;
+    };
+    let next = m.next;
+    let Next::At(e) = accessibles_end(s, next) else {
+        return Members::Bad;
+    };
+    let n = count(s, next, Kind::Accessibles);
+    Members::Read(n, e)
+}
+
+// Whether the modules that follow have at most so many accessibles in all.
+fn accessibles_are_few(s: &[u8], at: usize, most: usize) -> bool
+    requires { ⌜ at ≤ length (now s) ⌝ }
+    ensures { λ r. ⌜ r ≡ passed (few most) (modulesFrom (now (s .entry)) at) ⌝ }
+{
+    let mut i = at;
+    let mut left = most;
+    while is_module(s, i) {
+        let Members::Read(n, e) = members_at(s, i) else {
+            return false;
+        };
+        if left < n {
+            return false;
+        }
+        left -= n;
+        i = e;
+    }
+    true
+}
+
+// Number 2: whether there are 1 to 16 modules and at most 64 accessibles in all.
+pub fn counts_good(s: &[u8]) -> bool
+    ensures { λ r. ⌜ ((t : Table) → wholeTable (now (s .entry)) ≡ some t → r ≡ countsGood t) ⌝ }
+{
+    let Texts::At(_, description) = texts_at(s, 0, b'N', b'D') else {
+        return false;
+    };
+    let first = description.to;
+    let n = count(s, first, Kind::Modules);
+    if n < 1 {
+        return false;
+    }
+    if 16 < n {
+        return false;
+    }
+    accessibles_are_few(s, first, 64)
+}
+
+// Number 3: whether names and texts are good, and names unique where they have to be.
+pub fn names_good(s: &[u8]) -> bool
+    ensures { λ r. ⌜ ((t : Table) → wholeTable (now (s .entry)) ≡ some t → r ≡ namesGood t) ⌝ }
+{
+    let Texts::At(id, description) = texts_at(s, 0, b'N', b'D') else {
+        return false;
+    };
+    let first = description.to;
+    if !part_is_text(s, id) {
+        return false;
+    }
+    if !part_is_text(s, description) {
+        return false;
+    }
+    if !all_named_well(s, first, Kind::Modules) {
+        return false;
+    }
+    modules_pass(s, first, Test::Names)
+}
+
+// Number 4: whether all datainfos keep their own rules.
+pub fn datainfos_good(s: &[u8]) -> bool
+    ensures { λ r. ⌜ ((t : Table) → wholeTable (now (s .entry)) ≡ some t → r ≡ datainfosGood t) ⌝ }
+{
+    let Texts::At(_, description) = texts_at(s, 0, b'N', b'D') else {
+        return false;
+    };
+    let first = description.to;
+    modules_pass(s, first, Test::Rules)
 }

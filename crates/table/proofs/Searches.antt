@@ -1,0 +1,113 @@
+-- Laws of searches, one for each way through a function that searches. Assumes nothing.
+use Prim.Native.Nat.{ℕ, zero, suc, _+_, _-_, _≤_, _<_}
+use native.Mathlib.Numerals.{add-one}
+use native.Mathlib.Omega.{arith}
+use mathlib.Core.Path.{_≡_, refl, sym, ap, _∙_}
+use mathlib.Core.Bool.{Bool, true, false, cond}
+use mathlib.Core.List.{List, [], _∷_}
+use mathlib.Core.Option.{Option, none, some}
+use lib.ListN.{length, drop}
+use Rattle.ascii.specs.Text.{bytes}
+use Rattle.ascii.specs.Bytes.{_>>=_, same}
+use Rattle.table.specs.Table as Table
+use Rattle.table.specs.Layout.{begins, moduleAt, modulesAt, wholeTable}
+use Rattle.table.specs.Search.{first, firstFrom, findModule}
+use Rattle.table.specs.declared.layout.Part.{Part}
+use Rattle.table.specs.declared.layout.Texts as T
+use Rattle.table.specs.declared.judge.Kind.the-variants.{Modules}
+use Rattle.table.specs.declared.judge.Named as N
+use Rattle.table.specs.declared.search.FoundModule as F
+use Rattle.table.specs.At.{bytesOf, textsAt, TextsAt, modulesFrom}
+use Rattle.table.specs.Judged.{kindBegins, namedAt, NamedIs}
+use Rattle.table.specs.Found.{isCalled, ModuleAt, FindsModule}
+use Rattle.table.proofs.Accessibles.{in-some}
+use Rattle.table.proofs.Enough.{before, modules-stop, modules-more, module-less}
+use Rattle.table.proofs.Modules.{less}
+use Rattle.table.proofs.Named.{Was, was, none-was}
+use Rattle.table.proofs.Whole.{opened, unread, never}
+
+-- a first element that was read before others
+pub record Split {A : Type 0} (a : A) (o : Option (List A × List ℕ)) (l : List A) (x : List ℕ) : Type 0 where
+  pub others : List A
+  pub are : o ≡ some (others, x)
+  pub is : l ≡ a ∷ others
+
+pub split : {A : Type 0} (a : A) (o : Option (List A × List ℕ)) (l : List A) (x : List ℕ) → before a o ≡ some (l, x) → Split a o l x
+split a none l x e = absurd (never e)
+split {A} a (some q) l x e =
+    let y : a ∷ q .0 ≡ l = ap (λ (z : List A × List ℕ). z .0) (in-some e) in
+    let z : q .1 ≡ x = ap (λ (z : List A × List ℕ). z .1) (in-some e) in
+    record { others = q .0; are = ap (λ (w : List ℕ). some (q .0, w)) z; is = sym y }
+
+-- the modules ms from position i on, of which n come before, and what is still to be searched for the name
+pub record Left (s name : List ℕ) (n i : ℕ) (ms : List Table.Module) (x : List ℕ) : Type 0 where
+  pub others : List Table.Module
+  pub are : modulesFrom s i ≡ some (others, x)
+  pub finds : first (isCalled name) ms ≡ firstFrom (isCalled name) n others
+
+-- the same, whatever the modules from position `at` on are
+abbrev pub Lefts : List ℕ → ℕ → List ℕ → ℕ → ℕ → Type 0
+Lefts s at name n i = (ms : List Table.Module) (x : List ℕ) → modulesFrom s at ≡ some (ms, x) → Left s name n i ms x
+
+pub search-start : (s : List ℕ) (at : ℕ) (name : List ℕ) → Lefts s at name 0 at
+unfolding first
+search-start s at name ms x e = record { others = ms; are = e; finds = refl }
+
+module _ (s : List ℕ) (at : ℕ) (name : List ℕ) (n i : ℕ) (ws : Lefts s at name n i) (b : Bool) (hb : b ≡ kindBegins Modules (drop i s)) where
+  begun : {c : Bool} → b ≡ c → begins (bytes "MO") (drop i s) ≡ c
+  unfolding kindBegins
+  begun z = sym hb ∙ z
+
+  pub search-last : b ≡ false → (ms : List Table.Module) (x : List ℕ) → modulesFrom s at ≡ some (ms, x) → first (isCalled name) ms ≡ none
+  unfolding firstFrom
+  search-last z ms x u =
+      let w = ws ms x u in
+      let y = in-some (sym (modules-stop s i (begun z)) ∙ w .are) in
+      w .finds ∙ rw (← (ap (λ (l : List Table.Module × List ℕ). l .0) y))
+
+  module _ (z : b ≡ true) (r : N.Named) (h : NamedIs s r (namedAt Modules (length s) (drop i s))) where
+    pub search-bad : r ≡ N.the-variants.Bad → (ms : List Table.Module) (x : List ℕ) → modulesFrom s at ≡ some (ms, x) → first (isCalled name) ms ≡ none
+    unfolding namedAt
+    search-bad e ms x u =
+        absurd (never (sym (modules-more s i (begun z) ∙ rw (none-was (λ (m : Table.Module). m .name) (moduleAt (length s) (drop i s)) (rw e at h))) ∙ ws ms x u .are))
+
+    module _ (p : Part) (j : ℕ) (e : r ≡ N.the-variants.Read p j) (t : Bool) (ht : t ≡ same name (bytesOf s p)) where
+      it : Was (λ (m : Table.Module). m .name) (moduleAt (length s) (drop i s)) (bytesOf s p) (drop j s)
+      unfolding namedAt
+      it = was (λ (m : Table.Module). m .name) (moduleAt (length s) (drop i s)) (bytesOf s p) (drop j s) ((rw e at h) .is)
+
+      parts : {ms : List Table.Module} {x : List ℕ} (w : Left s name n i ms x) → Split (it .it) (modulesFrom s j) (w .others) x
+      parts {ms} {x} w = split (it .it) (modulesFrom s j) (w .others) x (sym (modules-more s i (begun z) ∙ go it) ∙ w .are)
+        where
+          go : (v : Was (λ (m : Table.Module). m .name) (moduleAt (length s) (drop i s)) (bytesOf s p) (drop j s)) → (moduleAt (length s) (drop i s) >>= λ a. before (a .0) (modulesAt (length s) (length (a .1)) (a .1))) ≡ before (v .it) (modulesFrom s j)
+          go v = rw (v .is)
+
+      -- the search from here on, by what the test says
+      on : {ms : List Table.Module} {x : List ℕ} → Left s name n i ms x → Bool → Option (ℕ × Table.Module)
+      on w d = cond d (some (n, it .it)) (firstFrom (isCalled name) (suc n) (parts w .others))
+
+      step : {ms : List Table.Module} {x : List ℕ} (w : Left s name n i ms x) → first (isCalled name) ms ≡ on w t
+      unfolding firstFrom on
+      step w = w .finds ∙ ap (firstFrom (isCalled name) n) (parts w .is) ∙ ap (on w) (ap (same name) (it .name) ∙ sym ht)
+
+      pub search-found : t ≡ true → i ≤ length s → (ms : List Table.Module) (x : List ℕ) → modulesFrom s at ≡ some (ms, x) → ModuleAt s n i (first (isCalled name) ms)
+      unfolding on
+      search-found y l ms x u = record { it = it .it; left = drop j s; is = step (ws ms x u) ∙ ap (on (ws ms x u)) y; read = it .is; within = l }
+
+      pub search-next : t ≡ false → Lefts s at name (n + 1) j
+      unfolding on
+      search-next y ms x u =
+          let w = ws ms x u in
+          record {
+            others = parts w .others;
+            are = parts w .are;
+            finds = step w ∙ ap (on w) y ∙ ap (λ (k : ℕ). firstFrom (isCalled name) k (parts w .others)) (sym (add-one n));
+          }
+
+module _ (s name : List ℕ) (r : T.Texts) (h : TextsAt s r (textsAt (78 ∷ 68 ∷ []) (drop 0 s))) (t : Table.Table) (w : wholeTable s ≡ some t) where
+  pub find-untold : r ≡ T.the-variants.Bad → findModule t name ≡ none
+  find-untold e = absurd (unread s r h t w e)
+
+  pub find-modules : (p q : Part) → r ≡ T.the-variants.At p q → (f : F.FoundModule) → ((ms : List Table.Module) (x : List ℕ) → modulesFrom s (q .to) ≡ some (ms, x) → FindsModule s f (first (isCalled name) ms)) → FindsModule s f (findModule t name)
+  unfolding findModule
+  find-modules p q e f g = let x = opened s r h t w p q e in g (t .modules) (x .left) (x .modules)

@@ -1,0 +1,216 @@
+-- Laws of what is asked of the whole table: counts (number 2), names (number 3), datainfos (number 4). Assumes nothing.
+use Prim.Native.Nat.{ℕ, zero, suc, _+_, _-_, _≤_, _<_}
+use native.Mathlib.Omega.{arith}
+use mathlib.Core.Path.{_≡_, refl, sym, ap, _∙_}
+use mathlib.Core.Bool.{Bool, true, false, cond, not, _&&_}
+use mathlib.Core.List.{List, [], _∷_, map}
+use mathlib.Core.Option.{Option, none, some}
+use lib.ListN.{length, drop}
+use lib.Dec.{leb, eqb}
+use borrow.Author.Tests.{not-true, not-false, leb-true, leb-false, le-leb, lt-leb}
+use Rattle.ascii.specs.declared.Next.{Next}
+use Rattle.ascii.specs.declared.Next.the-variants.{At, Bad}
+use Rattle.ascii.specs.Text.{bytes}
+use Rattle.ascii.specs.Bytes.{_>>=_, after, all}
+use Rattle.ascii.specs.Names.{isText}
+use Rattle.ascii.specs.Reader.{Ends, rest}
+use Rattle.datainfo.specs.Rules.{goodNames, isBetween}
+use Rattle.table.specs.Table as Table
+use Rattle.table.specs.Layout.{begins, moduleAt, modulesAt, wholeTable}
+use Rattle.table.specs.Rules.{accessibleName, accessibleCount, countsGood, namesGood, datainfosGood}
+use Rattle.table.specs.declared.layout.Part.{Part}
+use Rattle.table.specs.declared.layout.Texts as T
+use Rattle.table.specs.declared.layout.ModuleAt.{ModuleAt}
+use Rattle.table.specs.declared.layout.Heading as H
+use Rattle.table.specs.declared.judge.Test.the-variants.{Names, Rules}
+use Rattle.table.specs.declared.judge.Kind.the-variants.{Modules, Accessibles}
+use Rattle.table.specs.declared.judge.Members as M
+use Rattle.table.specs.At.{bytesOf, Inside, textsAt, TextsAt, accessiblesFrom, headingAt, moduleOf, HeadingIs, modulesFrom}
+use Rattle.table.specs.Judged.{passed, modulePasses, namesFrom, howMany, ModuleHas, MembersAre, few}
+use Rattle.table.proofs.Accessibles.{Got, got, in-some, rest-none}
+use Rattle.table.proofs.Enough.{before, modules-stop, modules-more, module-less}
+use Rattle.table.proofs.Modules.{withThem, module-as, module-is, afterNode, table-as, less}
+
+-- ## A table that was read
+
+-- what was read of the table t, of which the texts are p and q
+pub record Opened (s : List ℕ) (p q : Part) (t : Table.Table) : Type 0 where
+  pub id : t .equipmentId ≡ bytesOf s p
+  pub description : t .description ≡ bytesOf s q
+  pub left : List ℕ
+  pub modules : modulesFrom s (q .to) ≡ some (t .modules, left)
+
+module _ (s : List ℕ) (r : T.Texts) (o : Option ((List ℕ × List ℕ) × List ℕ)) (h : TextsAt s r o) (p q : Part) (e : r ≡ T.the-variants.At p q) where
+  pub name-text : Inside s p
+  name-text = (rw e at h) .name
+
+  pub description-text : Inside s q
+  description-text = (rw e at h) .description
+
+pub never : {A : Type 0} {t : A} → none ≡ some t → ⊥
+never e = let z : _≡_ {A = ℕ} 0 1 = cc in omega arith
+
+module _ (s : List ℕ) (r : T.Texts) (h : TextsAt s r (textsAt (78 ∷ 68 ∷ []) (drop 0 s))) (t : Table.Table) (w : wholeTable s ≡ some t) where
+  pub unread : r ≡ T.the-variants.Bad → ⊥
+  unread e = never (sym (table-as s ∙ rw (rw e at h)) ∙ w)
+
+  pub untold : (b : Bool) → r ≡ T.the-variants.Bad → false ≡ b
+  untold b e = absurd (unread e)
+
+  module _ (p q : Part) (e : r ≡ T.the-variants.At p q) where
+    pub opened : Opened s p q t
+    opened = go (modulesFrom s (q .to)) refl (sym (table-as s ∙ rw ((rw e at h) .is)) ∙ w)
+      where
+        read : List Table.Module → Table.Table
+        read ms = record { equipmentId = bytesOf s p; description = bytesOf s q; modules = ms }
+
+        ends : (ms : List Table.Module) (x : List ℕ) → modulesFrom s (q .to) ≡ some (ms, x) → (b : Bool) → cond b (some (read ms)) none ≡ some t → Opened s p q t
+        ends ms x g false z = absurd (never z)
+        ends ms x g true z =
+            let y = in-some z in
+            record {
+              id = sym (ap (λ (u : Table.Table). u .equipmentId) y);
+              description = sym (ap (λ (u : Table.Table). u .description) y);
+              left = x;
+              modules = rw (← y) g;
+            }
+
+        marked : (ms : List Table.Module) (x : List ℕ) → modulesFrom s (q .to) ≡ some (ms, x) → (o : Option (List ℕ)) → (o >>= λ l. cond (eqb (length l) 0) (some (read ms)) none) ≡ some t → Opened s p q t
+        marked ms x g none z = absurd (never z)
+        marked ms x g (some l) z = ends ms x g (eqb (length l) 0) z
+
+        go : (o : Option (List Table.Module × List ℕ)) → modulesFrom s (q .to) ≡ o → (o >>= λ m. after (69 ∷ 78 ∷ []) (m .1) >>= λ l. cond (eqb (length l) 0) (some (read (m .0))) none) ≡ some t → Opened s p q t
+        go none g z = absurd (never z)
+        go (some m) g z = marked (m .0) (m .1) g (after (69 ∷ 78 ∷ []) (m .1)) z
+
+-- ## Names and datainfos
+
+module _ (s : List ℕ) (r : T.Texts) (h : TextsAt s r (textsAt (78 ∷ 68 ∷ []) (drop 0 s))) (t : Table.Table) (w : wholeTable s ≡ some t) (p q : Part) (er : r ≡ T.the-variants.At p q) where
+  x : Opened s p q t
+  x = opened s r h t w p q er
+
+  module _ (a : Bool) (ha : a ≡ isText (bytesOf s p)) where
+    pub id-bad : not a ≡ true → false ≡ namesGood t
+    unfolding namesGood
+    id-bad n = rw (x .id, ← ha, not-true a n)
+
+    module _ (na : not a ≡ false) (b : Bool) (hb : b ≡ isText (bytesOf s q)) where
+      pub description-bad : not b ≡ true → false ≡ namesGood t
+      unfolding namesGood
+      description-bad n = rw (x .id, x .description, ← ha, ← hb, not-false a na, not-true b n)
+
+      module _ (nb : not b ≡ false) (c : Bool) (hc : c ≡ passed goodNames (namesFrom Modules s (q .to))) where
+        unique : c ≡ goodNames (map (λ (m : Table.Module). m .name) (t .modules))
+        unfolding namesFrom
+        unique = hc ∙ rw (x .modules)
+
+        pub modules-misnamed : not c ≡ true → false ≡ namesGood t
+        unfolding namesGood
+        modules-misnamed n = rw (x .id, x .description, ← ha, ← hb, not-false a na, not-false b nb, ← unique, not-true c n)
+
+        pub names-all : (d : Bool) → not c ≡ false → d ≡ passed (all (modulePasses Names)) (modulesFrom s (q .to)) → d ≡ namesGood t
+        unfolding namesGood modulePasses
+        names-all d n hd = rw (x .id, x .description, ← ha, ← hb, not-false a na, not-false b nb, ← unique, not-false c n) (hd ∙ rw (x .modules))
+
+  pub datainfos-all : (d : Bool) → d ≡ passed (all (modulePasses Rules)) (modulesFrom s (q .to)) → d ≡ datainfosGood t
+  unfolding datainfosGood modulePasses
+  datainfos-all d hd = hd ∙ rw (x .modules)
+
+-- ## Counts
+
+length-map : {A B : Type 0} (f : A → B) (xs : List A) → length (map f xs) ≡ length xs
+length-map f [] = refl
+length-map f (y ∷ xs) = ap suc (length-map f xs)
+
+module _ (s : List ℕ) (at : ℕ) (h : H.Heading) (hh : HeadingIs s h (headingAt (drop at s))) where
+  pub members-headless : h ≡ H.the-variants.Bad → moduleAt (length s) (drop at s) ≡ none
+  members-headless e = simp (module-as, rw e at hh)
+
+  module _ (m : ModuleAt) (eh : h ≡ H.the-variants.Read m) (r : Next) (hr : Ends s r (rest (accessiblesFrom s (m .next)))) where
+    pub members-endless : r ≡ Bad → moduleAt (length s) (drop at s) ≡ none
+    members-endless e = module-is s at h hh m eh ∙ rest-none (accessiblesFrom s (m .next)) (λ q. some (withThem (moduleOf s m) q)) (rw e at hr)
+
+    members-from : (j n : ℕ) → j ≤ length s → Got (accessiblesFrom s (m .next)) (drop j s) → n ≡ howMany 0 (namesFrom Accessibles s (m .next)) → ModuleHas s n j (moduleAt (length s) (drop at s))
+    unfolding namesFrom
+    members-from j n w g hn =
+        let k : n ≡ 0 + length (map accessibleName (g .it)) = hn ∙ rw (g .is) in
+        let l = length-map accessibleName (g .it) in
+        record { it = withThem (moduleOf s m) (g .it, drop j s) .0; is = module-is s at h hh m eh ∙ rw (g .is); many = omega arith; within = w }
+
+    pub members-are : (j n : ℕ) → r ≡ At j → n ≡ howMany 0 (namesFrom Accessibles s (m .next)) → ModuleHas s n j (moduleAt (length s) (drop at s))
+    members-are j n e hn = members-from j n ((rw e at hr) .1) (got (accessiblesFrom s (m .next)) (drop j s) ((rw e at hr) .0)) hn
+
+few-more : (n x left : ℕ) → n ≤ left → leb (n + x) left ≡ leb x (left - n)
+few-more n x left h = go (leb x (left - n)) refl
+  where
+    go : (b : Bool) → leb x (left - n) ≡ b → leb (n + x) left ≡ b
+    go true e = let g = leb-true x (left - n) e in le-leb (n + x) left (omega arith)
+    go false e = let g = leb-false x (left - n) e in lt-leb (n + x) left (omega arith)
+
+-- the modules from position i on, of which r is the first
+module _ (s : List ℕ) (i : ℕ) (b : Bool) (hb : b ≡ begins (bytes "MO") (drop i s)) where
+  pub few-last : (o : Bool) (left : ℕ) → o ≡ passed (few left) (modulesFrom s i) → b ≡ false → true ≡ o
+  unfolding few accessibleCount
+  few-last o left e z = sym (e ∙ ap (passed (few left)) (modules-stop s i (sym hb ∙ z)) ∙ le-leb 0 left (omega arith))
+
+  module _ (z : b ≡ true) (r : M.Members) (h : MembersAre s r (moduleAt (length s) (drop i s))) where
+    module _ (n j : ℕ) (y : r ≡ M.the-variants.Read n j) where
+      pub members-within : j ≤ length s
+      members-within = (rw y at h) .within
+
+      pub members-less : length s - j < length s - i
+      members-less = less s i j (module-less s i (drop j s) (sym hb ∙ z) (ap rest ((rw y at h) .is)))
+
+    module _ (o : Bool) (left : ℕ) (e : o ≡ passed (few left) (modulesFrom s i)) where
+      more : o ≡ passed (few left) (moduleAt (length s) (drop i s) >>= λ p. before (p .0) (modulesAt (length s) (length (p .1)) (p .1)))
+      more = e ∙ ap (passed (few left)) (modules-more s i (sym hb ∙ z))
+
+      pub few-bad : r ≡ M.the-variants.Bad → false ≡ o
+      few-bad y = sym (more ∙ rw (rw y at h))
+
+      module _ (n j : ℕ) (y : r ≡ M.the-variants.Read n j) where
+        counted : o ≡ passed (λ ms. leb (n + accessibleCount ms) left) (modulesFrom s j)
+        unfolding few accessibleCount
+        counted = let x = rw y at h in more ∙ rw (x .is) (go (x .it) (x .many) (modulesFrom s j))
+          where
+            go : (m : Table.Module) → n ≡ length (m .accessibles) → (l : Option (List Table.Module × List ℕ)) → passed (few left) (before m l) ≡ passed (λ ms. leb (n + accessibleCount ms) left) l
+            go m k none = refl
+            go m k (some l) = rw k
+
+        pub few-over : left < n → false ≡ o
+        few-over l = sym (counted ∙ go (modulesFrom s j))
+          where
+            go : (k : Option (List Table.Module × List ℕ)) → passed (λ ms. leb (n + accessibleCount ms) left) k ≡ false
+            go none = refl
+            go (some k) = lt-leb (n + accessibleCount (k .0)) left (omega arith)
+
+        pub few-next : n ≤ left → o ≡ passed (few (left - n)) (modulesFrom s j)
+        unfolding few
+        few-next l = counted ∙ go (modulesFrom s j)
+          where
+            go : (k : Option (List Table.Module × List ℕ)) → passed (λ ms. leb (n + accessibleCount ms) left) k ≡ passed (few (left - n)) k
+            go none = refl
+            go (some k) = few-more n (accessibleCount (k .0)) left l
+
+module _ (s : List ℕ) (r : T.Texts) (h : TextsAt s r (textsAt (78 ∷ 68 ∷ []) (drop 0 s))) (t : Table.Table) (w : wholeTable s ≡ some t) (p q : Part) (er : r ≡ T.the-variants.At p q) (n : ℕ) (hn : n ≡ howMany 0 (namesFrom Modules s (q .to))) where
+  y : Opened s p q t
+  y = opened s r h t w p q er
+
+  modules-many : n ≡ length (t .modules)
+  unfolding namesFrom
+  modules-many =
+      let k : n ≡ 0 + length (map (λ (m : Table.Module). m .name) (t .modules)) = hn ∙ rw (y .modules) in
+      let l = length-map (λ (m : Table.Module). m .name) (t .modules) in
+      omega arith
+
+  pub counts-none : n < 1 → false ≡ countsGood t
+  unfolding countsGood isBetween
+  counts-none l = rw (← modules-many, lt-leb 1 n l)
+
+  pub counts-over : 1 ≤ n → 16 < n → false ≡ countsGood t
+  unfolding countsGood isBetween
+  counts-over g l = rw (← modules-many, le-leb 1 n g, lt-leb n 16 l)
+
+  pub counts-all : (d : Bool) → 1 ≤ n → n ≤ 16 → d ≡ passed (few 64) (modulesFrom s (q .to)) → d ≡ countsGood t
+  unfolding countsGood isBetween few
+  counts-all d g l hd = rw (← modules-many, le-leb 1 n g, le-leb n 16 l) (hd ∙ rw (y .modules))

@@ -1,0 +1,35 @@
+-- `table::search::find_module` meets its contract. Assumes nothing.
+use borrow.Author.Needs.{needs}
+use Rattle.table.proofs.Searches.{find-untold, find-modules}
+use Rattle.table.proofs.Records.{texts-within}
+use Rattle.table.proofs.search.find_module.Statement.{statement}
+use Rattle.table.proofs.search.find_module.Tie as tie
+
+texts-at-requires : tie.Need-texts-at-requires
+texts-at-requires c κs = search needs
+
+enum-known-description : tie.Need-enum-known-description
+enum-known-description c = search needs
+
+enum-told : tie.Need-enum-told
+enum-told c = search needs
+
+returns : tie.Need-returns
+returns c = λ t w. search find-untold
+
+module-from-requires : tie.Need-module-from-requires
+module-from-requires c κs = search texts-within
+
+returns-2 : tie.Need-returns-2
+returns-2 c = λ t w. search find-modules
+
+pub find-module-spec : {M : Type 1} → statement M
+find-module-spec =
+    tie.close
+    (tie.spec
+    texts-at-requires
+    enum-known-description
+    enum-told
+    returns
+    module-from-requires
+    returns-2)
