@@ -1,10 +1,10 @@
 -- Laws of values that are numbers. Assumes nothing.
-use Prim.Native.Nat.{ℕ, zero, suc, _+_, _-_, _≤_, _<_}
+use Prim.Native.Nat.{ℕ, zero, suc, _-_, _≤_, _<_}
 use native.Mathlib.Numerals.{sub-one}
 use native.Mathlib.Omega.{arith}
 use mathlib.Core.Path.{_≡_, refl, sym, ap, _∙_}
 use mathlib.Core.Bool.{Bool, true, false, cond, _&&_, _||_}
-use mathlib.Core.List.{List, [], _∷_, _++_}
+use mathlib.Core.List.{List, [], _∷_}
 use mathlib.Core.Option.{Option, none, some}
 use lib.ListN.{length, take, drop, length-drop, length-append}
 use lib.IntN.{ℤ, pos}
@@ -12,19 +12,17 @@ use lib.Dec.{eqb}
 use mir.Syntax.{Width, w8, w64}
 use mir.Val.{SFits, toZ, ofZ}
 use mir.Facts.{toZ-ofZ}
-use borrow.Author.Tests.{eq-eqb, ne-eqb}
+use borrow.Author.Tests.{ne-eqb}
 use Rattle.ascii.specs.declared.Next.{Next}
 use Rattle.ascii.specs.declared.Next.the-variants.{At, Bad}
 use Rattle.ascii.specs.declared.Unsigned as U
 use Rattle.ascii.specs.declared.Unsigned.{Unsigned}
 use Rattle.ascii.specs.declared.Signed as S
 use Rattle.ascii.specs.declared.Signed.{Signed}
-use Rattle.ascii.specs.declared.SignedByte as B
-use Rattle.ascii.specs.declared.SignedByte.{SignedByte}
-use Rattle.ascii.specs.Bytes.{_>>=_, isSome, any}
+use Rattle.ascii.specs.Bytes.{isSome, any}
 use Rattle.ascii.specs.Numbers.{unsigned, signed}
 use Rattle.ascii.specs.Reader.{Ends, rest}
-use Rattle.ascii.specs.Read.{ReadsUnsigned, ReadsSigned, ReadsSignedByte}
+use Rattle.ascii.specs.Read.{ReadsUnsigned, ReadsSigned}
 use Rattle.decimal.specs.Token.{isWhole}
 use Rattle.decimal.specs.Token as Token
 use Rattle.decimal.specs.Decimal.{Decimal, between, exactly, isWithinLimits}
@@ -34,6 +32,9 @@ use Rattle.json.specs.Json as Json
 use Rattle.json.proofs.ReadAgain.{of-some, number-takes}
 use Rattle.datainfo.specs.Datainfo.{Datainfo, Variant, double, int, enum, bool}
 use Rattle.datainfo.specs.Layout.{limit, doubleAt, intAt, counted, variants, enumAt, stringAt}
+use Rattle.datainfo.specs.Kept.{ReadsLimit}
+use Rattle.datainfo.specs.declared.rules.Limit as L
+use Rattle.datainfo.specs.declared.rules.Limit.{Limit}
 use Rattle.datainfo.specs.Fit.{fits, rangeError, wrongType, inRange, expect, asNumber, doubleFit, wholeFit, betweenIntegers, isVariant, fit}
 use Rattle.datainfo.specs.Verdict.{meaning, Judges, numeric, plain}
 use Rattle.datainfo.specs.declared.Verdict.{Verdict}
@@ -61,60 +62,27 @@ unsigned-within s u o n p h e = (rw e at h) .1
 pub signed-within : (s : List ℕ) (u : Signed) (o : Option (ℤ × List ℕ)) (n : ℤ) (p : ℕ) → ReadsSigned s u o → u ≡ S.the-variants.Read n p → p ≤ length s
 signed-within s u o n p h e = (rw e at h) .1
 
-pub byte-within : (s : List ℕ) (u : SignedByte) (o : Option (ℤ × List ℕ)) (n : ℤ) (p : ℕ) → ReadsSignedByte s u o → u ≡ B.the-variants.Read n p → p ≤ length s
-byte-within s u o n p h e = (rw e at h) .1
-
 -- ## double: two limits
 
-module _ (s : List ℕ) (at : ℕ) (u : Signed) (k : ReadsSigned s u (signed 8 (drop at s))) where
-  no-limit : u ≡ S.the-variants.Short → limit (drop at s) ≡ none
-  unfolding limit
-  no-limit e = simp (rw e at k)
+pub limit-within : (s : List ℕ) (u : Limit) (o : Option (Decimal × List ℕ)) (m p : ℤ) (i : ℕ) → ReadsLimit s u o → u ≡ L.the-variants.Read m p i → i ≤ length s
+limit-within s u o m p i h e = (rw e at h) .1
 
-  module _ (lo : ℤ) (a : ℕ) (e : u ≡ S.the-variants.Read lo a) (w : SignedByte) (l : ReadsSignedByte s w (signed 1 (drop a s))) where
-    no-power : w ≡ B.the-variants.Short → limit (drop at s) ≡ none
-    unfolding limit
-    no-power f = simp ((rw e at k) .0, rw f at l)
+module _ (s : List ℕ) (at : ℕ) (t : List ℕ) (r : Verdict) (u : Limit) (k : ReadsLimit s u (limit (drop at s))) where
+  pub double-1 : u ≡ L.the-variants.Short → Judges (doubleAt (drop at s)) (some (Json.number t, [])) r
+  unfolding doubleAt
+  double-1 e = judges-none (simp (rw e at k))
 
-    one-limit : (p : ℤ) (b : ℕ) → w ≡ B.the-variants.Read p b → limit (drop at s) ≡ some (decimal lo p, drop b s)
-    unfolding limit
-    one-limit p b f = simp ((rw e at k) .0, (rw f at l) .0)
-
-  -- the upper limit of a double with the lower limit m
-  module _ (lo lp : ℤ) (t : List ℕ) (r : Verdict) where
-    pub upper-1 : u ≡ S.the-variants.Short → (hi : Decimal) (x : List ℕ) → limit (drop at s) ≡ some (hi, x) → meaning r ≡ doubleFit (decimal lo lp) hi t
-    upper-1 e hi x g = absurd (nothing (sym (no-limit e) ∙ g))
-
-    module _ (n : ℤ) (a : ℕ) (e : u ≡ S.the-variants.Read n a) (w : SignedByte) (l : ReadsSignedByte s w (signed 1 (drop a s))) where
-      pub upper-2 : w ≡ B.the-variants.Short → (hi : Decimal) (x : List ℕ) → limit (drop at s) ≡ some (hi, x) → meaning r ≡ doubleFit (decimal lo lp) hi t
-      upper-2 f hi x g = absurd (nothing (sym (no-power n a e w l f) ∙ g))
-
-      pub upper-good : (p : ℤ) (b : ℕ) → w ≡ B.the-variants.Read p b → SFits w64 lo → SFits w8 lp → SFits w64 n → SFits w8 p → (c : Bool)
-          → c ≡ (isWithinLimits t && between (decimal (back w64 lo) (back w8 lp)) (decimal (back w64 n) (back w8 p)) (exactly t)) → meaning r ≡ inRange c
-          → (hi : Decimal) (x : List ℕ) → limit (drop at s) ≡ some (hi, x) → meaning r ≡ doubleFit (decimal lo lp) hi t
-      unfolding doubleFit
-      upper-good p b f i1 i2 i3 i4 c z h hi x g = rw (← (same-read (one-limit n a e w l p b f) g)) (rw (z, toZ-ofZ i1, toZ-ofZ i2, toZ-ofZ i3, toZ-ofZ i4) at h)
-
-  -- the lower limit
-  module _ (t : List ℕ) (r : Verdict) where
-    pub double-1 : u ≡ S.the-variants.Short → Judges (doubleAt (drop at s)) (some (Json.number t, [])) r
+  module _ (lo lp : ℤ) (a : ℕ) (e : u ≡ L.the-variants.Read lo lp a) (w : Limit) (l : ReadsLimit s w (limit (drop a s))) where
+    pub double-2 : w ≡ L.the-variants.Short → Judges (doubleAt (drop at s)) (some (Json.number t, [])) r
     unfolding doubleAt
-    double-1 e = judges-none (simp (no-limit e))
+    double-2 f = judges-none (simp ((rw e at k) .0, rw f at l))
 
-    module _ (n : ℤ) (a : ℕ) (e : u ≡ S.the-variants.Read n a) (w : SignedByte) (l : ReadsSignedByte s w (signed 1 (drop a s))) where
-      pub double-2 : w ≡ B.the-variants.Short → Judges (doubleAt (drop at s)) (some (Json.number t, [])) r
-      unfolding doubleAt
-      double-2 f = judges-none (simp (no-power n a e w l f))
-
-      pub double-good : (p : ℤ) (b : ℕ) → w ≡ B.the-variants.Read p b → SFits w64 n → SFits w8 p
-          → ((hi : Decimal) (x : List ℕ) → limit (drop b s) ≡ some (hi, x) → meaning r ≡ doubleFit (decimal (back w64 n) (back w8 p)) hi t)
-          → Judges (doubleAt (drop at s)) (some (Json.number t, [])) r
-      unfolding doubleAt fit expect asNumber
-      double-good p b f i1 i2 h = go (limit (drop b s)) refl
-        where
-          go : (o : Option (Decimal × List ℕ)) → limit (drop b s) ≡ o → Judges (doubleAt (drop at s)) (some (Json.number t, [])) r
-          go none z = judges-none (simp (one-limit n a e w l p b f, z))
-          go (some q) z = judges-is {d = double (decimal n p) (q .0)} {x = q .1} (simp (one-limit n a e w l p b f, z)) refl (rw (toZ-ofZ i1, toZ-ofZ i2) at (h (q .0) (q .1) z))
+    pub double-good : (hi hp : ℤ) (b : ℕ) → w ≡ L.the-variants.Read hi hp b → SFits w64 lo → SFits w8 lp → SFits w64 hi → SFits w8 hp → (c : Bool)
+        → c ≡ (isWithinLimits t && between (decimal (back w64 lo) (back w8 lp)) (decimal (back w64 hi) (back w8 hp)) (exactly t)) → meaning r ≡ inRange c
+        → Judges (doubleAt (drop at s)) (some (Json.number t, [])) r
+    unfolding doubleAt fit expect asNumber doubleFit
+    double-good hi hp b f i1 i2 i3 i4 c z h = judges-is {d = double (decimal lo lp) (decimal hi hp)} {x = drop b s} (simp ((rw e at k) .0, (rw f at l) .0)) refl
+        (rw (z, toZ-ofZ i1, toZ-ofZ i2, toZ-ofZ i3, toZ-ofZ i4) at h)
 
 -- ## int: two limits
 

@@ -1,8 +1,8 @@
 -- The items and members of a value's text, as the code walks over them: what is left, and a step. Assumes nothing.
-use Prim.Native.Nat.{ℕ, zero, suc, _+_, _-_, _≤_, _<_}
+use Prim.Native.Nat.{ℕ, zero, suc, _-_, _≤_, _<_}
 use native.Mathlib.Omega.{arith}
 use mathlib.Core.Path.{_≡_, refl, sym, ap, _∙_}
-use mathlib.Core.Bool.{Bool, true, false, cond}
+use mathlib.Core.Bool.{false}
 use mathlib.Core.List.{List}
 use mathlib.Core.Option.{Option, none, some}
 use lib.ListN.{length, drop, length-drop}
@@ -11,10 +11,9 @@ use borrow.Author.Tests.{eq-eqb}
 use Rattle.ascii.specs.declared.Next.{Next}
 use Rattle.ascii.specs.declared.Next.the-variants.{At, Bad}
 use Rattle.ascii.specs.Bytes.{_>>=_, head, tail}
-use Rattle.ascii.specs.Reader.{Left, Ends, rest}
+use Rattle.ascii.specs.Reader.{Ends, rest}
 use Rattle.json.specs.Json.{Json, Items, no-items, item, Members, no-members, member, skip, spaced, items, key, members, bare, value}
 use Rattle.datainfo.specs.Walk.{first, comma, afterItem, afterMember}
-use Rattle.datainfo.proofs.Judged.{same-read, same-left}
 use Rattle.datainfo.proofs.Shapes.{nothing, just, either, steps, Row, Group, empty, full}
 
 -- ## Where a walk stands: at an item, with fewer than n turns to go, or at none; at a member, with n turns at most to go, or at none

@@ -1,7 +1,7 @@
 -- Laws of judgements and of the worse of two verdicts. Assumes nothing.
 use Prim.Native.Nat.{ℕ, _≤_, _<_}
 use native.Mathlib.Omega.{arith}
-use mathlib.Core.Path.{_≡_, refl, sym, ap, _∙_}
+use mathlib.Core.Path.{_≡_, refl, sym, ap}
 use mathlib.Core.Bool.{Bool, true, false, cond, _&&_}
 use mathlib.Core.List.{List}
 use mathlib.Core.Option.{Option, none, some}
@@ -14,7 +14,6 @@ use Rattle.datainfo.specs.Fit.{fits, rangeError, wrongType, badJSON, sev
 use Rattle.datainfo.specs.Fit as Fit
 use Rattle.datainfo.specs.Verdict.{meaning, Judges}
 use Rattle.datainfo.specs.declared.Verdict.{Verdict}
-use Rattle.datainfo.specs.declared.Verdict.the-variants.{Fits, RangeError, WrongType, BadJson}
 
 -- ## Verdicts
 

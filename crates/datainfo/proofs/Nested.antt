@@ -1,7 +1,7 @@
 -- Laws of arrays and tuples: what holds while the code walks over the items. Assumes nothing.
 use Prim.Native.Nat.{ℕ, zero, suc, _+_, _-_, _≤_, _<_}
 use native.Mathlib.Nat.{zero-add, add-zero}
-use native.Mathlib.Numerals.{add-one, sub-one}
+use native.Mathlib.Numerals.{sub-one}
 use native.Mathlib.Omega.{arith}
 use mathlib.Core.Path.{_≡_, refl, sym, ap, _∙_}
 use mathlib.Core.Bool.{Bool, true, false, cond}
@@ -15,29 +15,29 @@ use Rattle.ascii.specs.declared.Next.{Next}
 use Rattle.ascii.specs.declared.Next.the-variants.{At, Bad}
 use Rattle.ascii.specs.declared.Unsigned as U
 use Rattle.ascii.specs.declared.Unsigned.{Unsigned}
-use Rattle.ascii.specs.Bytes.{head, tail, part}
+use Rattle.ascii.specs.Bytes.{head, part}
 use Rattle.ascii.specs.Numbers.{unsigned}
 use Rattle.ascii.specs.Reader.{ByteAt, Left, Ends, rest}
 use Rattle.ascii.specs.Read.{ReadsUnsigned}
 use Rattle.ascii.proofs.Bytes.{tail-drop}
-use Rattle.json.specs.Json.{Json, Items, no-items, item, skip, bare, value}
+use Rattle.json.specs.Json.{Json, Items, no-items, item, skip, bare}
 use Rattle.datainfo.specs.Datainfo.{Datainfo, array, tuple, Elements, no-elements, element}
 use Rattle.datainfo.specs.Layout.{arrayAt, elements, tupleAt, datainfoIn}
 use Rattle.datainfo.specs.Rules.{isBetween}
-use Rattle.datainfo.specs.Fit.{fits, wrongType, inRange, expect, asArray, worse, itemCount, worstItem, elementsFit, fit}
+use Rattle.datainfo.specs.Fit.{fits, wrongType, inRange, expect, worse, itemCount, worstItem, elementsFit, fit}
 use Rattle.datainfo.specs.Fit as Fit
 use Rattle.datainfo.specs.Verdict.{meaning, Judges, Limits}
 use Rattle.datainfo.specs.Walk.{first, afterItem}
 use Rattle.datainfo.specs.declared.Verdict.{Verdict}
 use Rattle.datainfo.specs.declared.Verdict.the-variants.{Fits, WrongType}
 use Rattle.datainfo.proofs.Judged.{worse-fits, fits-worse, worse-worse, same-read, same-left}
-use Rattle.datainfo.proofs.Shapes.{nothing, just, either, steps, shape, tells-yes, tells-no, as-array}
-use Rattle.datainfo.proofs.Items.{ItemsAt, no-more, more, ItemStep, items-first, items-next, items-none, items-some, items-turns, unspaced}
+use Rattle.datainfo.proofs.Shapes.{nothing, just, steps, shape, tells-yes, tells-no, as-array}
+use Rattle.datainfo.proofs.Items.{ItemsAt, items-first, items-next, items-none, items-some, items-turns, unspaced}
 
 -- ## Parts of the table
 
 -- a part of n bytes, and what is left
-pub part-some : (n : ℕ) (xs : List ℕ) {t y : List ℕ} → part n xs ≡ some (t, y) → (n ≤ length xs) × (y ≡ drop n xs)
+part-some : (n : ℕ) (xs : List ℕ) {t y : List ℕ} → part n xs ≡ some (t, y) → (n ≤ length xs) × (y ≡ drop n xs)
 unfolding part
 part-some n xs {t} {y} e = go (leb n (length xs)) refl e
   where
@@ -45,7 +45,7 @@ part-some n xs {t} {y} e = go (leb n (length xs)) refl e
     go true h e = (leb-true n (length xs) h, sym (ap (λ p. p .1) (just e)))
     go false h e = absurd (nothing e)
 
-pub unsigned-some : (n : ℕ) (xs : List ℕ) {m : ℕ} {y : List ℕ} → unsigned n xs ≡ some (m, y) → (n ≤ length xs) × (y ≡ drop n xs)
+unsigned-some : (n : ℕ) (xs : List ℕ) {m : ℕ} {y : List ℕ} → unsigned n xs ≡ some (m, y) → (n ≤ length xs) × (y ≡ drop n xs)
 unfolding unsigned
 unsigned-some n xs e = steps (part n xs) _ e λ p a e. let h = part-some n xs a in (h .0, sym (ap (λ p. p .1) (just e)) ∙ h .1)
 

@@ -4,31 +4,31 @@ use native.Mathlib.Nat.{zero-add, add-zero, add-assoc}
 use native.Mathlib.Numerals.{sub-one}
 use native.Mathlib.Omega.{arith}
 use mathlib.Core.Path.{_≡_, refl, sym, ap, _∙_}
-use mathlib.Core.Bool.{Bool, true, false, cond, _&&_, _||_}
-use mathlib.Core.List.{List, [], _∷_}
-use mathlib.Core.Option.{Option, none, some}
-use lib.ListN.{length, take, drop, length-drop}
-use lib.Dec.{eqb, leb}
+use mathlib.Core.Bool.{Bool, true, false, cond}
+use mathlib.Core.List.{List}
+use mathlib.Core.Option.{Option, some}
+use lib.ListN.{length, drop}
+use lib.Dec.{eqb}
 use borrow.Author.Tests.{ne-eqb}
 use Rattle.ascii.specs.declared.Next.{Next}
 use Rattle.ascii.specs.declared.Next.the-variants.{At, Bad}
 use Rattle.ascii.specs.declared.Unsigned as U
 use Rattle.ascii.specs.declared.Unsigned.{Unsigned}
-use Rattle.ascii.specs.Bytes.{_>>=_, all, any, count, same, part}
+use Rattle.ascii.specs.Bytes.{all, any, count, same}
 use Rattle.ascii.specs.Numbers.{unsigned}
-use Rattle.ascii.specs.Reader.{Left, Ends, rest}
+use Rattle.ascii.specs.Reader.{Ends}
 use Rattle.ascii.specs.Read.{ReadsUnsigned}
-use Rattle.json.specs.Json.{Json, object, Members, no-members, member, skip, key, bare, value, objectEnd}
+use Rattle.json.specs.Json.{Json, object, Members, no-members, member, skip, key, value, objectEnd}
 use Rattle.datainfo.specs.Datainfo.{Datainfo, struct, Fields, no-fields, field, fieldNames}
 use Rattle.datainfo.specs.Layout.{counted, fields, structAt, datainfoIn}
+use Rattle.datainfo.specs.Kept.{nameOf}
 use Rattle.datainfo.specs.Members as Members
 use Rattle.datainfo.specs.Members.{afterHeld}
 use Rattle.datainfo.specs.Fit.{keys, eachOnce, valueAt}
-use Rattle.datainfo.specs.Walk.{first, afterMember, memberValue, Reads, OfObject, OfStruct, OfBoth, valueOf, Found, Finds}
+use Rattle.datainfo.specs.Walk.{first, afterMember, memberValue, Reads, OfObject, OfStruct, OfBoth, Finds}
 use Rattle.datainfo.proofs.Judged.{same-read, same-left}
 use Rattle.datainfo.proofs.Shapes.{nothing, just, steps, object-group}
-use Rattle.datainfo.proofs.Items.{MembersAt, no-member, from, MemberStep, members-first, members-next, members-none, members-over, members-some, ends-some, unspaced}
-use Rattle.datainfo.proofs.Nested.{unsigned-some, part-some}
+use Rattle.datainfo.proofs.Items.{MembersAt, from, members-first, members-next, members-none, members-over, members-some, ends-some, unspaced}
 
 -- ## How often a key is there
 
@@ -142,44 +142,9 @@ module _ (d : ℕ) (v : List ℕ) (p : ℕ) (name : List ℕ) (at : Next) (left 
 
 -- ## Names of the table
 
-counted-some : {S : Type 0} (xs : List ℕ) {k r : List ℕ} → counted xs ≡ some (k, r) → ((n : ℕ) (y : List ℕ) → unsigned 1 xs ≡ some (n, y) → part n y ≡ some (k, r) → S) → S
-unfolding counted
-counted-some xs e f = steps (unsigned 1 xs) _ e λ p a e. f (p .0) (p .1) a e
-
-part-take : (n : ℕ) (xs : List ℕ) {t y : List ℕ} → part n xs ≡ some (t, y) → t ≡ take n xs
-unfolding part
-part-take n xs {t} {y} e = go (leb n (length xs)) e
-  where
-    go : (b : Bool) → cond {A = Option (List ℕ × List ℕ)} b (some (take n xs, drop n xs)) none ≡ some (t, y) → t ≡ take n xs
-    go true e = sym (ap (λ p. p .0) (just e))
-    go false e = absurd (nothing e)
-
-pub name-cut : (s : List ℕ) (at : ℕ) (q : Next) → Ends s q (rest (counted (drop at s))) → q ≡ Bad → (t : List ℕ) → Reads (counted (drop at s)) t
-name-cut s at q l e t = record { is = λ f. absurd (nothing (sym (rw e at l) ∙ ap rest f)) }
-
-module _ (s : List ℕ) (at : ℕ) (u : Unsigned) (k : ReadsUnsigned s u (unsigned 1 (drop at s))) where
-  pub name-short : u ≡ U.the-variants.Short → (t : List ℕ) → Reads (counted (drop at s)) t
-  name-short e t = record { is = λ f. counted-some (drop at s) f λ n y a b. absurd (nothing (sym (rw e at k) ∙ a)) }
-
-  module _ (q : Next) (l : Ends s q (rest (counted (drop at s)))) where
-    module _ (n i : ℕ) (e : u ≡ U.the-variants.Read n i) (j : ℕ) (z : q ≡ At j) where
-      -- a name of m bytes
-      sized : {t r : List ℕ} → counted (drop at s) ≡ some (t, r) → (i + n ≡ j) × (t ≡ take n (drop i s))
-      sized {t} {r} f = counted-some (drop at s) f λ m y a b.
-          let g : part n (drop i s) ≡ some (t, r) = rw (same-read a ((rw e at k) .0), same-left a ((rw e at k) .0)) at b in
-          let h = part-some n (drop i s) g in
-          let c : drop j s ≡ drop n (drop i s) = sym (just (sym (ap rest f) ∙ (rw z at l) .0)) ∙ h .1 in
-          (omega (arith, simp length-drop at (ap length c), simp length-drop at (h .0), (rw z at l) .1, (rw e at k) .1), part-take n (drop i s) g)
-
-      pub name-room : i ≤ j
-      name-room = read (counted (drop at s)) refl
-        where
-          read : (o : Option (List ℕ × List ℕ)) → counted (drop at s) ≡ o → i ≤ j
-          read none f = absurd (nothing (sym (ap rest f) ∙ (rw z at l) .0))
-          read (some p) f = let h = sized f in omega (arith, h .0)
-
-      pub name-whole : Reads (counted (drop at s)) (take (j - i) (drop i s))
-      name-whole = record { is = λ f. let h = sized f in let g : j - i ≡ n = omega (arith, h .0) in rw g (sym (h .1)) }
+pub name-reads : (xs t : List ℕ) → t ≡ nameOf xs → Reads (counted xs) t
+unfolding nameOf
+name-reads xs t e = record { is = λ f. e ∙ rw f }
 
 -- ## The fields of a struct
 
@@ -260,14 +225,14 @@ module _ (s : List ℕ) (at levels : ℕ) (f : Fields → Bool) (field' left : �
 
 -- ## Whether a name is there
 
-module _ (xs name t : List ℕ) (r : Reads (counted xs) t) (b : Bool) (g : b ≡ same name t) where
+module _ (xs name t : List ℕ) (r : t ≡ nameOf xs) (b : Bool) (g : b ≡ same name t) where
   pub named : b ≡ true → (k y : List ℕ) (d : Datainfo) (gs : Fields) → counted xs ≡ some (k, y) → any (same name) (fieldNames (field k d gs)) ≡ true
   unfolding any fieldNames
-  named h k y d gs e = rw (← (r .is e), ← g, h)
+  named h k y d gs e = rw (← (name-reads xs t r .is e), ← g, h)
 
   pub unnamed : b ≡ false → (k y : List ℕ) (d : Datainfo) (gs : Fields) → counted xs ≡ some (k, y) → any (same name) (fieldNames (field k d gs)) ≡ any (same name) (fieldNames gs)
   unfolding any fieldNames
-  unnamed h k y d gs e = rw (← (r .is e), ← g, h)
+  unnamed h k y d gs e = rw (← (name-reads xs t r .is e), ← g, h)
 
 pub nameless : (name : List ℕ) → any (same name) (fieldNames no-fields) ≡ false
 unfolding any fieldNames
@@ -278,14 +243,14 @@ nameless name = refl
 abbrev pub OnceIn : Members → Fields → Bool
 OnceIn ms fs = all (λ n. eqb (count (same n) (keys ms)) 1) (fieldNames fs)
 
-module _ (xs t : List ℕ) (r : Reads (counted xs) t) (q : Option (Json × List ℕ)) (n : ℕ) (o : OfObject q (λ ms. count (same t) (keys ms)) n) {ms : Members} {z : List ℕ} (e : q ≡ some (object ms, z)) where
+module _ (xs t : List ℕ) (r : t ≡ nameOf xs) (q : Option (Json × List ℕ)) (n : ℕ) (o : OfObject q (λ ms. count (same t) (keys ms)) n) {ms : Members} {z : List ℕ} (e : q ≡ some (object ms, z)) where
   once : n ≡ 1 → (k y : List ℕ) (d : Datainfo) (gs : Fields) → counted xs ≡ some (k, y) → OnceIn ms (field k d gs) ≡ OnceIn ms gs
   unfolding all fieldNames
-  once h k y d gs f = rw (← (r .is f), ← (o .is e), h)
+  once h k y d gs f = rw (← (name-reads xs t r .is f), ← (o .is e), h)
 
   not-once : (n ≡ 1 → ⊥) → (k y : List ℕ) (d : Datainfo) (gs : Fields) → counted xs ≡ some (k, y) → OnceIn ms (field k d gs) ≡ false
   unfolding all fieldNames
-  not-once h k y d gs f = rw (← (r .is f), ← (o .is e), ne-eqb n 1 h)
+  not-once h k y d gs f = rw (← (name-reads xs t r .is f), ← (o .is e), ne-eqb n 1 h)
 
 none-once : (ms : Members) → OnceIn ms no-fields ≡ true
 unfolding all fieldNames
@@ -310,14 +275,14 @@ module _ (s : List ℕ) (at levels : ℕ) (q : Option (Json × List ℕ)) where
     once-over h = record { is = λ e f. fields-over s at levels _ field left (c .from f) h true (none-once _) .is e }
 
     module _ (h : 0 < left) where
-      pub once-wrong : (t : List ℕ) (n : ℕ) → Reads (counted (drop field s)) t → OfObject q (λ ms. count (same t) (keys ms)) n → (n ≡ 1 → ⊥) → Asks false
+      pub once-wrong : (t : List ℕ) (n : ℕ) → t ≡ nameOf (drop field s) → OfObject q (λ ms. count (same t) (keys ms)) n → (n ≡ 1 → ⊥) → Asks false
       once-wrong t n r o g = record { is = λ e f. fields-decided s at levels _ field left (c .from f) h false (not-once (drop field s) t r q n o f g) .is e }
 
       module _ (m : Next) (l : Ends s m (Members.afterMember (datainfoIn levels) 8 (drop field s))) where
         pub once-bad : m ≡ Bad → (r : Bool) → Asks r
         once-bad z r = record { is = λ e f. fields-bad s at levels _ field left (c .from f) h m l z r .is e }
 
-        pub once-more : (i : ℕ) → m ≡ At i → (t : List ℕ) (n : ℕ) → Reads (counted (drop field s)) t → OfObject q (λ ms. count (same t) (keys ms)) n → n ≡ 1 → OnceAt s at levels q i (left - 1)
+        pub once-more : (i : ℕ) → m ≡ At i → (t : List ℕ) (n : ℕ) → t ≡ nameOf (drop field s) → OfObject q (λ ms. count (same t) (keys ms)) n → n ≡ 1 → OnceAt s at levels q i (left - 1)
         once-more i z t n r o g = record { from = λ f. fields-more s at levels _ field left (c .from f) h m l i z (once (drop field s) t r q n o f g) }
 
 -- ## Whether each key is a name

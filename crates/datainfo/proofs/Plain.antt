@@ -1,12 +1,11 @@
 -- Laws of values that hold no values. Assumes nothing.
-use Prim.Native.Nat.{ℕ, zero, suc, _+_, _-_, _≤_}
-use native.Mathlib.Omega.{arith}
+use Prim.Native.Nat.{ℕ, _-_}
 use mathlib.Core.Logic.{_⊎_, inl, inr, ⊎-elim}
 use mathlib.Core.Path.{_≡_, refl, sym, ap, _∙_}
-use mathlib.Core.Bool.{Bool, true, false, cond, _&&_}
+use mathlib.Core.Bool.{Bool, true, false}
 use mathlib.Core.List.{List, []}
-use mathlib.Core.Option.{Option, none, some}
-use lib.ListN.{length, take, drop}
+use mathlib.Core.Option.{some}
+use lib.ListN.{length, drop}
 use lib.Dec.{leb}
 use Rattle.ascii.specs.declared.Unsigned as U
 use Rattle.ascii.specs.declared.Unsigned.{Unsigned}
@@ -20,13 +19,13 @@ use Rattle.json.specs.Characters.{characters}
 use Rattle.datainfo.specs.Datainfo.{Datainfo, bool, string}
 use Rattle.datainfo.specs.Layout.{stringAt}
 use Rattle.datainfo.specs.Rules.{isBetween}
-use Rattle.datainfo.specs.Fit.{rangeError, inRange, expect, asNumber, asBoolean, asString, asArray, asObject, stringFit, fit}
+use Rattle.datainfo.specs.Fit.{inRange, expect, asString, stringFit, fit}
 use Rattle.datainfo.specs.Verdict.{meaning, Judges, Limits}
 use Rattle.datainfo.specs.Walk.{Quoted}
 use Rattle.datainfo.specs.declared.Verdict.{Verdict}
 use Rattle.datainfo.specs.declared.Verdict.the-variants.{Fits, RangeError, WrongType}
 use Rattle.datainfo.proofs.Judged.{judges-of, same-read, same-left}
-use Rattle.datainfo.proofs.Shapes.{just, nothing, steps, shape, tells-yes, tells-no, as-boolean, as-string, as-number}
+use Rattle.datainfo.proofs.Shapes.{just, nothing, steps, shape, tells-yes, tells-no, as-boolean, as-string}
 
 -- ## bool
 

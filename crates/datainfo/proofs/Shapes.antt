@@ -4,7 +4,7 @@ use native.Mathlib.Omega.{arith}
 use mathlib.Core.Logic.{_⊎_, inl, inr}
 use mathlib.Core.Path.{_≡_, refl, sym, ap, _∙_}
 use mathlib.Core.Bool.{Bool, true, false, cond, _&&_}
-use mathlib.Core.List.{List, [], _∷_}
+use mathlib.Core.List.{List}
 use mathlib.Core.Option.{Option, none, some}
 use lib.ListN.{length}
 use lib.Dec.{eqb, leb}
@@ -13,7 +13,7 @@ use Rattle.ascii.specs.Text.{bytes}
 use Rattle.ascii.specs.Bytes.{_>>=_, isSome, head, tail, dropWhile, after, isIn, isDigit}
 use Rattle.decimal.specs.Token.{minus, int, digits, frac, exp}
 use Rattle.decimal.specs.Token as Token
-use Rattle.json.specs.Json.{Json, null, boolean, number, string, array, object, Items, no-items, item, Members, no-members, member}
+use Rattle.json.specs.Json.{Json, null, boolean, number, string, array, object, Items, no-items, Members, no-members}
 use Rattle.datainfo.specs.Fit.{asNumber, asBoolean, asString, asArray, asObject}
 use Rattle.json.specs.Json.{skip, upTo, inside, stringEnd, giving, scalar, items, arrayEnd, members, objectEnd, bare, value}
 

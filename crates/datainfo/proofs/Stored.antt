@@ -1,5 +1,5 @@
 -- Laws of texts: their verdict, and whether they are in stored form. Assumes nothing.
-use Prim.Native.Nat.{ℕ, zero, suc, _≤_}
+use Prim.Native.Nat.{ℕ, suc, _≤_}
 use native.Mathlib.Omega.{arith}
 use mathlib.Core.Path.{_≡_, refl, sym, ap, _∙_}
 use mathlib.Core.Bool.{Bool, true, false, cond, _&&_}
@@ -7,15 +7,15 @@ use mathlib.Core.List.{List, [], _∷_}
 use mathlib.Core.Option.{Option, none, some}
 use lib.ListN.{length, drop}
 use lib.Dec.{eqb, leb}
-use borrow.Author.Tests.{eq-eqb, ne-eqb}
-use Rattle.ascii.specs.Bytes.{_>>=_, isSome, isSpace, same}
+use borrow.Author.Tests.{eq-eqb}
+use Rattle.ascii.specs.Bytes.{isSome, isSpace, same}
 use Rattle.ascii.specs.Reader.{Left}
 use Rattle.json.specs.Json.{Json, skip, bare, value, text, compact}
 use Rattle.json.specs.Compacted.{CompactLength}
-use Rattle.json.proofs.Strip.{insideAfter, escapedAfter, strip, stripped}
+use Rattle.json.proofs.Strip.{insideAfter, escapedAfter, strip}
 use Rattle.json.proofs.Copied.{stripped-compact}
 use Rattle.datainfo.specs.Datainfo.{Datainfo}
-use Rattle.datainfo.specs.Fit.{badJSON, severity, inRange, worse, valueVerdict, verdictOf, verdict, storedOf, storedForm, isFit, isStored, fit}
+use Rattle.datainfo.specs.Fit.{badJSON, severity, inRange, worse, valueVerdict, verdictOf, verdict, storedOf, storedForm, isFit, isStored}
 use Rattle.datainfo.specs.Verdict.{meaning, Judges, JudgesText, TellsStored}
 use Rattle.datainfo.specs.declared.Verdict.{Verdict}
 use Rattle.datainfo.specs.declared.Verdict.the-variants.{BadJson}

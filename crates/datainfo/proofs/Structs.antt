@@ -1,34 +1,35 @@
 -- Laws of structs: what holds while the code walks over the fields. Assumes nothing.
 use Prim.Native.Nat.{ℕ, _+_, _-_, _≤_, _<_}
 use native.Mathlib.Omega.{arith}
-use mathlib.Core.Path.{_≡_, refl, sym, ap, _∙_}
-use mathlib.Core.Bool.{Bool, true, false, cond, _&&_}
+use mathlib.Core.Path.{_≡_, sym, ap, _∙_}
+use mathlib.Core.Bool.{Bool, true, false}
 use mathlib.Core.List.{List}
-use mathlib.Core.Option.{Option, none, some}
-use lib.ListN.{length, drop}
+use mathlib.Core.Option.{some}
+use lib.ListN.{drop}
 use lib.Dec.{eqb}
 use borrow.Author.Tests.{eqb-true}
 use Rattle.ascii.specs.declared.Next.{Next}
 use Rattle.ascii.specs.declared.Next.the-variants.{At, Bad}
 use Rattle.ascii.specs.declared.Unsigned as U
 use Rattle.ascii.specs.declared.Unsigned.{Unsigned}
-use Rattle.ascii.specs.Bytes.{head, tail, all, any, count, same}
+use Rattle.ascii.specs.Bytes.{head, all, count, same}
 use Rattle.ascii.specs.Numbers.{unsigned}
 use Rattle.ascii.specs.Reader.{ByteAt, Ends, rest}
 use Rattle.ascii.specs.Read.{ReadsUnsigned}
 use Rattle.ascii.proofs.Bytes.{tail-drop}
-use Rattle.json.specs.Json.{Json, object, Members, bare, value, objectEnd}
+use Rattle.json.specs.Json.{object, Members, bare, value, objectEnd}
 use Rattle.datainfo.specs.Datainfo.{Datainfo, struct, Fields, no-fields, field, fieldNames}
 use Rattle.datainfo.specs.Layout.{counted, fields, structAt, datainfoIn}
-use Rattle.datainfo.specs.Fit.{fits, wrongType, expect, asObject, worse, keys, eachOnce, valueAt, fit, fieldsFit}
+use Rattle.datainfo.specs.Kept.{nameOf}
+use Rattle.datainfo.specs.Fit.{expect, worse, keys, eachOnce, valueAt, fit, fieldsFit}
 use Rattle.datainfo.specs.Fit as Fit
 use Rattle.datainfo.specs.Verdict.{meaning, Judges, JudgesFields}
-use Rattle.datainfo.specs.Walk.{Reads, OfBoth, valueOf, Found, Finds}
+use Rattle.datainfo.specs.Walk.{OfBoth, Finds}
 use Rattle.datainfo.specs.declared.Verdict.{Verdict}
 use Rattle.datainfo.specs.declared.Verdict.the-variants.{Fits, WrongType}
 use Rattle.datainfo.proofs.Judged.{worse-fits, fits-worse, worse-worse}
 use Rattle.datainfo.proofs.Shapes.{nothing, just, steps, both, shape, tells-yes, tells-no, as-object, group-object}
-use Rattle.datainfo.proofs.Objects.{OnceIn, fields-some, fields-none, struct-some, struct-short, struct-first, same-fields}
+use Rattle.datainfo.proofs.Objects.{OnceIn, fields-some, fields-none, struct-some, struct-short, struct-first, same-fields, name-reads}
 
 -- ## The value of a struct
 
@@ -101,12 +102,12 @@ module _ (s : List ℕ) (at levels : ℕ) (v : List ℕ) (p depth : ℕ) (worst 
   pub values-over : left ≤ 0 → JudgesFields (structAt (datainfoIn levels) (drop at s)) (objectEnd (value depth) (drop p v)) worst
   values-over h = record { is = λ e f g. let q = c .from e f g in sym (q .is ∙ values-end (meaning worst) (q .gs) _ (fields-none (datainfoIn levels) left (drop field' s) h (q .reads))) }
 
-  pub values-lost : 0 < left → (t : List ℕ) → Reads (counted (drop field' s)) t → (l : Next) → Finds depth v p t l → l ≡ Bad → (r : Verdict)
+  pub values-lost : 0 < left → (t : List ℕ) → t ≡ nameOf (drop field' s) → (l : Next) → Finds depth v p t l → l ≡ Bad → (r : Verdict)
       → JudgesFields (structAt (datainfoIn levels) (drop at s)) (objectEnd (value depth) (drop p v)) r
   values-lost h t j l u z r = record {
     is = λ e f g. let q = c .from e f g in fields-some (datainfoIn levels) left (drop field' s) h (q .reads) λ n y d y' hs a b o w.
         let x = once-here _ (q .gs) hs n d w (q .once) .0 in
-        let x' = rw (z, j .is a) at (u .is f) in absurd (omega arith);
+        let x' = rw (z, name-reads (drop field' s) t j .is a) at (u .is f) in absurd (omega arith);
   }
 
   module _ (h : 0 < left) (m : Next) (k : Ends s m (rest (counted (drop field' s)))) where
@@ -116,7 +117,7 @@ module _ (s : List ℕ) (at levels : ℕ) (v : List ℕ) (p depth : ℕ) (worst 
           absurd (nothing (sym (rw z at k) ∙ ap rest a));
     }
 
-    module _ (t : List ℕ) (j : Reads (counted (drop field' s)) t) (l : Next) (u : Finds depth v p t l) where
+    module _ (t : List ℕ) (j : t ≡ nameOf (drop field' s)) (l : Next) (u : Finds depth v p t l) where
       module _ (i : ℕ) (z : m ≡ At i) (n : Next) (x : Ends s n (rest (datainfoIn levels (drop i s)))) where
         pub values-bad : n ≡ Bad → (r : Verdict) → JudgesFields (structAt (datainfoIn levels) (drop at s)) (objectEnd (value depth) (drop p v)) r
         values-bad y r = record {
@@ -131,7 +132,7 @@ module _ (s : List ℕ) (at levels : ℕ) (v : List ℕ) (p depth : ℕ) (worst 
               let q = c .from e f once in
               fields-some (datainfoIn levels) left (drop field' s) h (q .reads) λ n' r' d x' hs a b r'' w'.
               let here = rw (just (sym (ap rest a) ∙ (rw z at k) .0)) at b in
-              steps (bare depth (drop o v)) _ (rw (y, j .is a) at (u .is f)) λ t' t'' w''. record {
+              steps (bare depth (drop o v)) _ (rw (y, name-reads (drop field' s) t j .is a) at (u .is f)) λ t' t'' w''. record {
                 gs = hs;
                 x = q .x;
                 reads = rw (just (sym (ap rest here) ∙ (rw y' at x) .0)) at r'';

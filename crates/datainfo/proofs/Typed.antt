@@ -2,9 +2,9 @@
 use Prim.Native.Nat.{ℕ, zero, suc, _-_}
 use native.Mathlib.Numerals.{sub-one}
 use mathlib.Core.Path.{_≡_, refl}
-use mathlib.Core.Bool.{Bool, true, false, cond}
+use mathlib.Core.Bool.{Bool, true, false}
 use mathlib.Core.List.{List}
-use mathlib.Core.Option.{Option, none, some}
+use mathlib.Core.Option.{Option, none}
 use lib.ListN.{drop}
 use lib.Dec.{eqb}
 use borrow.Author.Tests.{eqb-true, ne-eqb}
@@ -12,9 +12,9 @@ use Rattle.ascii.specs.declared.Unsigned as U
 use Rattle.ascii.specs.declared.Unsigned.{Unsigned}
 use Rattle.ascii.specs.Numbers.{unsigned}
 use Rattle.ascii.specs.Read.{ReadsUnsigned}
-use Rattle.json.specs.Json.{Json, bare}
-use Rattle.datainfo.specs.Datainfo.{Datainfo, bool}
-use Rattle.datainfo.specs.Layout.{doubleAt, intAt, enumAt, stringAt, arrayAt, tupleAt, structAt, typed, datainfoIn}
+use Rattle.json.specs.Json.{Json}
+use Rattle.datainfo.specs.Datainfo.{Datainfo}
+use Rattle.datainfo.specs.Layout.{arrayAt, tupleAt, structAt, typed, datainfoIn}
 use Rattle.datainfo.specs.Verdict.{Judges, numeric, plain}
 use Rattle.datainfo.specs.declared.Verdict.{Verdict}
 use Rattle.datainfo.proofs.Judged.{judges-none, judges-like}

@@ -1,9 +1,9 @@
 -- Laws of the walk over a value's text, one for each way through a function. Assumes nothing.
-use Prim.Native.Nat.{ℕ, zero, suc, _+_, _-_, _≤_, _<_}
+use Prim.Native.Nat.{ℕ, suc, _+_, _-_, _≤_, _<_}
 use native.Mathlib.Omega.{arith}
 use mathlib.Core.Path.{_≡_, refl, sym, ap, _∙_}
 use mathlib.Core.Bool.{Bool, true, false, cond}
-use mathlib.Core.List.{List, [], _∷_, _++_}
+use mathlib.Core.List.{List}
 use mathlib.Core.Option.{Option, none, some}
 use lib.ListN.{length, take, drop, length-drop, length-append}
 use lib.Dec.{eqb}
@@ -14,7 +14,6 @@ use Rattle.ascii.specs.Bytes.{head, tail, _>>=_}
 use Rattle.ascii.specs.Reader.{ByteAt, Left, Ends, rest}
 use Rattle.ascii.proofs.Bytes.{tail-drop, is-byte, no-byte}
 use Rattle.json.specs.Json.{skip, stringEnd, inside, key, value}
-use Rattle.json.proofs.ReadAgain as Again
 use Rattle.json.proofs.ReadAgain.{of-some, chars-quoted}
 use Rattle.datainfo.specs.Walk.{first, comma, afterItem, afterMember, memberValue, Quoted, Reads}
 

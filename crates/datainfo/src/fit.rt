@@ -1,20 +1,20 @@
-// Which values fit a datainfo: the table's bytes and the value's text are walked over together.
+// Which values fit a datainfo: the table's bytes and the value's text are walked over together. `at` is a position in the table: of a
+// datainfo, or past its type byte where the function is of one type; `p` is the position of the value. Of bytes that can't be read as a
+// datainfo, or as a value, the answer says nothing; it is WrongType.
 ghost use mathlib.Core.Path.{_≡_};
 ghost use Prim.Native.Nat.{ℕ, _≤_};
-ghost use mathlib.Core.List.{List, []};
+ghost use mathlib.Core.List.{[]};
 ghost use mathlib.Core.Bool.{true};
 ghost use mathlib.Core.Option.{some};
 ghost use lib.ListN.{length, drop};
 ghost use Rattle.decimal.specs.Token.{isWhole};
-ghost use Rattle.decimal.specs.Decimal.{Decimal};
-ghost use Rattle.decimal.specs.Exact.{decimal};
 ghost use Rattle.json.specs.Json as Json;
 ghost use Rattle.json.specs.Json.{bare, value, objectEnd};
 ghost use Rattle.datainfo.specs.Datainfo as Datainfo;
-ghost use Rattle.datainfo.specs.Layout.{limit, doubleAt, intAt, enumAt, stringAt, arrayAt, tupleAt, structAt, datainfoIn};
+ghost use Rattle.datainfo.specs.Layout.{doubleAt, intAt, enumAt, stringAt, arrayAt, tupleAt, structAt, datainfoIn};
 ghost use Rattle.datainfo.specs.Rules.{isBetween};
 ghost use Rattle.datainfo.specs.Fit as Fit;
-ghost use Rattle.datainfo.specs.Fit.{isFit, inRange, doubleFit, wholeFit, betweenIntegers};
+ghost use Rattle.datainfo.specs.Fit.{isFit, inRange, wholeFit, betweenIntegers};
 ghost use Rattle.datainfo.specs.Verdict.{meaning, Judges, JudgesFields, JudgesText, TellsStored, Limits, numeric, plain};
 use super::Verdict;
 use super::layout::counted_end;
@@ -22,17 +22,17 @@ use super::layout::datainfo_end;
 use super::layout::part_end;
 use super::object::each_once;
 use super::object::find_key;
-use super::object::name_at;
+use super::rules::Limit;
+use super::rules::limit_at;
+use super::rules::name_at;
 use super::walk::first;
 use super::walk::next;
 use super::walk::quoted;
 use ascii::Next;
 use ascii::Signed;
-use ascii::SignedByte;
 use ascii::Unsigned;
 use ascii::byte;
 use ascii::numbers::signed;
-use ascii::numbers::signed_byte;
 use ascii::numbers::unsigned;
 use decimal::compare::is_between;
 use decimal::compare::is_whole;
@@ -101,32 +101,18 @@ fn range_fit(passes: bool) -> Verdict
     Verdict::RangeError
 }
 
-// A number token for a double with the lower limit lo × 10^lo_power, at its upper limit.
-fn upper_fit(s: &[u8], at: usize, lo: i64, lo_power: i8, t: &[u8]) -> Verdict
-    requires { ⌜ at ≤ length (now s) ⌝ }
-    ensures { λ r. ⌜ ((hi : Decimal) (x : List ℕ) → limit (drop at (now (s .entry))) ≡ some (hi, x) → meaning r ≡ doubleFit (decimal lo «lo_power») hi (now (t .entry))) ⌝ }
-{
-    let Signed::Read(hi, a) = signed(s, at, 8) else {
-        return Verdict::WrongType;
-    };
-    let SignedByte::Read(hi_power, _) = signed_byte(s, a) else {
-        return Verdict::WrongType;
-    };
-    range_fit(is_between(lo, lo_power, hi, hi_power, t))
-}
-
 // A number token, of which any is of the kind.
 fn double_fit(s: &[u8], at: usize, t: &[u8]) -> Verdict
     requires { ⌜ at ≤ length (now s) ⌝ }
     ensures { λ r. ⌜ Judges (doubleAt (drop at (now (s .entry)))) (some (Json.number (now (t .entry)), [])) r ⌝ }
 {
-    let Signed::Read(lo, a) = signed(s, at, 8) else {
+    let Limit::Read(lo, lo_power, a) = limit_at(s, at) else {
         return Verdict::WrongType;
     };
-    let SignedByte::Read(lo_power, b) = signed_byte(s, a) else {
+    let Limit::Read(hi, hi_power, _) = limit_at(s, a) else {
         return Verdict::WrongType;
     };
-    upper_fit(s, b, lo, lo_power, t)
+    range_fit(is_between(lo, lo_power, hi, hi_power, t))
 }
 
 // A number token, which has to have no dot and no 'e', from lo to hi.

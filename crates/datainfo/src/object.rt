@@ -8,11 +8,11 @@ ghost use lib.Dec.{eqb};
 ghost use Rattle.ascii.specs.Bytes.{all, any, count, same};
 ghost use Rattle.json.specs.Json.{value, objectEnd};
 ghost use Rattle.datainfo.specs.Datainfo.{fieldNames};
-ghost use Rattle.datainfo.specs.Layout.{counted, structAt, datainfoIn};
+ghost use Rattle.datainfo.specs.Layout.{structAt, datainfoIn};
 ghost use Rattle.datainfo.specs.Fit.{keys, eachOnce};
-ghost use Rattle.datainfo.specs.Walk.{Reads, OfObject, OfStruct, OfBoth, Finds};
-use super::layout::counted_end;
+ghost use Rattle.datainfo.specs.Walk.{OfObject, OfStruct, OfBoth, Finds};
 use super::layout::member_end;
+use super::rules::name_at;
 use super::walk::first;
 use super::walk::key_at;
 use super::walk::member_value;
@@ -71,20 +71,6 @@ pub fn find_key(v: &[u8], p: usize, depth: usize, name: &[u8]) -> Next
         left -= 1;
     }
     Next::Bad
-}
-
-// The name at a position of the table: a length byte and that many bytes.
-pub fn name_at(s: &[u8], at: usize) -> &[u8]
-    requires { ⌜ at ≤ length (now s) ⌝ }
-    ensures { λ r. ⌜ Reads (counted (drop at (now (s .entry)))) (now r) ⌝ }
-{
-    let Unsigned::Read(_, from) = unsigned(s, at, 1) else {
-        return &s[at..];
-    };
-    let Next::At(to) = counted_end(s, at) else {
-        return &s[at..];
-    };
-    &s[from..to]
 }
 
 // Whether a struct, past its type byte, has a field `name`.

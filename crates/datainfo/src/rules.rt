@@ -40,7 +40,7 @@ pub enum Limit {
 }
 
 // The name of the member at a position.
-fn name_at(s: &[u8], at: usize) -> &[u8]
+pub fn name_at(s: &[u8], at: usize) -> &[u8]
     requires { ⌜ at ≤ length (now s) ⌝ }
     ensures { λ r. ⌜ now r ≡ nameOf (drop at (now (s .entry))) ⌝ }
 {
@@ -159,7 +159,7 @@ fn power_good(p: i8) -> bool
     p <= 30
 }
 
-fn limit_at(s: &[u8], at: usize) -> Limit
+pub fn limit_at(s: &[u8], at: usize) -> Limit
     requires { ⌜ at ≤ length (now s) ⌝ }
     ensures { λ r. ⌜ ReadsLimit (now (s .entry)) r (limit (drop at (now (s .entry)))) ⌝ }
 {

@@ -41,7 +41,7 @@ use Rattle.datainfo.proofs.layout.datainfo_end.Reads as datainfo-end-re
 use Rattle.datainfo.proofs.layout.part_end.Reads as part-end-reads
 use Rattle.datainfo.proofs.object.each_once.Reads as each-once-reads
 use Rattle.datainfo.proofs.object.find_key.Reads as find-key-reads
-use Rattle.datainfo.proofs.object.name_at.Reads as name-at-reads
+use Rattle.datainfo.proofs.rules.name_at.Reads as name-at-reads
 use Rattle.datainfo.proofs.walk.first.Reads as first-reads
 use Rattle.datainfo.proofs.walk.next.Reads as next-reads
 use Rattle.json.proofs.read.spaces_end.Reads as spaces-end-reads

@@ -1,25 +1,18 @@
--- `bool_fit` meets its contract: a boolean is known by its first byte. Assumes nothing.
+-- `datainfo::fit::bool_fit` meets its contract: a boolean is known by its first byte. Assumes nothing.
 use Rattle.datainfo.proofs.Plain.{bool-true, bool-false, bool-other}
 use borrow.Author.Needs.{needs}
 use Rattle.datainfo.proofs.fit.bool_fit.Statement.{statement}
 use Rattle.datainfo.proofs.fit.bool_fit.Tie as tie
-use Rattle.datainfo.proofs.fit.bool_fit.Reads as reads
-use Rattle.datainfo.proofs.fit.bool_fit.Lts as lts
-use Rattle.ascii.proofs.byte.Reads as byte-reads
 
--- src/fit.rt:68:9
 byte-requires : tie.Need-byte-requires
 byte-requires c κs = search needs
 
--- src/fit.rt:70:9
 returns : tie.Need-returns
 returns c = search bool-true
 
--- src/fit.rt:73:9
 returns-2 : tie.Need-returns-2
 returns-2 c = search bool-false
 
--- src/fit.rt:65:1
 returns-3 : tie.Need-returns-3
 returns-3 c = search bool-other
 

@@ -1,19 +1,14 @@
--- `count_fit` meets its contract. Assumes nothing.
+-- `datainfo::fit::count_fit` meets its contract. Assumes nothing.
 use Rattle.datainfo.proofs.Judged.{count-low, count-high, count-within}
 use Rattle.datainfo.proofs.fit.count_fit.Statement.{statement}
 use Rattle.datainfo.proofs.fit.count_fit.Tie as tie
-use Rattle.datainfo.proofs.fit.count_fit.Reads as reads
-use Rattle.datainfo.proofs.fit.count_fit.Lts as lts
 
--- src/fit.rt:56:9
 returns : tie.Need-returns
 returns c = search count-low
 
--- src/fit.rt:59:9
 returns-2 : tie.Need-returns-2
 returns-2 c = search count-high
 
--- src/fit.rt:51:1
 returns-3 : tie.Need-returns-3
 returns-3 c = search count-within
 

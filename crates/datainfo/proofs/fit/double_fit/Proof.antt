@@ -1,51 +1,39 @@
--- `double_fit` meets its contract: the lower limit, then the upper. Assumes nothing.
-use Rattle.datainfo.proofs.Figures.{signed-within, byte-within, double-1, double-2, double-good}
+-- `datainfo::fit::double_fit` meets its contract: two limits, then the comparison. Assumes nothing.
+use Rattle.datainfo.proofs.Figures.{limit-within, double-1, double-2, double-good}
 use borrow.Author.Needs.{needs, sfits-of}
 use Rattle.datainfo.proofs.fit.double_fit.Statement.{statement}
 use Rattle.datainfo.proofs.fit.double_fit.Tie as tie
-use Rattle.datainfo.proofs.fit.double_fit.Reads as reads
-use Rattle.datainfo.proofs.fit.double_fit.Lts as lts
-use Rattle.ascii.proofs.numbers.signed.Reads as signed-reads
-use Rattle.ascii.proofs.numbers.signed_byte.Reads as signed-byte-reads
-use Rattle.datainfo.proofs.fit.upper_fit.Reads as upper-fit-reads
 
--- src/fit.rt:104:31
-signed-requires : tie.Need-signed-requires
-signed-requires c κs = search needs
+limit-at-requires : tie.Need-limit-at-requires
+limit-at-requires c κs = search needs
 
--- src/fit.rt:104:22
 enum-known-lo : tie.Need-enum-known-lo
 enum-known-lo c = search needs
 
--- src/fit.rt:105:9
 enum-told : tie.Need-enum-told
 enum-told c = search needs
 
--- src/fit.rt:105:9
 returns : tie.Need-returns
 returns c = search double-1
 
--- src/fit.rt:107:41
-signed-byte-requires : tie.Need-signed-byte-requires
-signed-byte-requires c κs = search signed-within
+limit-at-requires-2 : tie.Need-limit-at-requires-2
+limit-at-requires-2 c κs = search limit-within
 
--- src/fit.rt:107:26
-enum-known-lo-power : tie.Need-enum-known-lo-power
-enum-known-lo-power c = search needs
+enum-known-hi : tie.Need-enum-known-hi
+enum-known-hi c = search needs
 
--- src/fit.rt:108:9
 enum-told-2 : tie.Need-enum-told-2
 enum-told-2 c = search needs
 
--- src/fit.rt:108:9
 returns-2 : tie.Need-returns-2
 returns-2 c = search double-2
 
--- src/fit.rt:110:5
-upper-fit-requires : tie.Need-upper-fit-requires
-upper-fit-requires c κs = search byte-within
+is-between-requires : tie.Need-is-between-requires
+is-between-requires c κs = search needs
 
--- src/fit.rt:100:1
+range-fit-requires : tie.Need-range-fit-requires
+range-fit-requires c κs = search needs
+
 returns-3 : tie.Need-returns-3
 returns-3 c = search (double-good, sfits-of)
 
@@ -53,13 +41,14 @@ pub double-fit-spec : {M : Type 1} → statement M
 double-fit-spec =
     tie.close
     (tie.spec
-    signed-requires
+    limit-at-requires
     enum-known-lo
     enum-told
     returns
-    signed-byte-requires
-    enum-known-lo-power
+    limit-at-requires-2
+    enum-known-hi
     enum-told-2
     returns-2
-    upper-fit-requires
+    is-between-requires
+    range-fit-requires
     returns-3)

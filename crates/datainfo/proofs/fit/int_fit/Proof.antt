@@ -1,51 +1,37 @@
--- `int_fit` meets its contract: two limits, then the comparison. Assumes nothing.
+-- `datainfo::fit::int_fit` meets its contract: two limits, then the comparison. Assumes nothing.
 use native.Mathlib.Omega.{arith}
 use Rattle.datainfo.proofs.Figures.{signed-within, int-1, int-2, int-good}
 use borrow.Author.Needs.{needs, sfits-of}
 use Rattle.datainfo.proofs.fit.int_fit.Statement.{statement}
 use Rattle.datainfo.proofs.fit.int_fit.Tie as tie
-use Rattle.datainfo.proofs.fit.int_fit.Reads as reads
-use Rattle.datainfo.proofs.fit.int_fit.Lts as lts
-use Rattle.ascii.proofs.numbers.signed.Reads as signed-reads
-use Rattle.datainfo.proofs.fit.whole_fit.Reads as whole-fit-reads
 
--- src/fit.rt:127:31
 signed-requires : tie.Need-signed-requires
 signed-requires c κs = search needs
 
--- src/fit.rt:127:22
 enum-known-lo : tie.Need-enum-known-lo
 enum-known-lo c = search needs
 
--- src/fit.rt:128:9
 enum-told : tie.Need-enum-told
 enum-told c = search needs
 
--- src/fit.rt:128:9
 returns : tie.Need-returns
 returns c = search int-1
 
--- src/fit.rt:130:31
 signed-requires-2 : tie.Need-signed-requires-2
 signed-requires-2 c κs = (search signed-within, omega arith)
 
--- src/fit.rt:130:22
 enum-known-hi : tie.Need-enum-known-hi
 enum-known-hi c = search needs
 
--- src/fit.rt:131:9
 enum-told-2 : tie.Need-enum-told-2
 enum-told-2 c = search needs
 
--- src/fit.rt:131:9
 returns-2 : tie.Need-returns-2
 returns-2 c = search int-2
 
--- src/fit.rt:133:5
 whole-fit-requires : tie.Need-whole-fit-requires
 whole-fit-requires c κs = search needs
 
--- src/fit.rt:123:1
 returns-3 : tie.Need-returns-3
 returns-3 c = search (int-good, sfits-of)
 

@@ -1,17 +1,12 @@
--- `is_fit` meets its contract. Assumes nothing.
+-- `datainfo::fit::is_fit` meets its contract. Assumes nothing.
 use Rattle.datainfo.proofs.Stored.{fit-is}
 use borrow.Author.Needs.{needs}
 use Rattle.datainfo.proofs.fit.is_fit.Statement.{statement}
 use Rattle.datainfo.proofs.fit.is_fit.Tie as tie
-use Rattle.datainfo.proofs.fit.is_fit.Reads as reads
-use Rattle.datainfo.proofs.fit.is_fit.Lts as lts
-use Rattle.datainfo.proofs.fit.severity.Reads as severity-reads
 
--- src/fit.rt:415:5
 severity-requires : tie.Need-severity-requires
 severity-requires c κs = search needs
 
--- src/fit.rt:412:1
 returns : tie.Need-returns
 returns c = search fit-is
 

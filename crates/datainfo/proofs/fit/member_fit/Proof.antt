@@ -1,4 +1,4 @@
--- `member_fit` meets its contract. The invariant: of the members from the first on, those from `i` on are left, and none before is t. Assumes nothing.
+-- `datainfo::fit::member_fit` meets its contract. The invariant: of the members from the first on, those from `i` on are left, and none before is t. Assumes nothing.
 use Rattle.ascii.proofs.Bytes.{ended-within}
 use lib.ListN.{length}
 use Prim.Native.Nat.{_≤_}
@@ -7,12 +7,6 @@ use native.Mathlib.Omega.{arith}
 use Rattle.datainfo.proofs.Figures.{unsigned-within, signed-within, Members, members-short, members-first, members-over, members-nameless, members-cut, members-found, members-more}
 use Rattle.datainfo.proofs.fit.member_fit.Statement.{statement}
 use Rattle.datainfo.proofs.fit.member_fit.Tie as tie
-use Rattle.datainfo.proofs.fit.member_fit.Reads as reads
-use Rattle.datainfo.proofs.fit.member_fit.Lts as lts
-use Rattle.ascii.proofs.numbers.signed.Reads as signed-reads
-use Rattle.ascii.proofs.numbers.unsigned.Reads as unsigned-reads
-use Rattle.datainfo.proofs.layout.counted_end.Reads as counted-end-reads
-use Rattle.decimal.proofs.compare.is_between.Reads as is-between-reads
 
 abbrev Inv-loop : tie.InvT-loop
 Inv-loop s at t members from i₀ left₀ i left = (i ≤ length s) × Members s at t i left
@@ -20,79 +14,60 @@ Inv-loop s at t members from i₀ left₀ i left = (i ≤ length s) × Members s
 abbrev μ-loop : tie.MeasureT-loop
 μ-loop s at t members from i₀ left₀ i left = left
 
--- src/fit.rt:125:41
 unsigned-requires : tie.Need-unsigned-requires Inv-loop μ-loop
 unsigned-requires c κs = search needs
 
--- src/fit.rt:125:24
 enum-known-members : tie.Need-enum-known-members Inv-loop μ-loop
 enum-known-members c = search needs
 
--- src/fit.rt:126:9
 enum-told : tie.Need-enum-told Inv-loop μ-loop
 enum-told c = search needs
 
--- src/fit.rt:126:9
 returns : tie.Need-returns Inv-loop μ-loop
 returns c = search members-short
 
--- src/fit.rt:130:5
 loop-holds : tie.Need-loop-holds Inv-loop μ-loop
 loop-holds c = (search unsigned-within, search members-first)
 
--- src/fit.rt:131:27
 counted-end-requires : tie.Need-counted-end-requires Inv-loop μ-loop
 counted-end-requires c κs = omega arith
 
--- src/fit.rt:131:22
 enum-known-n : tie.Need-enum-known-n Inv-loop μ-loop
 enum-known-n c = search needs
 
--- src/fit.rt:132:13
 enum-told-2 : tie.Need-enum-told-2 Inv-loop μ-loop
 enum-told-2 c = search needs
 
--- src/fit.rt:132:13
 returns-2 : tie.Need-returns-2 Inv-loop μ-loop
 returns-2 c = search members-nameless
 
--- src/fit.rt:134:38
 signed-requires : tie.Need-signed-requires Inv-loop μ-loop
 signed-requires c κs = (search ended-within, omega arith)
 
--- src/fit.rt:134:26
 enum-known-value : tie.Need-enum-known-value Inv-loop μ-loop
 enum-known-value c = search needs
 
--- src/fit.rt:135:13
 enum-told-3 : tie.Need-enum-told-3 Inv-loop μ-loop
 enum-told-3 c = search needs
 
--- src/fit.rt:135:13
 returns-3 : tie.Need-returns-3 Inv-loop μ-loop
 returns-3 c = search members-cut
 
--- src/fit.rt:137:12
 is-between-requires : tie.Need-is-between-requires Inv-loop μ-loop
 is-between-requires c κs = search needs
 
--- src/fit.rt:138:13
 returns-4 : tie.Need-returns-4 Inv-loop μ-loop
 returns-4 c = search (members-found, sfits-of)
 
--- src/fit.rt:141:9
 sub-left : tie.Need-sub-left Inv-loop μ-loop
 sub-left c = omega arith
 
--- src/fit.rt:130:5
 loop-less : tie.Need-loop-less Inv-loop μ-loop
 loop-less c = omega arith
 
--- src/fit.rt:130:5
 loop-again : tie.Need-loop-again Inv-loop μ-loop
 loop-again c = (search signed-within, search (members-more, sfits-of))
 
--- src/fit.rt:121:1
 returns-5 : tie.Need-returns-5 Inv-loop μ-loop
 returns-5 c = search members-over
 

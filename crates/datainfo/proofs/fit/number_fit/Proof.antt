@@ -1,4 +1,4 @@
--- `number_fit` meets its contract: a number is known by where its token ends. Assumes nothing.
+-- `datainfo::fit::number_fit` meets its contract: a number is known by where its token ends. Assumes nothing.
 use Rattle.ascii.proofs.Bytes.{ended-within}
 use lib.ListN.{length}
 use Prim.Native.Nat.{_≤_}
@@ -7,44 +7,31 @@ use Rattle.datainfo.proofs.Figures.{number-none, number-room, number-to
 use borrow.Author.Needs.{needs}
 use Rattle.datainfo.proofs.fit.number_fit.Statement.{statement}
 use Rattle.datainfo.proofs.fit.number_fit.Tie as tie
-use Rattle.datainfo.proofs.fit.number_fit.Reads as reads
-use Rattle.datainfo.proofs.fit.number_fit.Lts as lts
-use Rattle.datainfo.proofs.fit.token_fit.Reads as token-fit-reads
-use Rattle.decimal.proofs.token.number_end.Reads as number-end-reads
 
--- src/fit.rt:174:23
 number-end-requires : tie.Need-number-end-requires
 number-end-requires c κs = search needs
 
--- src/fit.rt:174:18
 enum-known-e : tie.Need-enum-known-e
 enum-known-e c = search needs
 
--- src/fit.rt:175:9
 enum-told : tie.Need-enum-told
 enum-told c = search needs
 
--- src/fit.rt:175:9
 returns : tie.Need-returns
 returns c = search number-none
 
--- src/fit.rt:177:25
 sub-token-fit : tie.Need-sub-token-fit
 sub-token-fit c = search number-room
 
--- src/fit.rt:177:25
 part-token-fit-start : tie.Need-part-token-fit-start
 part-token-fit-start c = let h : c .before .before .before .before .before .before .args .p ≤ c .before .e .given .0 .0 = search number-room in omega arith
 
--- src/fit.rt:177:25
 part-token-fit-end : tie.Need-part-token-fit-end
 part-token-fit-end c = let h : c .before .before .before .before .before .before .args .p ≤ c .before .e .given .0 .0 = search number-room in let g : c .before .e .given .0 .0 ≤ length (c .before .before .before .before .before .before .args .v .now) = search ended-within in omega arith
 
--- src/fit.rt:177:5
 token-fit-requires : tie.Need-token-fit-requires
 token-fit-requires c κs = search needs
 
--- src/fit.rt:170:1
 returns-2 : tie.Need-returns-2
 returns-2 c = search number-token
 

@@ -1,15 +1,11 @@
--- `range_fit` meets its contract. Assumes nothing.
+-- `datainfo::fit::range_fit` meets its contract. Assumes nothing.
 use Rattle.datainfo.proofs.Figures.{range-fits, range-error}
 use Rattle.datainfo.proofs.fit.range_fit.Statement.{statement}
 use Rattle.datainfo.proofs.fit.range_fit.Tie as tie
-use Rattle.datainfo.proofs.fit.range_fit.Reads as reads
-use Rattle.datainfo.proofs.fit.range_fit.Lts as lts
 
--- src/fit.rt:78:9
 returns : tie.Need-returns
 returns c = search range-fits
 
--- src/fit.rt:74:1
 returns-2 : tie.Need-returns-2
 returns-2 c = search range-error
 

@@ -1,44 +1,34 @@
--- `severity` meets its contract. Assumes nothing.
+-- `datainfo::fit::severity` meets its contract. Assumes nothing.
 use Rattle.datainfo.proofs.Judged.{severity-is}
 use Rattle.datainfo.specs.Fit.{severity}
 use borrow.Author.Needs.{needs}
 use Rattle.datainfo.proofs.fit.severity.Statement.{statement}
 use Rattle.datainfo.proofs.fit.severity.Tie as tie
-use Rattle.datainfo.proofs.fit.severity.Reads as reads
-use Rattle.datainfo.proofs.fit.severity.Lts as lts
 
--- src/fit.rt:33:26
 enum-told : tie.Need-enum-told
 enum-told c = search needs
 
--- src/fit.rt:34:32
 enum-told-2 : tie.Need-enum-told-2
 enum-told-2 c = search needs
 
--- src/fit.rt:35:31
 enum-told-3 : tie.Need-enum-told-3
 enum-told-3 c = search needs
 
--- src/fit.rt:36:29
 enum-told-4 : tie.Need-enum-told-4
 enum-told-4 c = search needs
 
--- src/fit.rt:29:1
 returns : tie.Need-returns
 unfolding severity
 returns c = search severity-is
 
--- src/fit.rt:29:1
 returns-2 : tie.Need-returns-2
 unfolding severity
 returns-2 c = search severity-is
 
--- src/fit.rt:29:1
 returns-3 : tie.Need-returns-3
 unfolding severity
 returns-3 c = search severity-is
 
--- src/fit.rt:29:1
 returns-4 : tie.Need-returns-4
 unfolding severity
 returns-4 c = search severity-is

@@ -1,35 +1,24 @@
--- `token_fit` meets its contract: each type by its own function. Assumes nothing.
+-- `datainfo::fit::token_fit` meets its contract: each type by its own function. Assumes nothing.
 use Rattle.datainfo.proofs.Figures.{token-double, token-int, token-enum}
 use borrow.Author.Needs.{needs}
 use Rattle.datainfo.proofs.fit.token_fit.Statement.{statement}
 use Rattle.datainfo.proofs.fit.token_fit.Tie as tie
-use Rattle.datainfo.proofs.fit.token_fit.Reads as reads
-use Rattle.datainfo.proofs.fit.token_fit.Lts as lts
-use Rattle.datainfo.proofs.fit.double_fit.Reads as double-fit-reads
-use Rattle.datainfo.proofs.fit.enum_fit.Reads as enum-fit-reads
-use Rattle.datainfo.proofs.fit.int_fit.Reads as int-fit-reads
 
--- src/fit.rt:162:9
 double-fit-requires : tie.Need-double-fit-requires
 double-fit-requires c κs = search needs
 
--- src/fit.rt:162:9
 returns : tie.Need-returns
 returns c = search token-double
 
--- src/fit.rt:165:9
 int-fit-requires : tie.Need-int-fit-requires
 int-fit-requires c κs = search needs
 
--- src/fit.rt:165:9
 returns-2 : tie.Need-returns-2
 returns-2 c = search token-int
 
--- src/fit.rt:167:5
 enum-fit-requires : tie.Need-enum-fit-requires
 enum-fit-requires c κs = search needs
 
--- src/fit.rt:157:1
 returns-3 : tie.Need-returns-3
 returns-3 c = search token-enum
 

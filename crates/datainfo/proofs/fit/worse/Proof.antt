@@ -1,25 +1,18 @@
--- `worse` meets its contract: the one of the greater severity. Assumes nothing.
+-- `datainfo::fit::worse` meets its contract: the one of the greater severity. Assumes nothing.
 use Rattle.datainfo.proofs.Judged.{worse-first, worse-second}
 use borrow.Author.Needs.{needs}
 use Rattle.datainfo.proofs.fit.worse.Statement.{statement}
 use Rattle.datainfo.proofs.fit.worse.Tie as tie
-use Rattle.datainfo.proofs.fit.worse.Reads as reads
-use Rattle.datainfo.proofs.fit.worse.Lts as lts
-use Rattle.datainfo.proofs.fit.severity.Reads as severity-reads
 
--- src/fit.rt:44:8
 severity-requires : tie.Need-severity-requires
 severity-requires c κs = search needs
 
--- src/fit.rt:44:23
 severity-requires-2 : tie.Need-severity-requires-2
 severity-requires-2 c κs = search needs
 
--- src/fit.rt:45:9
 returns : tie.Need-returns
 returns c = search worse-first
 
--- src/fit.rt:41:1
 returns-2 : tie.Need-returns-2
 returns-2 c = search worse-second
 

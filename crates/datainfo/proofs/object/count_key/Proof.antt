@@ -1,4 +1,4 @@
--- `count_key` meets its contract. The invariant: members are left where the walk stands, after those of which n have the key. Assumes nothing.
+-- `datainfo::object::count_key` meets its contract. The invariant: members are left where the walk stands, after those of which n have the key. Assumes nothing.
 use Prim.Native.Nat.{_+_, _≤_}
 use lib.ListN.{length}
 use borrow.Author.Needs.{needs}
@@ -7,13 +7,6 @@ use Rattle.datainfo.proofs.Walks.{Inside, inside-ends, inside-at}
 use Rattle.datainfo.proofs.Objects.{CountAt, count-first, count-none, count-over, count-more}
 use Rattle.datainfo.proofs.object.count_key.Statement.{statement}
 use Rattle.datainfo.proofs.object.count_key.Tie as tie
-use Rattle.datainfo.proofs.object.count_key.Reads as reads
-use Rattle.datainfo.proofs.object.count_key.Lts as lts
-use Rattle.ascii.proofs.names.same.Reads as same-reads
-use Rattle.datainfo.proofs.object.counted_if.Reads as counted-if-reads
-use Rattle.datainfo.proofs.walk.first.Reads as first-reads
-use Rattle.datainfo.proofs.walk.key_at.Reads as key-at-reads
-use Rattle.datainfo.proofs.walk.next_member.Reads as next-member-reads
 
 abbrev Inv-loop : tie.InvT-loop
 Inv-loop v p depth name n₀ member₀ left₀ n member left = Inside v member × ((n + left ≤ length v) × CountAt depth v p name n member left)
@@ -21,59 +14,45 @@ Inv-loop v p depth name n₀ member₀ left₀ n member left = Inside v member �
 abbrev μ-loop : tie.MeasureT-loop
 μ-loop v p depth name n₀ member₀ left₀ n member left = left
 
--- src/object.rt:39:9
 first-requires : tie.Need-first-requires Inv-loop μ-loop
 first-requires c κs = omega arith
 
--- src/object.rt:40:20
 sub-left : tie.Need-sub-left Inv-loop μ-loop
 sub-left c = omega arith
 
--- src/object.rt:41:5
 loop-holds : tie.Need-loop-holds Inv-loop μ-loop
 loop-holds c = (search inside-ends, (omega arith, search count-first))
 
--- src/object.rt:42:22
 enum-known-member : tie.Need-enum-known-member Inv-loop μ-loop
 enum-known-member c = search needs
 
--- src/object.rt:43:13
 enum-told : tie.Need-enum-told Inv-loop μ-loop
 enum-told c = search needs
 
--- src/object.rt:43:13
 returns : tie.Need-returns Inv-loop μ-loop
 returns c = count-none _ _ _ _ _ _ _ (c .before .before .before .loop .inv .1 .1) (c .enum-told .given .1)
 
--- src/object.rt:45:38
 key-at-requires : tie.Need-key-at-requires Inv-loop μ-loop
 key-at-requires c κs = search inside-at
 
--- src/object.rt:45:27
 same-requires : tie.Need-same-requires Inv-loop μ-loop
 same-requires c κs = search needs
 
--- src/object.rt:45:9
 counted-if-requires : tie.Need-counted-if-requires Inv-loop μ-loop
 counted-if-requires c κs = omega arith
 
--- src/object.rt:46:9
 next-member-requires : tie.Need-next-member-requires Inv-loop μ-loop
 next-member-requires c κs = search inside-at
 
--- src/object.rt:47:9
 sub-left-2 : tie.Need-sub-left-2 Inv-loop μ-loop
 sub-left-2 c = omega arith
 
--- src/object.rt:41:5
 loop-less : tie.Need-loop-less Inv-loop μ-loop
 loop-less c = omega arith
 
--- src/object.rt:41:5
 loop-again : tie.Need-loop-again Inv-loop μ-loop
 loop-again c = (search inside-ends, (omega arith, search count-more))
 
--- src/object.rt:34:1
 returns-2 : tie.Need-returns-2 Inv-loop μ-loop
 returns-2 c = count-over _ _ _ _ _ _ _ (c .before .loop .inv .1 .1) (c .loop-test .left)
 

@@ -1,17 +1,10 @@
--- `find_key` meets its contract. The invariant: members are left where the walk stands, after those that do not have the key. Assumes nothing.
+-- `datainfo::object::find_key` meets its contract. The invariant: members are left where the walk stands, after those that do not have the key. Assumes nothing.
 use borrow.Author.Needs.{needs}
 use native.Mathlib.Omega.{arith}
 use Rattle.datainfo.proofs.Walks.{Inside, inside-ends, inside-at}
 use Rattle.datainfo.proofs.Objects.{FindAt, find-first, find-none, find-over, find-hit, find-more}
 use Rattle.datainfo.proofs.object.find_key.Statement.{statement}
 use Rattle.datainfo.proofs.object.find_key.Tie as tie
-use Rattle.datainfo.proofs.object.find_key.Reads as reads
-use Rattle.datainfo.proofs.object.find_key.Lts as lts
-use Rattle.ascii.proofs.names.same.Reads as same-reads
-use Rattle.datainfo.proofs.walk.first.Reads as first-reads
-use Rattle.datainfo.proofs.walk.key_at.Reads as key-at-reads
-use Rattle.datainfo.proofs.walk.member_value.Reads as member-value-reads
-use Rattle.datainfo.proofs.walk.next_member.Reads as next-member-reads
 
 abbrev Inv-loop : tie.InvT-loop
 Inv-loop v p depth name member₀ left₀ member left = Inside v member × FindAt depth v p name member left
@@ -19,63 +12,48 @@ Inv-loop v p depth name member₀ left₀ member left = Inside v member × FindA
 abbrev μ-loop : tie.MeasureT-loop
 μ-loop v p depth name member₀ left₀ member left = left
 
--- src/object.rt:57:9
 first-requires : tie.Need-first-requires Inv-loop μ-loop
 first-requires c κs = omega arith
 
--- src/object.rt:58:20
 sub-left : tie.Need-sub-left Inv-loop μ-loop
 sub-left c = omega arith
 
--- src/object.rt:59:5
 loop-holds : tie.Need-loop-holds Inv-loop μ-loop
 loop-holds c = (search inside-ends, search find-first)
 
--- src/object.rt:60:22
 enum-known-member : tie.Need-enum-known-member Inv-loop μ-loop
 enum-known-member c = search needs
 
--- src/object.rt:61:13
 enum-told : tie.Need-enum-told Inv-loop μ-loop
 enum-told c = search needs
 
--- src/object.rt:61:13
 returns : tie.Need-returns Inv-loop μ-loop
 returns c = search find-none
 
--- src/object.rt:63:23
 key-at-requires : tie.Need-key-at-requires Inv-loop μ-loop
 key-at-requires c κs = search inside-at
 
--- src/object.rt:63:12
 same-requires : tie.Need-same-requires Inv-loop μ-loop
 same-requires c κs = search needs
 
--- src/object.rt:64:13
 member-value-requires : tie.Need-member-value-requires Inv-loop μ-loop
 member-value-requires c κs = search inside-at
 
--- src/object.rt:64:13
 returns-2 : tie.Need-returns-2 Inv-loop μ-loop
 returns-2 c = search find-hit
 
--- src/object.rt:66:9
 next-member-requires : tie.Need-next-member-requires Inv-loop μ-loop
 next-member-requires c κs = search inside-at
 
--- src/object.rt:67:9
 sub-left-2 : tie.Need-sub-left-2 Inv-loop μ-loop
 sub-left-2 c = omega arith
 
--- src/object.rt:59:5
 loop-less : tie.Need-loop-less Inv-loop μ-loop
 loop-less c = omega arith
 
--- src/object.rt:59:5
 loop-again : tie.Need-loop-again Inv-loop μ-loop
 loop-again c = (search inside-ends, search find-more)
 
--- src/object.rt:53:1
 returns-3 : tie.Need-returns-3 Inv-loop μ-loop
 returns-3 c = search find-over
 

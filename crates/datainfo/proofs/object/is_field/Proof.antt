@@ -1,4 +1,4 @@
--- `is_field` meets its contract. The invariant: what is asked of all fields is asked of those from `field` on. Assumes nothing.
+-- `datainfo::object::is_field` meets its contract. The invariant: what is asked of all fields is asked of those from `field` on. Assumes nothing.
 use mathlib.Core.Bool.{true}
 use Rattle.datainfo.specs.Datainfo.{fieldNames}
 use Rattle.ascii.specs.Bytes.{any, same}
@@ -11,12 +11,6 @@ use native.Mathlib.Omega.{arith}
 use Rattle.datainfo.proofs.Objects.{FieldsAt, fields-short, fields-first, fields-over, fields-decided, fields-bad, fields-more, named, unnamed, nameless}
 use Rattle.datainfo.proofs.object.is_field.Statement.{statement}
 use Rattle.datainfo.proofs.object.is_field.Tie as tie
-use Rattle.datainfo.proofs.object.is_field.Reads as reads
-use Rattle.datainfo.proofs.object.is_field.Lts as lts
-use Rattle.ascii.proofs.names.same.Reads as same-reads
-use Rattle.ascii.proofs.numbers.unsigned.Reads as unsigned-reads
-use Rattle.datainfo.proofs.object.name_at.Reads as name-at-reads
-use Rattle.datainfo.proofs.layout.member_end.Reads as member-end-reads
 
 abbrev Inv-loop : tie.InvT-loop
 Inv-loop s at levels name count from field₀ left₀ field left = (field ≤ length s) × FieldsAt s at levels (λ fs. any (same name) (fieldNames fs)) field left
@@ -24,67 +18,51 @@ Inv-loop s at levels name count from field₀ left₀ field left = (field ≤ le
 abbrev μ-loop : tie.MeasureT-loop
 μ-loop s at levels name count from field₀ left₀ field left = left
 
--- src/object.rt:91:39
 unsigned-requires : tie.Need-unsigned-requires Inv-loop μ-loop
 unsigned-requires c κs = (omega arith, omega arith)
 
--- src/object.rt:91:24
 enum-known-count : tie.Need-enum-known-count Inv-loop μ-loop
 enum-known-count c = search needs
 
--- src/object.rt:92:9
 enum-told : tie.Need-enum-told Inv-loop μ-loop
 enum-told c = search needs
 
--- src/object.rt:92:9
 returns : tie.Need-returns Inv-loop μ-loop
 returns c = search fields-short
 
--- src/object.rt:96:5
 loop-holds : tie.Need-loop-holds Inv-loop μ-loop
 loop-holds c = (search unsigned-within, search fields-first)
 
--- src/object.rt:97:23
 name-at-requires : tie.Need-name-at-requires Inv-loop μ-loop
 name-at-requires c κs = omega arith
 
--- src/object.rt:97:12
 same-requires : tie.Need-same-requires Inv-loop μ-loop
 same-requires c κs = search needs
 
--- src/object.rt:98:13
 returns-2 : tie.Need-returns-2 Inv-loop μ-loop
 returns-2 c = fields-decided _ _ _ _ _ _ (c .before .before .before .before .loop .inv .1) (c .before .before .before .loop-test .taken) true (named _ _ _ (c .before .before .name-at .ensures) _ (c .before .same .ensures) (c .if1 .taken))
 
--- src/object.rt:100:27
 member-end-requires : tie.Need-member-end-requires Inv-loop μ-loop
 member-end-requires c κs = omega arith
 
--- src/object.rt:100:22
 enum-known-e : tie.Need-enum-known-e Inv-loop μ-loop
 enum-known-e c = search needs
 
--- src/object.rt:101:13
 enum-told-2 : tie.Need-enum-told-2 Inv-loop μ-loop
 enum-told-2 c = search needs
 
--- src/object.rt:101:13
 returns-3 : tie.Need-returns-3 Inv-loop μ-loop
 returns-3 c = search fields-bad
 
--- src/object.rt:104:9
 sub-left : tie.Need-sub-left Inv-loop μ-loop
 sub-left c = omega arith
 
--- src/object.rt:96:5
 loop-less : tie.Need-loop-less Inv-loop μ-loop
 loop-less c = omega arith
 
--- src/object.rt:96:5
 loop-again : tie.Need-loop-again Inv-loop μ-loop
 loop-again c = let m = c .before .before .before in let n = m .before .before .before in (search ended-within, fields-more _ _ _ _ _ _ (n .before .before .loop .inv .1) (n .before .loop-test .taken) _ (m .member-end .ensures) _ (c .before .e .given .1) (unnamed _ _ _ (n .name-at .ensures) _ (m .before .before .same .ensures) (m .before .if1 .left)))
 
--- src/object.rt:87:1
 returns-4 : tie.Need-returns-4 Inv-loop μ-loop
 returns-4 c = fields-over _ _ _ _ _ _ (c .before .loop .inv .1) (c .loop-test .left) _ (nameless _)
 

@@ -1,4 +1,4 @@
--- `keys_known` meets its contract. The invariant: what is asked of all keys is asked of those where the walk stands. Assumes nothing.
+-- `datainfo::object::keys_known` meets its contract. The invariant: what is asked of all keys is asked of those where the walk stands. Assumes nothing.
 use Rattle.datainfo.specs.Layout.{structAt, datainfoIn}
 use lib.ListN.{drop}
 use Rattle.datainfo.proofs.Walks.{Inside, inside-ends, inside-at}
@@ -7,12 +7,6 @@ use native.Mathlib.Omega.{arith}
 use Rattle.datainfo.proofs.Objects.{KnownAt, known-first, known-none, known-over, known-other, known-more}
 use Rattle.datainfo.proofs.object.keys_known.Statement.{statement}
 use Rattle.datainfo.proofs.object.keys_known.Tie as tie
-use Rattle.datainfo.proofs.object.keys_known.Reads as reads
-use Rattle.datainfo.proofs.object.keys_known.Lts as lts
-use Rattle.datainfo.proofs.object.is_field.Reads as is-field-reads
-use Rattle.datainfo.proofs.walk.first.Reads as first-reads
-use Rattle.datainfo.proofs.walk.key_at.Reads as key-at-reads
-use Rattle.datainfo.proofs.walk.next_member.Reads as next-member-reads
 
 abbrev Inv-loop : tie.InvT-loop
 Inv-loop s at levels v p depth member₀ left₀ member left = Inside v member × KnownAt (structAt (datainfoIn levels) (drop at s)) depth v p member left
@@ -20,59 +14,45 @@ Inv-loop s at levels v p depth member₀ left₀ member left = Inside v member �
 abbrev μ-loop : tie.MeasureT-loop
 μ-loop s at levels v p depth member₀ left₀ member left = left
 
--- src/object.rt:137:9
 first-requires : tie.Need-first-requires Inv-loop μ-loop
 first-requires c κs = omega arith
 
--- src/object.rt:138:20
 sub-left : tie.Need-sub-left Inv-loop μ-loop
 sub-left c = omega arith
 
--- src/object.rt:139:5
 loop-holds : tie.Need-loop-holds Inv-loop μ-loop
 loop-holds c = (search inside-ends, search known-first)
 
--- src/object.rt:140:22
 enum-known-member : tie.Need-enum-known-member Inv-loop μ-loop
 enum-known-member c = search needs
 
--- src/object.rt:141:13
 enum-told : tie.Need-enum-told Inv-loop μ-loop
 enum-told c = search needs
 
--- src/object.rt:141:13
 returns : tie.Need-returns Inv-loop μ-loop
 returns c = search known-none
 
--- src/object.rt:143:36
 key-at-requires : tie.Need-key-at-requires Inv-loop μ-loop
 key-at-requires c κs = search inside-at
 
--- src/object.rt:143:12
 is-field-requires : tie.Need-is-field-requires Inv-loop μ-loop
 is-field-requires c κs = omega arith
 
--- src/object.rt:144:13
 next-member-requires : tie.Need-next-member-requires Inv-loop μ-loop
 next-member-requires c κs = search inside-at
 
--- src/object.rt:145:13
 sub-left-2 : tie.Need-sub-left-2 Inv-loop μ-loop
 sub-left-2 c = omega arith
 
--- src/object.rt:139:5
 loop-less : tie.Need-loop-less Inv-loop μ-loop
 loop-less c = omega arith
 
--- src/object.rt:139:5
 loop-again : tie.Need-loop-again Inv-loop μ-loop
 loop-again c = (search inside-ends, search known-more)
 
--- src/object.rt:147:13
 returns-2 : tie.Need-returns-2 Inv-loop μ-loop
 returns-2 c = search known-other
 
--- src/object.rt:133:1
 returns-3 : tie.Need-returns-3 Inv-loop μ-loop
 returns-3 c = search known-over
 

@@ -1,4 +1,4 @@
--- `names_once` meets its contract. The invariant: what is asked of all fields is asked of those from `field` on. Assumes nothing.
+-- `datainfo::object::names_once` meets its contract. The invariant: what is asked of all fields is asked of those from `field` on. Assumes nothing.
 use Rattle.json.specs.Json.{value, objectEnd}
 use lib.ListN.{length, drop}
 use Prim.Native.Nat.{_≤_}
@@ -9,12 +9,6 @@ use native.Mathlib.Omega.{arith}
 use Rattle.datainfo.proofs.Objects.{OnceAt, once-short, once-first, once-over, once-wrong, once-bad, once-more}
 use Rattle.datainfo.proofs.object.names_once.Statement.{statement}
 use Rattle.datainfo.proofs.object.names_once.Tie as tie
-use Rattle.datainfo.proofs.object.names_once.Reads as reads
-use Rattle.datainfo.proofs.object.names_once.Lts as lts
-use Rattle.ascii.proofs.numbers.unsigned.Reads as unsigned-reads
-use Rattle.datainfo.proofs.layout.member_end.Reads as member-end-reads
-use Rattle.datainfo.proofs.object.count_key.Reads as count-key-reads
-use Rattle.datainfo.proofs.object.name_at.Reads as name-at-reads
 
 abbrev Inv-loop : tie.InvT-loop
 Inv-loop s at levels v p depth count from field₀ left₀ field left = (field ≤ length s) × OnceAt s at levels (objectEnd (value depth) (drop p v)) field left
@@ -22,67 +16,51 @@ Inv-loop s at levels v p depth count from field₀ left₀ field left = (field �
 abbrev μ-loop : tie.MeasureT-loop
 μ-loop s at levels v p depth count from field₀ left₀ field left = left
 
--- src/object.rt:114:39
 unsigned-requires : tie.Need-unsigned-requires Inv-loop μ-loop
 unsigned-requires c κs = (omega arith, omega arith)
 
--- src/object.rt:114:24
 enum-known-count : tie.Need-enum-known-count Inv-loop μ-loop
 enum-known-count c = search needs
 
--- src/object.rt:115:9
 enum-told : tie.Need-enum-told Inv-loop μ-loop
 enum-told c = search needs
 
--- src/object.rt:115:9
 returns : tie.Need-returns Inv-loop μ-loop
 returns c = search once-short
 
--- src/object.rt:119:5
 loop-holds : tie.Need-loop-holds Inv-loop μ-loop
 loop-holds c = (search unsigned-within, search once-first)
 
--- src/object.rt:120:35
 name-at-requires : tie.Need-name-at-requires Inv-loop μ-loop
 name-at-requires c κs = omega arith
 
--- src/object.rt:120:12
 count-key-requires : tie.Need-count-key-requires Inv-loop μ-loop
 count-key-requires c κs = omega arith
 
--- src/object.rt:121:13
 returns-2 : tie.Need-returns-2 Inv-loop μ-loop
 returns-2 c = once-wrong _ _ _ _ _ _ (c .before .before .before .before .loop .inv .1) (c .before .before .before .loop-test .taken) _ _ (c .before .before .name-at .ensures) (c .before .count-key .ensures) (c .if1 .taken)
 
--- src/object.rt:123:27
 member-end-requires : tie.Need-member-end-requires Inv-loop μ-loop
 member-end-requires c κs = omega arith
 
--- src/object.rt:123:22
 enum-known-e : tie.Need-enum-known-e Inv-loop μ-loop
 enum-known-e c = search needs
 
--- src/object.rt:124:13
 enum-told-2 : tie.Need-enum-told-2 Inv-loop μ-loop
 enum-told-2 c = search needs
 
--- src/object.rt:124:13
 returns-3 : tie.Need-returns-3 Inv-loop μ-loop
 returns-3 c = search once-bad
 
--- src/object.rt:127:9
 sub-left : tie.Need-sub-left Inv-loop μ-loop
 sub-left c = omega arith
 
--- src/object.rt:119:5
 loop-less : tie.Need-loop-less Inv-loop μ-loop
 loop-less c = omega arith
 
--- src/object.rt:119:5
 loop-again : tie.Need-loop-again Inv-loop μ-loop
 loop-again c = let m = c .before .before .before in let n = m .before .before .before in (search ended-within, once-more _ _ _ _ _ _ (n .before .before .loop .inv .1) (n .before .loop-test .taken) _ (m .member-end .ensures) _ (c .before .e .given .1) _ _ (n .name-at .ensures) (m .before .before .count-key .ensures) (m .before .if1 .left))
 
--- src/object.rt:110:1
 returns-4 : tie.Need-returns-4 Inv-loop μ-loop
 returns-4 c = search once-over
 

@@ -1,42 +1,30 @@
--- `next` meets its contract: after the value a comma stands or not. Assumes nothing.
+-- `datainfo::walk::next` meets its contract: after the value a comma stands or not. Assumes nothing.
 use Rattle.datainfo.proofs.Walks.{next-bad, next-last, next-more}
 use borrow.Author.Needs.{needs}
 use Rattle.datainfo.proofs.walk.next.Statement.{statement}
 use Rattle.datainfo.proofs.walk.next.Tie as tie
-use Rattle.datainfo.proofs.walk.next.Reads as reads
-use Rattle.datainfo.proofs.walk.next.Lts as lts
-use Rattle.ascii.proofs.byte.Reads as byte-reads
-use Rattle.json.proofs.read.value_end.Reads as value-end-reads
 
--- src/walk.rt:30:23
 value-end-requires : tie.Need-value-end-requires
 value-end-requires c κs = search needs
 
--- src/walk.rt:30:18
 enum-known-e : tie.Need-enum-known-e
 enum-known-e c = search needs
 
--- src/walk.rt:31:9
 enum-told : tie.Need-enum-told
 enum-told c = search needs
 
--- src/walk.rt:31:9
 returns : tie.Need-returns
 returns c = search next-bad
 
--- src/walk.rt:33:8
 byte-requires : tie.Need-byte-requires
 byte-requires c κs = search needs
 
--- src/walk.rt:34:9
 returns-2 : tie.Need-returns-2
 returns-2 c = search next-last
 
--- src/walk.rt:36:14
 add-t8 : tie.Need-add-t8
 add-t8 c = search needs
 
--- src/walk.rt:26:1
 returns-3 : tie.Need-returns-3
 returns-3 c = search next-more
 

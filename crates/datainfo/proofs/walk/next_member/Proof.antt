@@ -1,35 +1,25 @@
--- `next_member` meets its contract: the key with its colon is passed, then the value. Assumes nothing.
+-- `datainfo::walk::next_member` meets its contract: the key with its colon is passed, then the value. Assumes nothing.
 use Rattle.ascii.proofs.Bytes.{ended-within}
 use Rattle.datainfo.proofs.Walks.{member-bad, member-next}
 use borrow.Author.Needs.{needs}
 use Rattle.datainfo.proofs.walk.next_member.Statement.{statement}
 use Rattle.datainfo.proofs.walk.next_member.Tie as tie
-use Rattle.datainfo.proofs.walk.next_member.Reads as reads
-use Rattle.datainfo.proofs.walk.next_member.Lts as lts
-use Rattle.datainfo.proofs.walk.next.Reads as next-reads
-use Rattle.json.proofs.read.key_end.Reads as key-end-reads
 
--- src/walk.rt:44:23
 key-end-requires : tie.Need-key-end-requires
 key-end-requires c κs = search needs
 
--- src/walk.rt:44:18
 enum-known-c : tie.Need-enum-known-c
 enum-known-c c = search needs
 
--- src/walk.rt:45:9
 enum-told : tie.Need-enum-told
 enum-told c = search needs
 
--- src/walk.rt:45:9
 returns : tie.Need-returns
 returns c = search member-bad
 
--- src/walk.rt:47:5
 next-requires : tie.Need-next-requires
 next-requires c κs = search ended-within
 
--- src/walk.rt:40:1
 returns-2 : tie.Need-returns-2
 returns-2 c = search member-next
 

@@ -1,4 +1,4 @@
--- `quoted` meets its contract: a string ends behind its closing quote. Assumes nothing.
+-- `datainfo::walk::quoted` meets its contract: a string ends behind its closing quote. Assumes nothing.
 use lib.ListN.{length}
 use Rattle.ascii.proofs.Bytes.{ended-within}
 use Prim.Native.Nat.{_+_, _≤_}
@@ -7,80 +7,58 @@ use Rattle.datainfo.proofs.Walks.{quoted-none, quoted-bad, quoted-room,
 use borrow.Author.Needs.{needs}
 use Rattle.datainfo.proofs.walk.quoted.Statement.{statement}
 use Rattle.datainfo.proofs.walk.quoted.Tie as tie
-use Rattle.datainfo.proofs.walk.quoted.Reads as reads
-use Rattle.datainfo.proofs.walk.quoted.Lts as lts
-use Rattle.ascii.proofs.byte.Reads as byte-reads
-use Rattle.json.proofs.read.string_end.Reads as string-end-reads
 
--- src/walk.rt:55:8
 byte-requires : tie.Need-byte-requires
 byte-requires c κs = search needs
 
--- src/walk.rt:56:16
 sub-result : tie.Need-sub-result
 sub-result c = search needs
 
--- src/walk.rt:56:16
 part-result-start : tie.Need-part-result-start
 part-result-start c = search needs
 
--- src/walk.rt:56:16
 part-result-end : tie.Need-part-result-end
 part-result-end c = search needs
 
--- src/walk.rt:56:9
 returns : tie.Need-returns
 returns c = search quoted-none
 
--- src/walk.rt:58:16
 add-from : tie.Need-add-from
 add-from c = search needs
 
--- src/walk.rt:59:23
 string-end-requires : tie.Need-string-end-requires
 string-end-requires c κs = search needs
 
--- src/walk.rt:59:18
 enum-known-e : tie.Need-enum-known-e
 enum-known-e c = search needs
 
--- src/walk.rt:60:16
 enum-told : tie.Need-enum-told
 enum-told c = search needs
 
--- src/walk.rt:60:16
 sub-result-2 : tie.Need-sub-result-2
 sub-result-2 c = search needs
 
--- src/walk.rt:60:16
 part-result-start-2 : tie.Need-part-result-start-2
 part-result-start-2 c = search needs
 
--- src/walk.rt:60:16
 part-result-end-2 : tie.Need-part-result-end-2
 part-result-end-2 c = search needs
 
--- src/walk.rt:60:9
 returns-2 : tie.Need-returns-2
 returns-2 c = search quoted-bad
 
--- src/walk.rt:62:14
 sub-to : tie.Need-sub-to
 sub-to c = let h : c .before .before .before .before .before .before .before .args .p + 2 ≤ c .before .e .given .0 .0 = search quoted-room in omega arith
 
--- src/walk.rt:63:5
 sub-result-3 : tie.Need-sub-result-3
 sub-result-3 c = let h : c .before .before .before .before .before .before .before .args .p + 2 ≤ c .before .e .given .0 .0 = search quoted-room in omega arith
 
--- src/walk.rt:63:5
 part-result-start-3 : tie.Need-part-result-start-3
 part-result-start-3 c = let h : c .before .before .before .before .before .before .before .args .p + 2 ≤ c .before .e .given .0 .0 = search quoted-room in omega arith
 
--- src/walk.rt:63:5
 part-result-end-3 : tie.Need-part-result-end-3
 part-result-end-3 c = let h : c .before .before .before .before .before .before .before .args .p + 2 ≤ c .before .e .given .0 .0 = search quoted-room in let g : c .before .e .given .0 .0 ≤ length (c .before .before .before .before .before .before .before .args .v .now) = search ended-within in omega arith
 
--- src/walk.rt:51:1
 returns-3 : tie.Need-returns-3
 returns-3 c = search quoted-all
 
