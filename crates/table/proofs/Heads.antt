@@ -17,7 +17,7 @@ use Rattle.table.specs.declared.layout.Part.{Part}
 use Rattle.table.specs.declared.layout.ModuleAt.{ModuleAt}
 use Rattle.table.specs.declared.layout.Heading as H
 use Rattle.table.specs.declared.judge.Test.{Test}
-use Rattle.table.specs.declared.judge.Test.the-variants.{Names, Rules}
+use Rattle.table.specs.declared.judge.Test.the-variants.{Names, Rules, Initials}
 use Rattle.table.specs.declared.judge.Kind.the-variants.{Accessibles}
 use Rattle.table.specs.At.{bytesOf, Inside, accessiblesFrom, headingAt, moduleOf, ModuleIs, HeadingIs}
 use Rattle.table.specs.Judged.{passed, passes, modulePasses, namesFrom, headPasses}
@@ -57,6 +57,10 @@ module _ (s : List ℕ) (m : ModuleAt) (test : Test) where
   unfolding headPasses
   head-rules e = rw e
 
+  pub head-initials : test ≡ Initials → true ≡ headPasses test s m
+  unfolding headPasses
+  head-initials e = rw e
+
 abbrev allNamed : List Table.Accessible × List ℕ → List (List ℕ) × List ℕ
 allNamed q = (map accessibleName (q .0), q .1)
 
@@ -66,11 +70,13 @@ beginning s m Names o =
     isText (bytesOf s (m .description)) && noteGood (cond (m .noted) (some (bytesOf s (m .note))) none)
     && passed goodNames (o >>= λ q. some (allNamed q))
 beginning s m Rules o = true
+beginning s m Initials o = true
 
 head-as : (s : List ℕ) (m : ModuleAt) (test : Test) → headPasses test s m ≡ beginning s m test (accessiblesFrom s (m .next))
 unfolding headPasses namesFrom
 head-as s m Names = refl
 head-as s m Rules = refl
+head-as s m Initials = refl
 
 module _ (s : List ℕ) (at : ℕ) (h : H.Heading) (hh : HeadingIs s h (headingAt (drop at s))) where
   pub module-unread : (test : Test) → h ≡ H.the-variants.Bad → false ≡ passed (modulePasses test) (moduleAt (length s) (drop at s))
@@ -92,6 +98,7 @@ module _ (s : List ℕ) (at : ℕ) (h : H.Heading) (hh : HeadingIs s h (headingA
           go k none e = refl
           go Names (some q) e = rw (← e)
           go Rules (some q) e = let z : _≡_ {A = Bool} false true = e in absurd (false≢true z)
+          go Initials (some q) e = let z : _≡_ {A = Bool} false true = e in absurd (false≢true z)
 
       pub module-passes : (r : Bool) → not t ≡ false → r ≡ passed (all (passes test)) (accessiblesFrom s (m .next)) → r ≡ passed (modulePasses test) (moduleAt (length s) (drop at s))
       unfolding modulePasses moduleNamesGood moduleOf passes
@@ -101,3 +108,4 @@ module _ (s : List ℕ) (at : ℕ) (h : H.Heading) (hh : HeadingIs s h (headingA
           go k none z e = e
           go Names (some q) z e = rw (← z) e
           go Rules (some q) z e = e
+          go Initials (some q) z e = e
