@@ -39,7 +39,7 @@ module _ {A : Type 0} (of : List Accessible → List A) (g : A → A) where
   placed-enforced h n (m ∷ ms) =
       let place : A → Placed A = λ a. record { home = n; moduleName = m .name; it = a } in
       let these : map place (of (map enforcedAccessible (m .accessibles))) ≡ map within (map place (of (m .accessibles))) =
-          ap (map place) (h (m .accessibles)) ∙ map-map place g (of (m .accessibles)) ∙ sym (map-map within place (of (m .accessibles))) in
+      ap (map place) (h (m .accessibles)) ∙ map-map place g (of (m .accessibles)) ∙ sym (map-map within place (of (m .accessibles))) in
       ap₂ (λ (x y : List (Placed A)). x ++ y) these (placed-enforced h (suc n) ms)
       ∙ sym (map-append within (map place (of (m .accessibles))) (placedFrom of (suc n) ms))
 

@@ -49,6 +49,7 @@ variants-plain (v ∷ vs) h =
 
 mutual
   unfolding datainfoValue Datainfo.namesGood fieldNames all bytes
+
   datainfo-plain : (d : Datainfo) → Datainfo.namesGood d ≡ true → Plain (datainfoValue d)
   datainfo-plain (double lo hi) h = (refl, refl, (refl, decimal-number (lo .whole) (lo .power), (refl, decimal-number (hi .whole) (hi .power), tt)))
   datainfo-plain (int lo hi) h = (refl, refl, (refl, integer-number lo, (refl, integer-number hi, tt)))
@@ -116,8 +117,7 @@ modules-plain (m ∷ ms) g h =
     let a = both (isText (m .description) && noteGood (m .note) && goodNames (map accessibleName l)) (all accessibleNamesGood l) (p .0) in
     let b = both (isText (m .description) && noteGood (m .note)) (goodNames (map accessibleName l)) (a .0) in
     let c = both (isText (m .description)) (noteGood (m .note)) (b .0) in
-    let inner = accessibles-plain l (names-all (map accessibleName l) (b .1)) (a .1) in
-    (
+    let inner = accessibles-plain l (names-all (map accessibleName l) (b .1)) (a .1) in (
       name-lacks (m .name) (q .0),
       (refl, tt, (refl, text-lacks (m .description) (c .0), note-plain (m .note) (c .1) _ (refl, inner, tt))),
       modules-plain ms (q .1) (p .1),
@@ -129,8 +129,7 @@ names-plain t h =
     let names = map (λ (m : Module). m .name) (t .modules) in
     let a = both (isText (t .equipmentId) && isText (t .description) && goodNames names) (all moduleNamesGood (t .modules)) h in
     let b = both (isText (t .equipmentId) && isText (t .description)) (goodNames names) (a .0) in
-    let c = both (isText (t .equipmentId)) (isText (t .description)) (b .0) in
-    (
+    let c = both (isText (t .equipmentId)) (isText (t .description)) (b .0) in (
       refl,
       modules-plain (t .modules) (names-all names (b .1)) (a .1),
       (refl, text-lacks (t .equipmentId) (c .0), (refl, text-lacks (t .description) (c .1), tt)),

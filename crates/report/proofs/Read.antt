@@ -242,6 +242,7 @@ members-stop (member k v ms) rest = refl
 
 mutual
   unfolding readValue compact bytes size head tail isNumeric isIn
+
   pub value-back : (v : Json) → Plain v → (n : ℕ) → size v ≤ n → (rest : List ℕ) → Stop rest → readValue n (compact v ++ rest) ≡ (v, rest)
   value-back null p n h rest s = absurd p
   value-back (boolean b) p zero h rest s = absurd (omega arith)

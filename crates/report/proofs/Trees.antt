@@ -110,6 +110,7 @@ variants-back (v ∷ vs) = ap₂ (λ (z : ℤ) (l : List Variant). record { name
 
 mutual
   unfolding datainfoOf typed at elementsFrom fieldsFrom datainfoValue levels same bytes asNumber asString asArray asObject
+
   datainfo-back : (d : Datainfo) (n : ℕ) → levels d ≤ n → datainfoOf n (datainfoValue d) ≡ d
   datainfo-back (double lo hi) zero h = absurd (omega arith)
   datainfo-back (double lo hi) (suc n) h = ap₂ double (decimal-back (lo .whole) (lo .power)) (decimal-back (hi .whole) (hi .power))

@@ -1,9 +1,8 @@
 -- Laws of what is asked of a module and of the whole table, one for each way through a function that asks it. Assumes nothing.
-use Prim.Native.Nat.{ℕ, zero, suc, _+_, _-_, _≤_, _<_}
-use native.Mathlib.Omega.{arith}
-use mathlib.Core.Path.{_≡_, refl, sym, ap, _∙_}
+use Prim.Native.Nat.{ℕ, _-_}
+use mathlib.Core.Path.{_≡_, refl, sym, _∙_}
 use mathlib.Core.Bool.{Bool, true, false, cond, not, _&&_, false≢true}
-use mathlib.Core.List.{List, [], _∷_, map}
+use mathlib.Core.List.{List, map}
 use mathlib.Core.Option.{Option, none, some}
 use lib.ListN.{length, drop}
 use borrow.Author.Tests.{not-true, not-false}
@@ -12,17 +11,16 @@ use Rattle.ascii.specs.Names.{isText}
 use Rattle.datainfo.specs.Rules.{goodNames}
 use Rattle.table.specs.Table as Table
 use Rattle.table.specs.Layout.{moduleAt}
-use Rattle.table.specs.Rules.{accessibleName, noteGood, accessibleNamesGood, moduleNamesGood, rulesKept}
+use Rattle.table.specs.Rules.{accessibleName, noteGood, moduleNamesGood}
 use Rattle.table.specs.declared.layout.Part.{Part}
 use Rattle.table.specs.declared.layout.ModuleAt.{ModuleAt}
 use Rattle.table.specs.declared.layout.Heading as H
 use Rattle.table.specs.declared.judge.Test.{Test}
 use Rattle.table.specs.declared.judge.Test.the-variants.{Names, Rules, Initials}
 use Rattle.table.specs.declared.judge.Kind.the-variants.{Accessibles}
-use Rattle.table.specs.At.{bytesOf, Inside, accessiblesFrom, headingAt, moduleOf, ModuleIs, HeadingIs}
+use Rattle.table.specs.At.{bytesOf, Inside, accessiblesFrom, headingAt, moduleOf, HeadingIs}
 use Rattle.table.specs.Judged.{passed, passes, modulePasses, namesFrom, headPasses}
 use Rattle.table.proofs.Modules.{withThem, module-as, module-is}
-use Rattle.table.proofs.Tests.{and-false}
 
 module _ (s : List ℕ) (noted : Bool) (note : Part) where
   pub note-good : (r : Bool) → noted ≡ true → r ≡ isText (bytesOf s note) → r ≡ noteGood (cond noted (some (bytesOf s note)) none)

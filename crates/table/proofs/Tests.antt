@@ -1,42 +1,34 @@
 -- Laws of what is asked of a table's records, one for each way through a function that asks it. Assumes nothing.
-use Prim.Native.Nat.{ℕ, zero, suc, _+_, _-_, _≤_, _<_}
+use Prim.Native.Nat.{ℕ, _-_, _≤_}
 use native.Mathlib.Omega.{arith}
 use mathlib.Core.Path.{_≡_, refl, sym, ap, _∙_}
-use mathlib.Core.Bool.{Bool, true, false, cond, not, _&&_}
-use mathlib.Core.List.{List, [], _∷_, map}
+use mathlib.Core.Bool.{Bool, true, false, not, _&&_}
+use mathlib.Core.List.{List}
 use mathlib.Core.Option.{Option, none, some}
-use lib.ListN.{length, drop, length-drop}
+use lib.ListN.{length, drop}
 use borrow.Author.Tests.{not-true, not-false}
 use Rattle.ascii.specs.declared.Next.{Next}
 use Rattle.ascii.specs.declared.Next.the-variants.{At, Bad}
 use Rattle.ascii.specs.Text.{bytes}
-use Rattle.ascii.specs.Bytes.{_>>=_, all, any, same}
-use Rattle.ascii.specs.Names.{isName, isText, lowercase, distinct, unique}
+use Rattle.ascii.specs.Bytes.{_>>=_, all}
+use Rattle.ascii.specs.Names.{isText}
 use Rattle.ascii.specs.Reader.{Ends, rest}
 use Rattle.datainfo.specs.Datainfo.{Datainfo}
 use Rattle.datainfo.specs.Fit.{isStored}
 use Rattle.datainfo.specs.Rules as Datainfo
-use Rattle.datainfo.specs.Rules.{goodNames}
 use Rattle.datainfo.specs.Layout.{datainfoIn, datainfoAt}
 use Rattle.table.specs.Table as Table
 use Rattle.table.specs.Layout.{begins, argumentAt, accessiblesAt, moduleAt, modulesAt}
-use Rattle.table.specs.Rules.{accessibleName, ifAny, noteGood, accessibleNamesGood, moduleNamesGood, rulesKept, initialGood}
-use Rattle.table.specs.declared.layout.Part.{Part}
+use Rattle.table.specs.Rules.{ifAny, accessibleNamesGood, rulesKept, initialGood}
 use Rattle.table.specs.declared.layout.ParameterAt.{ParameterAt}
 use Rattle.table.specs.declared.layout.CommandAt.{CommandAt}
 use Rattle.table.specs.declared.layout.Accessible as A
-use Rattle.table.specs.declared.layout.ModuleAt.{ModuleAt}
-use Rattle.table.specs.declared.layout.Heading as H
 use Rattle.table.specs.declared.judge.Test.{Test}
 use Rattle.table.specs.declared.judge.Test.the-variants.{Names, Rules, Initials}
-use Rattle.table.specs.declared.judge.Kind.{Kind}
-use Rattle.table.specs.declared.judge.Kind.the-variants.{Modules, Accessibles}
-use Rattle.table.specs.declared.judge.Named as N
-use Rattle.table.specs.At.{bytesOf, Inside, accessibleBegins, accessibleAt, accessiblesFrom, parameterOf, ParameterIs, commandOf, CommandIs, AccessibleIs, headingAt, moduleOf, ModuleIs, HeadingIs, modulesFrom}
-use Rattle.table.specs.Judged.{passed, textPasses, infoPasses, valuePasses, passes, modulePasses, kindBegins, namedAt, namesFrom, NameIs, NamedIs, differs, howMany, headPasses}
+use Rattle.table.specs.At.{bytesOf, Inside, accessibleBegins, accessibleAt, accessiblesFrom, parameterOf, commandOf, AccessibleIs, modulesFrom}
+use Rattle.table.specs.Judged.{passed, textPasses, infoPasses, valuePasses, passes}
 use Rattle.table.proofs.Accessibles.{in-some}
-use Rattle.table.proofs.Enough.{before, accessibles-stop, accessibles-more, accessible-less, modules-stop, modules-more, module-less}
-use Rattle.table.proofs.Modules.{withAccessibles, members, module-as, module-is}
+use Rattle.table.proofs.Enough.{before, accessibles-stop, accessibles-more, modules-stop, modules-more}
 
 -- ## One accessible
 

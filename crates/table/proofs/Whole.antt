@@ -1,8 +1,8 @@
 -- Laws of what is asked of the whole table: counts (number 2), names (number 3), datainfos (number 4), initial values (number 5). Assumes nothing.
-use Prim.Native.Nat.{ℕ, zero, suc, _+_, _-_, _≤_, _<_}
+use Prim.Native.Nat.{ℕ, suc, _+_, _-_, _≤_, _<_}
 use native.Mathlib.Omega.{arith}
 use mathlib.Core.Path.{_≡_, refl, sym, ap, _∙_}
-use mathlib.Core.Bool.{Bool, true, false, cond, not, _&&_, false≢true}
+use mathlib.Core.Bool.{Bool, true, false, cond, not, false≢true}
 use mathlib.Core.List.{List, [], _∷_, map}
 use mathlib.Core.Option.{Option, none, some}
 use lib.ListN.{length, drop}
@@ -29,7 +29,7 @@ use Rattle.table.specs.At.{bytesOf, Inside, textsAt, TextsAt, accessible
 use Rattle.table.specs.Judged.{passed, modulePasses, namesFrom, howMany, ModuleHas, MembersAre, few, numberBelow6}
 use Rattle.table.proofs.Accessibles.{Got, got, in-some, rest-none}
 use Rattle.table.proofs.Enough.{before, modules-stop, modules-more, module-less}
-use Rattle.table.proofs.Modules.{withThem, module-as, module-is, afterNode, table-as, less}
+use Rattle.table.proofs.Modules.{withThem, module-as, module-is, table-as, less}
 
 -- ## A table that was read
 
