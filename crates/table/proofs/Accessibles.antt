@@ -1,22 +1,21 @@
 -- Laws of parameters and commands, one for each way through a function that reads one. Assumes nothing.
-use Prim.Native.Nat.{ℕ, _+_, _-_, _≤_, _<_}
+use Prim.Native.Nat.{ℕ, _-_, _≤_}
 use native.Mathlib.Omega.{arith}
 use mathlib.Core.Path.{_≡_, refl, sym, ap, _∙_}
-use mathlib.Core.Bool.{Bool, true, false, cond, _||_}
+use mathlib.Core.Bool.{Bool, true, false}
 use mathlib.Core.List.{List, [], _∷_}
 use mathlib.Core.Option.{Option, none, some}
-use lib.ListN.{length, take, drop, length-drop}
+use lib.ListN.{length, drop, length-drop}
 use Rattle.ascii.specs.declared.Next.{Next}
 use Rattle.ascii.specs.declared.Next.the-variants.{At, Bad}
 use Rattle.ascii.specs.Text.{bytes}
-use Rattle.ascii.specs.Bytes.{_>>=_, isSome, after, part}
+use Rattle.ascii.specs.Bytes.{_>>=_, after, part}
 use Rattle.ascii.specs.Numbers.{unsigned}
 use Rattle.ascii.specs.Reader.{Ends, rest}
-use Rattle.datainfo.specs.Datainfo.{Datainfo}
 use Rattle.datainfo.specs.Layout.{counted, datainfoIn, datainfoAt}
 use Rattle.json.proofs.Rest.{rest-map}
 use Rattle.table.specs.Table as Table
-use Rattle.table.specs.Layout.{begins, flag, argumentAt, parameterAt, commandAt, noteAt}
+use Rattle.table.specs.Layout.{begins, flag, argumentAt, parameterAt, commandAt}
 use Rattle.table.specs.declared.layout.Part.{Part}
 use Rattle.table.specs.declared.layout.Bytes as B
 use Rattle.table.specs.declared.layout.Texts as T
@@ -24,7 +23,7 @@ use Rattle.table.specs.declared.layout.Flag as F
 use Rattle.table.specs.declared.layout.ParameterAt.{ParameterAt}
 use Rattle.table.specs.declared.layout.CommandAt.{CommandAt}
 use Rattle.table.specs.declared.layout.Accessible as A
-use Rattle.table.specs.At.{bytesOf, Inside, SizedIs, Sized, textsAt, TextsAre, TextsAt, FlagIs, accessibleBegins, accessibleAt, parameterOf, ParameterIs, commandOf, CommandIs, AccessibleIs}
+use Rattle.table.specs.At.{Sized, textsAt, TextsAt, FlagIs, accessibleBegins, accessibleAt, parameterOf, ParameterIs, commandOf, CommandIs, AccessibleIs}
 
 -- ## Readers that go on after a record's beginning
 

@@ -1,20 +1,19 @@
 -- The counts of `accessiblesAt` and `modulesAt` never cut a table short: with any count that is at least the number of bytes they read
 -- the same. The reason: no reader leaves more than it was given, and each record takes a byte at least. Assumes nothing.
-use Prim.Native.Nat.{ℕ, zero, suc, _+_, _-_, _≤_, _<_}
+use Prim.Native.Nat.{ℕ, zero, suc, _-_, _≤_, _<_}
 use native.Mathlib.Omega.{arith}
-use mathlib.Core.Path.{_≡_, refl, sym, ap, _∙_}
+use mathlib.Core.Path.{_≡_, refl, sym, _∙_}
 use mathlib.Core.Bool.{Bool, true, false, cond, false≢true}
 use mathlib.Core.List.{List, [], _∷_}
 use mathlib.Core.Option.{Option, none, some}
-use lib.ListN.{length, take, drop, length-drop}
+use lib.ListN.{length, drop, length-drop}
 use lib.Dec.{leb, eqb}
 use Rattle.ascii.specs.Text.{bytes}
-use Rattle.ascii.specs.Bytes.{_>>=_, isSome, after, part}
+use Rattle.ascii.specs.Bytes.{_>>=_, after, part}
 use Rattle.ascii.specs.Numbers.{unsigned, signed}
 use Rattle.ascii.specs.Reader.{rest}
 use Rattle.datainfo.specs.Datainfo.{Datainfo}
-use Rattle.datainfo.specs.Layout.{counted, limit, doubleAt, intAt, variants, enumAt, stringAt, arrayAt, elements, tupleAt, fields, structAt, typed, datainfoIn, datainfoAt}
-use Rattle.table.specs.Table as Table
+use Rattle.datainfo.specs.Layout.{counted, limit, doubleAt, intAt, variants, enumAt, stringAt, arrayAt, elements, tupleAt, fields, structAt, typed, datainfoIn}
 use Rattle.table.specs.Layout.{begins, flag, argumentAt, parameterAt, commandAt, accessiblesAt, noteAt, moduleAt, modulesAt}
 use Rattle.table.specs.At.{accessibleBegins, accessibleAt, accessiblesFrom, modulesFrom}
 

@@ -1,9 +1,8 @@
 -- Laws of what is asked of a module and of the whole table, one for each way through a function that asks it. Assumes nothing.
-use Prim.Native.Nat.{ℕ, zero, suc, _+_, _-_, _≤_, _<_}
-use native.Mathlib.Omega.{arith}
-use mathlib.Core.Path.{_≡_, refl, sym, ap, _∙_}
+use Prim.Native.Nat.{ℕ, _-_}
+use mathlib.Core.Path.{_≡_, refl, sym, _∙_}
 use mathlib.Core.Bool.{Bool, true, false, cond, not, _&&_, false≢true}
-use mathlib.Core.List.{List, [], _∷_, map}
+use mathlib.Core.List.{List, map}
 use mathlib.Core.Option.{Option, none, some}
 use lib.ListN.{length, drop}
 use borrow.Author.Tests.{not-true, not-false}
@@ -12,17 +11,16 @@ use Rattle.ascii.specs.Names.{isText}
 use Rattle.datainfo.specs.Rules.{goodNames}
 use Rattle.table.specs.Table as Table
 use Rattle.table.specs.Layout.{moduleAt}
-use Rattle.table.specs.Rules.{accessibleName, noteGood, accessibleNamesGood, moduleNamesGood, rulesKept}
+use Rattle.table.specs.Rules.{accessibleName, noteGood, moduleNamesGood}
 use Rattle.table.specs.declared.layout.Part.{Part}
 use Rattle.table.specs.declared.layout.ModuleAt.{ModuleAt}
 use Rattle.table.specs.declared.layout.Heading as H
 use Rattle.table.specs.declared.judge.Test.{Test}
-use Rattle.table.specs.declared.judge.Test.the-variants.{Names, Rules}
+use Rattle.table.specs.declared.judge.Test.the-variants.{Names, Rules, Initials}
 use Rattle.table.specs.declared.judge.Kind.the-variants.{Accessibles}
-use Rattle.table.specs.At.{bytesOf, Inside, accessiblesFrom, headingAt, moduleOf, ModuleIs, HeadingIs}
+use Rattle.table.specs.At.{bytesOf, Inside, accessiblesFrom, headingAt, moduleOf, HeadingIs}
 use Rattle.table.specs.Judged.{passed, passes, modulePasses, namesFrom, headPasses}
 use Rattle.table.proofs.Modules.{withThem, module-as, module-is}
-use Rattle.table.proofs.Tests.{and-false}
 
 module _ (s : List ℕ) (noted : Bool) (note : Part) where
   pub note-good : (r : Bool) → noted ≡ true → r ≡ isText (bytesOf s note) → r ≡ noteGood (cond noted (some (bytesOf s note)) none)
@@ -57,6 +55,10 @@ module _ (s : List ℕ) (m : ModuleAt) (test : Test) where
   unfolding headPasses
   head-rules e = rw e
 
+  pub head-initials : test ≡ Initials → true ≡ headPasses test s m
+  unfolding headPasses
+  head-initials e = rw e
+
 abbrev allNamed : List Table.Accessible × List ℕ → List (List ℕ) × List ℕ
 allNamed q = (map accessibleName (q .0), q .1)
 
@@ -66,11 +68,13 @@ beginning s m Names o =
     isText (bytesOf s (m .description)) && noteGood (cond (m .noted) (some (bytesOf s (m .note))) none)
     && passed goodNames (o >>= λ q. some (allNamed q))
 beginning s m Rules o = true
+beginning s m Initials o = true
 
 head-as : (s : List ℕ) (m : ModuleAt) (test : Test) → headPasses test s m ≡ beginning s m test (accessiblesFrom s (m .next))
 unfolding headPasses namesFrom
 head-as s m Names = refl
 head-as s m Rules = refl
+head-as s m Initials = refl
 
 module _ (s : List ℕ) (at : ℕ) (h : H.Heading) (hh : HeadingIs s h (headingAt (drop at s))) where
   pub module-unread : (test : Test) → h ≡ H.the-variants.Bad → false ≡ passed (modulePasses test) (moduleAt (length s) (drop at s))
@@ -92,6 +96,7 @@ module _ (s : List ℕ) (at : ℕ) (h : H.Heading) (hh : HeadingIs s h (headingA
           go k none e = refl
           go Names (some q) e = rw (← e)
           go Rules (some q) e = let z : _≡_ {A = Bool} false true = e in absurd (false≢true z)
+          go Initials (some q) e = let z : _≡_ {A = Bool} false true = e in absurd (false≢true z)
 
       pub module-passes : (r : Bool) → not t ≡ false → r ≡ passed (all (passes test)) (accessiblesFrom s (m .next)) → r ≡ passed (modulePasses test) (moduleAt (length s) (drop at s))
       unfolding modulePasses moduleNamesGood moduleOf passes
@@ -101,3 +106,4 @@ module _ (s : List ℕ) (at : ℕ) (h : H.Heading) (hh : HeadingIs s h (headingA
           go k none z e = e
           go Names (some q) z e = rw (← z) e
           go Rules (some q) z e = e
+          go Initials (some q) z e = e

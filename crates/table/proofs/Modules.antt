@@ -1,19 +1,18 @@
 -- Laws of modules and of the whole table, one for each way through a function that reads them. Assumes nothing.
-use Prim.Native.Nat.{ℕ, zero, suc, _+_, _-_, _≤_, _<_}
+use Prim.Native.Nat.{ℕ, _-_, _≤_, _<_}
 use native.Mathlib.Omega.{arith}
 use mathlib.Core.Path.{_≡_, refl, sym, ap, _∙_}
 use mathlib.Core.Bool.{Bool, true, false, cond}
 use mathlib.Core.List.{List, [], _∷_}
 use mathlib.Core.Option.{Option, none, some}
 use lib.ListN.{length, drop, length-drop}
-use lib.Dec.{leb, eqb}
+use lib.Dec.{eqb}
 use borrow.Author.Tests.{le-leb, lt-leb, eq-eqb, ne-eqb, eqb-true, eqb-false}
 use Rattle.ascii.specs.declared.Next.{Next}
 use Rattle.ascii.specs.declared.Next.the-variants.{At, Bad}
 use Rattle.ascii.specs.Text.{bytes}
 use Rattle.ascii.specs.Bytes.{_>>=_, isSome, after}
 use Rattle.ascii.specs.Reader.{Ends, rest}
-use Rattle.datainfo.specs.Layout.{counted}
 use Rattle.json.proofs.Rest.{rest-map}
 use Rattle.table.specs.Table as Table
 use Rattle.table.specs.Layout.{begins, accessiblesAt, noteAt, moduleAt, modulesAt, wholeTable, readTable}
@@ -23,7 +22,7 @@ use Rattle.table.specs.declared.layout.Texts as T
 use Rattle.table.specs.declared.layout.Note as N
 use Rattle.table.specs.declared.layout.ModuleAt.{ModuleAt}
 use Rattle.table.specs.declared.layout.Heading as H
-use Rattle.table.specs.At.{bytesOf, Inside, Sized, textsAt, TextsAt, accessibleBegins, accessibleAt, accessiblesFrom, NoteRead, NoteIs, headingAt, moduleOf, ModuleIs, HeadingIs, modulesFrom}
+use Rattle.table.specs.At.{bytesOf, Sized, textsAt, TextsAt, accessibleBegins, accessibleAt, accessiblesFrom, NoteRead, NoteIs, headingAt, moduleOf, ModuleIs, HeadingIs, modulesFrom}
 use Rattle.table.proofs.Records.{text-bad, text-is, text-inside}
 use Rattle.table.proofs.Accessibles.{goesOn, texts-then, rest-none, Got, got}
 use Rattle.table.proofs.Enough.{before, accessibles-stop, accessibles-more, accessible-less, modules-stop, modules-more, module-less}

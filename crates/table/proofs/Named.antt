@@ -1,23 +1,22 @@
 -- Laws of the names of records, whatever the records' kind, one for each way through a function that reads them. Assumes nothing.
-use Prim.Native.Nat.{ℕ, zero, suc, _+_, _-_, _≤_, _<_}
-use native.Mathlib.Numerals.{add-one}
+use Prim.Native.Nat.{ℕ, _+_, _-_, _≤_, _<_}
 use native.Mathlib.Omega.{arith}
 use mathlib.Core.Path.{_≡_, refl, sym, ap, _∙_}
-use mathlib.Core.Bool.{Bool, true, false, cond, not, _&&_, _||_}
+use mathlib.Core.Bool.{Bool, true, false, not, _&&_, _||_}
 use mathlib.Core.List.{List, [], _∷_, map}
 use mathlib.Core.Option.{Option, none, some}
-use lib.ListN.{length, drop, length-drop}
+use lib.ListN.{length, drop}
 use borrow.Author.Tests.{not-true, not-false}
 use Rattle.ascii.specs.declared.Next.{Next}
 use Rattle.ascii.specs.declared.Next.the-variants.{At, Bad}
 use Rattle.ascii.specs.Text.{bytes}
 use Rattle.ascii.specs.Bytes.{_>>=_, all, any, same}
-use Rattle.ascii.specs.Names.{isName, isText, lowercase, distinct, unique}
+use Rattle.ascii.specs.Names.{isName, lowercase, distinct, unique}
 use Rattle.ascii.specs.Reader.{Ends, rest}
 use Rattle.datainfo.specs.Rules.{goodNames}
 use Rattle.table.specs.Table as Table
 use Rattle.table.specs.Layout.{begins, accessiblesAt, moduleAt, modulesAt}
-use Rattle.table.specs.Rules.{accessibleName, noteGood}
+use Rattle.table.specs.Rules.{accessibleName}
 use Rattle.table.specs.declared.layout.Part.{Part}
 use Rattle.table.specs.declared.layout.ParameterAt.{ParameterAt}
 use Rattle.table.specs.declared.layout.CommandAt.{CommandAt}
@@ -27,7 +26,7 @@ use Rattle.table.specs.declared.layout.Heading as H
 use Rattle.table.specs.declared.judge.Kind.{Kind}
 use Rattle.table.specs.declared.judge.Kind.the-variants.{Modules, Accessibles}
 use Rattle.table.specs.declared.judge.Named as N
-use Rattle.table.specs.At.{bytesOf, Inside, accessibleBegins, accessibleAt, accessiblesFrom, parameterOf, ParameterIs, commandOf, CommandIs, AccessibleIs, headingAt, moduleOf, ModuleIs, HeadingIs, modulesFrom}
+use Rattle.table.specs.At.{bytesOf, Inside, accessibleBegins, accessibleAt, accessiblesFrom, parameterOf, commandOf, AccessibleIs, headingAt, moduleOf, HeadingIs}
 use Rattle.table.specs.Judged.{passed, kindBegins, namedAt, namesFrom, NameIs, NamedIs, differs, howMany}
 use Rattle.table.proofs.Accessibles.{got, in-some, rest-none}
 use Rattle.table.proofs.Enough.{before, accessibles-stop, accessibles-more, accessible-less, modules-stop, modules-more, module-less}

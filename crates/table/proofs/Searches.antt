@@ -1,7 +1,6 @@
 -- Laws of searches, one for each way through a function that searches. Assumes nothing.
-use Prim.Native.Nat.{ℕ, zero, suc, _+_, _-_, _≤_, _<_}
+use Prim.Native.Nat.{ℕ, suc, _+_, _-_, _≤_}
 use native.Mathlib.Numerals.{add-one}
-use native.Mathlib.Omega.{arith}
 use mathlib.Core.Path.{_≡_, refl, sym, ap, _∙_}
 use mathlib.Core.Bool.{Bool, true, false, cond}
 use mathlib.Core.List.{List, [], _∷_}
@@ -21,8 +20,7 @@ use Rattle.table.specs.At.{bytesOf, textsAt, TextsAt, modulesFrom}
 use Rattle.table.specs.Judged.{kindBegins, namedAt, NamedIs}
 use Rattle.table.specs.Found.{isCalled, ModuleAt, FindsModule}
 use Rattle.table.proofs.Accessibles.{in-some}
-use Rattle.table.proofs.Enough.{before, modules-stop, modules-more, module-less}
-use Rattle.table.proofs.Modules.{less}
+use Rattle.table.proofs.Enough.{before, modules-stop, modules-more}
 use Rattle.table.proofs.Named.{Was, was, none-was}
 use Rattle.table.proofs.Whole.{opened, unread, never}
 

@@ -1,41 +1,34 @@
 -- Laws of what is asked of a table's records, one for each way through a function that asks it. Assumes nothing.
-use Prim.Native.Nat.{ℕ, zero, suc, _+_, _-_, _≤_, _<_}
+use Prim.Native.Nat.{ℕ, _-_, _≤_}
 use native.Mathlib.Omega.{arith}
 use mathlib.Core.Path.{_≡_, refl, sym, ap, _∙_}
-use mathlib.Core.Bool.{Bool, true, false, cond, not, _&&_}
-use mathlib.Core.List.{List, [], _∷_, map}
+use mathlib.Core.Bool.{Bool, true, false, not, _&&_}
+use mathlib.Core.List.{List}
 use mathlib.Core.Option.{Option, none, some}
-use lib.ListN.{length, drop, length-drop}
+use lib.ListN.{length, drop}
 use borrow.Author.Tests.{not-true, not-false}
 use Rattle.ascii.specs.declared.Next.{Next}
 use Rattle.ascii.specs.declared.Next.the-variants.{At, Bad}
 use Rattle.ascii.specs.Text.{bytes}
-use Rattle.ascii.specs.Bytes.{_>>=_, all, any, same}
-use Rattle.ascii.specs.Names.{isName, isText, lowercase, distinct, unique}
+use Rattle.ascii.specs.Bytes.{_>>=_, all}
+use Rattle.ascii.specs.Names.{isText}
 use Rattle.ascii.specs.Reader.{Ends, rest}
 use Rattle.datainfo.specs.Datainfo.{Datainfo}
+use Rattle.datainfo.specs.Fit.{isStored}
 use Rattle.datainfo.specs.Rules as Datainfo
-use Rattle.datainfo.specs.Rules.{goodNames}
 use Rattle.datainfo.specs.Layout.{datainfoIn, datainfoAt}
 use Rattle.table.specs.Table as Table
 use Rattle.table.specs.Layout.{begins, argumentAt, accessiblesAt, moduleAt, modulesAt}
-use Rattle.table.specs.Rules.{accessibleName, ifAny, noteGood, accessibleNamesGood, moduleNamesGood, rulesKept}
-use Rattle.table.specs.declared.layout.Part.{Part}
+use Rattle.table.specs.Rules.{ifAny, accessibleNamesGood, rulesKept, initialGood}
 use Rattle.table.specs.declared.layout.ParameterAt.{ParameterAt}
 use Rattle.table.specs.declared.layout.CommandAt.{CommandAt}
 use Rattle.table.specs.declared.layout.Accessible as A
-use Rattle.table.specs.declared.layout.ModuleAt.{ModuleAt}
-use Rattle.table.specs.declared.layout.Heading as H
 use Rattle.table.specs.declared.judge.Test.{Test}
-use Rattle.table.specs.declared.judge.Test.the-variants.{Names, Rules}
-use Rattle.table.specs.declared.judge.Kind.{Kind}
-use Rattle.table.specs.declared.judge.Kind.the-variants.{Modules, Accessibles}
-use Rattle.table.specs.declared.judge.Named as N
-use Rattle.table.specs.At.{bytesOf, Inside, accessibleBegins, accessibleAt, accessiblesFrom, parameterOf, ParameterIs, commandOf, CommandIs, AccessibleIs, headingAt, moduleOf, ModuleIs, HeadingIs, modulesFrom}
-use Rattle.table.specs.Judged.{passed, textPasses, infoPasses, passes, modulePasses, kindBegins, namedAt, namesFrom, NameIs, NamedIs, differs, howMany, headPasses}
+use Rattle.table.specs.declared.judge.Test.the-variants.{Names, Rules, Initials}
+use Rattle.table.specs.At.{bytesOf, Inside, accessibleBegins, accessibleAt, accessiblesFrom, parameterOf, commandOf, AccessibleIs, modulesFrom}
+use Rattle.table.specs.Judged.{passed, textPasses, infoPasses, valuePasses, passes}
 use Rattle.table.proofs.Accessibles.{in-some}
-use Rattle.table.proofs.Enough.{before, accessibles-stop, accessibles-more, accessible-less, modules-stop, modules-more, module-less}
-use Rattle.table.proofs.Modules.{withAccessibles, members, module-as, module-is}
+use Rattle.table.proofs.Enough.{before, accessibles-stop, accessibles-more, modules-stop, modules-more}
 
 -- ## One accessible
 
@@ -48,6 +41,10 @@ module _ (test : Test) where
   unfolding textPasses
   text-rules x e = rw e
 
+  pub text-initials : (x : List ℕ) → test ≡ Initials → true ≡ textPasses test x
+  unfolding textPasses
+  text-initials x e = rw e
+
   pub info-names : (d : Datainfo) (r : Bool) → test ≡ Names → r ≡ Datainfo.namesGood d → r ≡ infoPasses test d
   unfolding infoPasses
   info-names d r e h = rw e h
@@ -56,13 +53,34 @@ module _ (test : Test) where
   unfolding infoPasses
   info-rules d r e h = rw e h
 
-passes-parameter : (test : Test) (p : Table.Parameter) → passes test (Table.parameter p) ≡ (textPasses test (p .description) && infoPasses test (p .datainfo))
-unfolding passes textPasses infoPasses accessibleNamesGood rulesKept
-passes-parameter Names p = refl
-passes-parameter Rules p = refl
+  pub info-initials : (d : Datainfo) → test ≡ Initials → true ≡ infoPasses test d
+  unfolding infoPasses
+  info-initials d e = rw e
+
+  pub value-names : (d : Datainfo) (x : List ℕ) → test ≡ Names → true ≡ valuePasses test d x
+  unfolding valuePasses
+  value-names d x e = rw e
+
+  pub value-rules : (d : Datainfo) (x : List ℕ) → test ≡ Rules → true ≡ valuePasses test d x
+  unfolding valuePasses
+  value-rules d x e = rw e
+
+  pub value-initials : (d : Datainfo) (x : List ℕ) (r : Bool) → test ≡ Initials → r ≡ isStored d x → r ≡ valuePasses test d x
+  unfolding valuePasses
+  value-initials d x r e h = rw e h
+
+and-true : (b : Bool) → b ≡ (b && true)
+and-true true = refl
+and-true false = refl
+
+passes-parameter : (test : Test) (p : Table.Parameter) → passes test (Table.parameter p) ≡ (textPasses test (p .description) && infoPasses test (p .datainfo) && valuePasses test (p .datainfo) (p .initial))
+unfolding passes textPasses infoPasses valuePasses accessibleNamesGood rulesKept initialGood
+passes-parameter Names p = and-true _
+passes-parameter Rules p = and-true _
+passes-parameter Initials p = refl
 
 passes-command : (test : Test) (c : Table.Command) → passes test (Table.command c) ≡ (textPasses test (c .description) && ifAny (infoPasses test) (c .argument))
-unfolding passes textPasses infoPasses accessibleNamesGood rulesKept ifAny
+unfolding passes textPasses infoPasses accessibleNamesGood rulesKept initialGood ifAny
 passes-command Names c = go (c .argument)
   where
     go : (a : Option Datainfo) → (isText (c .description) && ifAny Datainfo.namesGood a) ≡ (isText (c .description) && ifAny (infoPasses Names) a)
@@ -73,19 +91,29 @@ passes-command Rules c = go (c .argument)
     go : (a : Option Datainfo) → ifAny Datainfo.rulesKept a ≡ ifAny (infoPasses Rules) a
     go none = refl
     go (some d) = refl
+passes-command Initials c = go (c .argument)
+  where
+    go : (a : Option Datainfo) → true ≡ ifAny (infoPasses Initials) a
+    go none = refl
+    go (some d) = refl
 
 abbrev asArgument : Datainfo × List ℕ → Option Datainfo × List ℕ
 asArgument p = (some (p .0), p .1)
 
 module _ (s : List ℕ) (test : Test) (t : Bool) where
   module _ (q : ParameterAt) (h : t ≡ textPasses test (bytesOf s (q .description))) (d : Datainfo) where
-    pub parameter-both : (r : Bool) → t ≡ true → r ≡ infoPasses test d → r ≡ passes test (Table.parameter (parameterOf s q d))
-    unfolding parameterOf
-    parameter-both r e i = rw (passes-parameter, ← h, e) i
-
     pub parameter-not : t ≡ false → false ≡ passes test (Table.parameter (parameterOf s q d))
     unfolding parameterOf
     parameter-not e = rw (passes-parameter, ← h, e)
+
+    module _ (e : t ≡ true) (u : Bool) (i : u ≡ infoPasses test d) where
+      pub parameter-ruled : u ≡ false → false ≡ passes test (Table.parameter (parameterOf s q d))
+      unfolding parameterOf
+      parameter-ruled g = rw (passes-parameter, ← h, e, ← i, g)
+
+      pub parameter-all : (r : Bool) → u ≡ true → r ≡ valuePasses test d (bytesOf s (q .initial)) → r ≡ passes test (Table.parameter (parameterOf s q d))
+      unfolding parameterOf
+      parameter-all r g k = rw (passes-parameter, ← h, e, ← i, g) k
 
   module _ (q : CommandAt) (h : t ≡ textPasses test (bytesOf s (q .description))) (a : Option Datainfo) (x : List ℕ) (g : argumentAt (q .argument) (drop (q .info) s) ≡ some (a, x)) where
     pub command-not : t ≡ false → false ≡ passes test (Table.command (commandOf s q a))
@@ -111,6 +139,9 @@ module _ (s : List ℕ) (r : A.Accessible) (o : Option (Table.Accessible × List
   module _ (q : ParameterAt) (e : r ≡ A.the-variants.Parameter q) where
     pub parameter-text : Inside s (q .description)
     parameter-text = (rw e at h) .description
+
+    pub parameter-initial : Inside s (q .initial)
+    parameter-initial = (rw e at h) .initial
 
     pub parameter-info : q .info ≤ length s
     parameter-info = (rw e at h) .infoWithin

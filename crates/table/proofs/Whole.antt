@@ -1,8 +1,8 @@
--- Laws of what is asked of the whole table: counts (number 2), names (number 3), datainfos (number 4). Assumes nothing.
-use Prim.Native.Nat.{ℕ, zero, suc, _+_, _-_, _≤_, _<_}
+-- Laws of what is asked of the whole table: counts (number 2), names (number 3), datainfos (number 4), initial values (number 5). Assumes nothing.
+use Prim.Native.Nat.{ℕ, suc, _+_, _-_, _≤_, _<_}
 use native.Mathlib.Omega.{arith}
 use mathlib.Core.Path.{_≡_, refl, sym, ap, _∙_}
-use mathlib.Core.Bool.{Bool, true, false, cond, not, _&&_}
+use mathlib.Core.Bool.{Bool, true, false, cond, not, false≢true}
 use mathlib.Core.List.{List, [], _∷_, map}
 use mathlib.Core.Option.{Option, none, some}
 use lib.ListN.{length, drop}
@@ -11,25 +11,25 @@ use borrow.Author.Tests.{not-true, not-false, leb-true, leb-false, le-leb, lt-le
 use Rattle.ascii.specs.declared.Next.{Next}
 use Rattle.ascii.specs.declared.Next.the-variants.{At, Bad}
 use Rattle.ascii.specs.Text.{bytes}
-use Rattle.ascii.specs.Bytes.{_>>=_, after, all}
+use Rattle.ascii.specs.Bytes.{_>>=_, isSome, after, all}
 use Rattle.ascii.specs.Names.{isText}
 use Rattle.ascii.specs.Reader.{Ends, rest}
 use Rattle.datainfo.specs.Rules.{goodNames, isBetween}
 use Rattle.table.specs.Table as Table
-use Rattle.table.specs.Layout.{begins, moduleAt, modulesAt, wholeTable}
-use Rattle.table.specs.Rules.{accessibleName, accessibleCount, countsGood, namesGood, datainfosGood}
+use Rattle.table.specs.Layout.{begins, moduleAt, modulesAt, wholeTable, readTable}
+use Rattle.table.specs.Rules.{accessibleName, accessibleCount, countsGood, namesGood, datainfosGood, initialsGood}
 use Rattle.table.specs.declared.layout.Part.{Part}
 use Rattle.table.specs.declared.layout.Texts as T
 use Rattle.table.specs.declared.layout.ModuleAt.{ModuleAt}
 use Rattle.table.specs.declared.layout.Heading as H
-use Rattle.table.specs.declared.judge.Test.the-variants.{Names, Rules}
+use Rattle.table.specs.declared.judge.Test.the-variants.{Names, Rules, Initials}
 use Rattle.table.specs.declared.judge.Kind.the-variants.{Modules, Accessibles}
 use Rattle.table.specs.declared.judge.Members as M
 use Rattle.table.specs.At.{bytesOf, Inside, textsAt, TextsAt, accessiblesFrom, headingAt, moduleOf, HeadingIs, modulesFrom}
-use Rattle.table.specs.Judged.{passed, modulePasses, namesFrom, howMany, ModuleHas, MembersAre, few}
+use Rattle.table.specs.Judged.{passed, modulePasses, namesFrom, howMany, ModuleHas, MembersAre, few, numberBelow6}
 use Rattle.table.proofs.Accessibles.{Got, got, in-some, rest-none}
 use Rattle.table.proofs.Enough.{before, modules-stop, modules-more, module-less}
-use Rattle.table.proofs.Modules.{withThem, module-as, module-is, afterNode, table-as, less}
+use Rattle.table.proofs.Modules.{withThem, module-as, module-is, table-as, less}
 
 -- ## A table that was read
 
@@ -115,6 +115,10 @@ module _ (s : List ℕ) (r : T.Texts) (h : TextsAt s r (textsAt (78 ∷ 68 ∷ [
   pub datainfos-all : (d : Bool) → d ≡ passed (all (modulePasses Rules)) (modulesFrom s (q .to)) → d ≡ datainfosGood t
   unfolding datainfosGood modulePasses
   datainfos-all d hd = hd ∙ rw (x .modules)
+
+  pub initials-all : (d : Bool) → d ≡ passed (all (modulePasses Initials)) (modulesFrom s (q .to)) → d ≡ initialsGood t
+  unfolding initialsGood modulePasses
+  initials-all d hd = hd ∙ rw (x .modules)
 
 -- ## Counts
 
@@ -214,3 +218,58 @@ module _ (s : List ℕ) (r : T.Texts) (h : TextsAt s r (textsAt (78 ∷ 68 ∷ [
   pub counts-all : (d : Bool) → 1 ≤ n → n ≤ 16 → d ≡ passed (few 64) (modulesFrom s (q .to)) → d ≡ countsGood t
   unfolding countsGood isBetween few
   counts-all d g l hd = rw (← modules-many, le-leb 1 n g, le-leb n 16 l) (hd ∙ rw (y .modules))
+
+-- ## The number
+
+pub number-unread : (s : List ℕ) (b : Bool) → b ≡ isSome (readTable s) → not b ≡ true → 1 ≡ numberBelow6 (readTable s)
+unfolding numberBelow6
+number-unread s b h n = go (readTable s) (sym h ∙ not-true b n)
+  where
+    go : (o : Option Table.Table) → isSome o ≡ false → 1 ≡ numberBelow6 o
+    go none e = refl
+    go (some t) e = absurd (false≢true (sym e))
+
+record Told (o : Option Table.Table) : Type 0 where
+  it : Table.Table
+  is : o ≡ some it
+
+-- a table that can be read, of which each test says what it should
+module _ (s : List ℕ) (b : Bool) (h : b ≡ isSome (readTable s)) (n : not b ≡ false) where
+  is-read : Told (readTable s)
+  is-read = go (readTable s) (sym h ∙ not-false b n)
+    where
+      go : (o : Option Table.Table) → isSome o ≡ true → Told o
+      go none e = absurd (false≢true e)
+      go (some t) e = record { it = t; is = refl }
+
+  whole : (t : Table.Table) → readTable s ≡ some t → wholeTable s ≡ some t
+  unfolding readTable
+  whole t = go (leb (length s) 16384)
+    where
+      go : (c : Bool) → cond c (wholeTable s) none ≡ some t → wholeTable s ≡ some t
+      go true e = e
+      go false e = absurd (never e)
+
+  module _ (c : Bool) (hc : (t : Table.Table) → wholeTable s ≡ some t → c ≡ countsGood t) where
+    pub number-2 : not c ≡ true → 2 ≡ numberBelow6 (readTable s)
+    unfolding numberBelow6
+    number-2 k = let g = is-read in rw (g .is, ← (hc (g .it) (whole (g .it) (g .is))), not-true c k)
+
+    module _ (nc : not c ≡ false) (d : Bool) (hd : (t : Table.Table) → wholeTable s ≡ some t → d ≡ namesGood t) where
+      pub number-3 : not d ≡ true → 3 ≡ numberBelow6 (readTable s)
+      unfolding numberBelow6
+      number-3 k = let g = is-read in let w = whole (g .it) (g .is) in rw (g .is, ← (hc (g .it) w), not-false c nc, ← (hd (g .it) w), not-true d k)
+
+      module _ (nd : not d ≡ false) (e : Bool) (he : (t : Table.Table) → wholeTable s ≡ some t → e ≡ datainfosGood t) where
+        pub number-4 : not e ≡ true → 4 ≡ numberBelow6 (readTable s)
+        unfolding numberBelow6
+        number-4 k = let g = is-read in let w = whole (g .it) (g .is) in rw (g .is, ← (hc (g .it) w), not-false c nc, ← (hd (g .it) w), not-false d nd, ← (he (g .it) w), not-true e k)
+
+        module _ (ne : not e ≡ false) (f : Bool) (hf : (t : Table.Table) → wholeTable s ≡ some t → f ≡ initialsGood t) where
+          pub number-5 : not f ≡ true → 5 ≡ numberBelow6 (readTable s)
+          unfolding numberBelow6
+          number-5 k = let g = is-read in let w = whole (g .it) (g .is) in rw (g .is, ← (hc (g .it) w), not-false c nc, ← (hd (g .it) w), not-false d nd, ← (he (g .it) w), not-false e ne, ← (hf (g .it) w), not-true f k)
+
+          pub number-0 : not f ≡ false → 0 ≡ numberBelow6 (readTable s)
+          unfolding numberBelow6
+          number-0 k = let g = is-read in let w = whole (g .it) (g .is) in rw (g .is, ← (hc (g .it) w), not-false c nc, ← (hd (g .it) w), not-false d nd, ← (he (g .it) w), not-false e ne, ← (hf (g .it) w), not-false f k)

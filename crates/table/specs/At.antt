@@ -1,17 +1,17 @@
 -- What the code that reads records answers: positions of the table's bytes, and what they stand for. Assumes nothing.
-use Prim.Native.Nat.{ℕ, _+_, _-_, _≤_, _<_}
+use Prim.Native.Nat.{ℕ, _-_, _≤_}
 use mathlib.Core.Path.{_≡_}
-use mathlib.Core.Bool.{Bool, true, false, cond, _||_}
-use mathlib.Core.List.{List, [], _∷_}
+use mathlib.Core.Bool.{Bool, cond, _||_}
+use mathlib.Core.List.{List, []}
 use mathlib.Core.Option.{Option, none, some}
 use lib.ListN.{length, take, drop}
 use Rattle.ascii.specs.Text.{bytes}
-use Rattle.ascii.specs.Bytes.{_>>=_, isSome, after, part}
+use Rattle.ascii.specs.Bytes.{_>>=_, after, part}
 use Rattle.ascii.specs.Numbers.{unsigned}
 use Rattle.datainfo.specs.Datainfo.{Datainfo}
 use Rattle.datainfo.specs.Layout.{counted, datainfoAt}
 use Rattle.table.specs.Table as Table
-use Rattle.table.specs.Layout.{begins, flag, argumentAt, parameterAt, commandAt, accessiblesAt, noteAt, modulesAt}
+use Rattle.table.specs.Layout.{begins, argumentAt, parameterAt, commandAt, accessiblesAt, noteAt, modulesAt}
 use Rattle.table.specs.declared.layout.Part.{Part}
 use Rattle.table.specs.declared.layout.Bytes as B
 use Rattle.table.specs.declared.layout.Texts as T

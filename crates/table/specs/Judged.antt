@@ -2,7 +2,7 @@
 use Prim.Native.Nat.{ℕ, _+_, _≤_}
 use mathlib.Core.Path.{_≡_}
 use mathlib.Core.Bool.{Bool, true, false, cond, not, _&&_}
-use mathlib.Core.List.{List, [], _∷_, map}
+use mathlib.Core.List.{List, map}
 use mathlib.Core.Option.{Option, none, some}
 use lib.Dec.{leb}
 use lib.ListN.{length, drop}
@@ -10,16 +10,17 @@ use Rattle.ascii.specs.Text.{bytes}
 use Rattle.ascii.specs.Bytes.{_>>=_, all, same}
 use Rattle.ascii.specs.Names.{isText, lowercase}
 use Rattle.datainfo.specs.Datainfo.{Datainfo}
+use Rattle.datainfo.specs.Fit.{isStored}
 use Rattle.datainfo.specs.Rules as Datainfo
 use Rattle.datainfo.specs.Rules.{goodNames}
-use Rattle.table.specs.Table.{Accessible, Module}
+use Rattle.table.specs.Table.{Accessible, Module, Table}
 use Rattle.table.specs.Layout.{begins, moduleAt}
-use Rattle.table.specs.Rules.{accessibleName, accessibleCount, noteGood, accessibleNamesGood, moduleNamesGood, rulesKept}
+use Rattle.table.specs.Rules.{accessibleName, accessibleCount, noteGood, accessibleNamesGood, moduleNamesGood, rulesKept, initialGood, countsGood, namesGood, datainfosGood, initialsGood}
 use Rattle.table.specs.At.{bytesOf, Inside, accessibleBegins, accessibleAt, accessiblesFrom, modulesFrom}
 use Rattle.table.specs.declared.layout.Part.{Part}
 use Rattle.table.specs.declared.layout.ModuleAt.{ModuleAt}
 use Rattle.table.specs.declared.judge.Test.{Test}
-use Rattle.table.specs.declared.judge.Test.the-variants.{Names, Rules}
+use Rattle.table.specs.declared.judge.Test.the-variants.{Names, Rules, Initials}
 use Rattle.table.specs.declared.judge.Kind.{Kind}
 use Rattle.table.specs.declared.judge.Kind.the-variants.{Modules, Accessibles}
 use Rattle.table.specs.declared.judge.Named as N
@@ -35,18 +36,27 @@ passed p (some a) = p (a .0)
 unfoldable pub textPasses : Test → List ℕ → Bool
 textPasses Names x = isText x
 textPasses Rules x = true
+textPasses Initials x = true
 
 unfoldable pub infoPasses : Test → Datainfo → Bool
 infoPasses Names d = Datainfo.namesGood d
 infoPasses Rules d = Datainfo.rulesKept d
+infoPasses Initials d = true
+
+unfoldable pub valuePasses : Test → Datainfo → List ℕ → Bool
+valuePasses Names d x = true
+valuePasses Rules d x = true
+valuePasses Initials d x = isStored d x
 
 unfoldable pub passes : Test → Accessible → Bool
 passes Names a = accessibleNamesGood a
 passes Rules a = rulesKept a
+passes Initials a = initialGood a
 
 unfoldable pub modulePasses : Test → Module → Bool
 modulePasses Names m = moduleNamesGood m
 modulePasses Rules m = all rulesKept (m .accessibles)
+modulePasses Initials m = all initialGood (m .accessibles)
 
 -- ## Names
 
@@ -97,6 +107,7 @@ headPasses Names s m =
     isText (bytesOf s (m .description)) && noteGood (cond (m .noted) (some (bytesOf s (m .note))) none)
     && passed goodNames (namesFrom Accessibles s (m .next))
 headPasses Rules s m = true
+headPasses Initials s m = true
 
 -- ## Counts
 
@@ -114,3 +125,17 @@ MembersAre s M.the-variants.Bad o = o ≡ none
 -- at most so many accessibles in all
 unfoldable pub few : ℕ → List Module → Bool
 few most ms = leb (accessibleCount ms) most
+
+-- ## The number
+
+-- "Several faults: the lowest number.", of the numbers 1 to 5
+unfoldable pub numberBelow6 : Option Table → ℕ
+numberBelow6 none = 1
+numberBelow6 (some t) =
+    cond (countsGood t)
+    (cond (namesGood t)
+    (cond (datainfosGood t)
+    (cond (initialsGood t) 0 5)
+    4)
+    3)
+    2

@@ -1,4 +1,4 @@
-// What is asked of a table that can be read: numbers 2 to 4. A table that can't be read is number 1, which comes before: what is
+// What is asked of a table that can be read: numbers 2 to 5. A table that can't be read is number 1, which comes before: what is
 // answered about such a table does not matter.
 use crate::layout::Accessible;
 use crate::layout::CommandAt;
@@ -13,12 +13,14 @@ use crate::layout::accessibles_end;
 use crate::layout::heading_at;
 use crate::layout::is_accessible;
 use crate::layout::is_module;
+use crate::layout::is_readable;
 use crate::layout::module_end;
 use crate::layout::texts_at;
 use ascii::Next;
 use ascii::names::is_name;
 use ascii::names::is_text;
 use ascii::names::same_lowercase;
+use datainfo::fit::is_stored;
 ghost use mathlib.Core.Path.{_≡_};
 ghost use mathlib.Core.Bool.{cond};
 ghost use mathlib.Core.List.{List};
@@ -28,20 +30,22 @@ ghost use lib.ListN.{length, drop};
 ghost use Rattle.ascii.specs.Bytes.{all};
 ghost use Rattle.ascii.specs.Names.{isName, isText};
 ghost use Rattle.datainfo.specs.Datainfo.{Datainfo};
+ghost use Rattle.datainfo.specs.Fit.{isStored};
 ghost use Rattle.datainfo.specs.Layout.{datainfoIn};
 ghost use Rattle.datainfo.specs.Rules.{goodNames};
 ghost use Rattle.table.specs.Table.{Table, parameter, command};
-ghost use Rattle.table.specs.Layout.{argumentAt, moduleAt, wholeTable};
-ghost use Rattle.table.specs.Rules.{noteGood, countsGood, namesGood, datainfosGood};
+ghost use Rattle.table.specs.Layout.{argumentAt, moduleAt, wholeTable, readTable};
+ghost use Rattle.table.specs.Rules.{noteGood, countsGood, namesGood, datainfosGood, initialsGood};
 ghost use Rattle.table.specs.At.{bytesOf, Inside, accessibleAt, accessiblesFrom, parameterOf, commandOf, moduleOf, modulesFrom};
 ghost use Rattle.table.specs.declared.judge.Kind.the-variants as Kind;
 ghost use Rattle.table.specs.declared.judge.Test.the-variants as Test;
-ghost use Rattle.table.specs.Judged.{passed, textPasses, infoPasses, passes, modulePasses, headPasses, kindBegins, namedAt, namesFrom, differs, NamedIs, howMany, MembersAre, few};
+ghost use Rattle.table.specs.Judged.{passed, textPasses, infoPasses, valuePasses, passes, modulePasses, headPasses, kindBegins, namedAt, namesFrom, differs, NamedIs, howMany, MembersAre, few, numberBelow6};
 
-// What is asked of each accessible: its texts and the names in its datainfo, or the rules of its datainfo.
+// What is asked of each accessible: its texts and the names in its datainfo, or the rules of its datainfo, or its initial value.
 pub enum Test {
     Names,
     Rules,
+    Initials,
 }
 
 // The records that have names: all modules of the table, or the accessibles of one module.
@@ -79,6 +83,7 @@ fn info_passes(s: &[u8], at: usize, test: Test) -> bool
     match test {
         Test::Names => datainfo::rules::names_good(s, at, 4),
         Test::Rules => datainfo::rules::rules_kept(s, at, 4),
+        Test::Initials => true,
     }
 }
 
@@ -90,17 +95,43 @@ fn text_passes(s: &[u8], p: Part, test: Test) -> bool
     match test {
         Test::Names => part_is_text(s, p),
         Test::Rules => true,
+        Test::Initials => true,
+    }
+}
+
+fn part_is_stored(s: &[u8], info: usize, p: Part) -> bool
+    requires { ⌜ (info ≤ length (now s)) × Inside (now s) p ⌝ }
+    ensures { λ r. ⌜ ((d : Datainfo) (x : List ℕ) → datainfoIn 4 (drop info (now (s .entry))) ≡ some (d, x) → r ≡ isStored d (bytesOf (now (s .entry)) p)) ⌝ }
+{
+    let from = p.from;
+    let to = p.to;
+    is_stored(s, info, &s[from..to])
+}
+
+// Whether an initial value passes.
+fn value_passes(s: &[u8], info: usize, p: Part, test: Test) -> bool
+    requires { ⌜ (info ≤ length (now s)) × Inside (now s) p ⌝ }
+    ensures { λ r. ⌜ ((d : Datainfo) (x : List ℕ) → datainfoIn 4 (drop info (now (s .entry))) ≡ some (d, x) → r ≡ valuePasses test d (bytesOf (now (s .entry)) p)) ⌝ }
+{
+    match test {
+        Test::Names => true,
+        Test::Rules => true,
+        Test::Initials => part_is_stored(s, info, p),
     }
 }
 
 fn parameter_passes(s: &[u8], q: ParameterAt, test: Test) -> bool
-    requires { ⌜ Inside (now s) (q .description) × (q .info ≤ length (now s)) ⌝ }
+    requires { ⌜ (Inside (now s) (q .description) × Inside (now s) (q .initial)) × (q .info ≤ length (now s)) ⌝ }
     ensures { λ r. ⌜ ((d : Datainfo) (x : List ℕ) → datainfoIn 4 (drop (q .info) (now (s .entry))) ≡ some (d, x) → r ≡ passes test (parameter (parameterOf (now (s .entry)) q d))) ⌝ }
 {
     let description = q.description;
     let info = q.info;
+    let initial = q.initial;
     if text_passes(s, description, test) {
-        return info_passes(s, info, test);
+        if info_passes(s, info, test) {
+            return value_passes(s, info, initial, test);
+        }
+        return false;
     }
     false
 }
@@ -314,6 +345,7 @@ fn heading_passes(s: &[u8], m: ModuleAt, test: Test) -> bool
     match test {
         Test::Names => heading_is_good(s, m),
         Test::Rules => true,
+        Test::Initials => true,
     }
 }
 
@@ -431,4 +463,37 @@ pub fn datainfos_good(s: &[u8]) -> bool
     };
     let first = description.to;
     modules_pass(s, first, Test::Rules)
+}
+
+// Number 5: whether all initial values are in stored form and fit.
+pub fn initials_good(s: &[u8]) -> bool
+    ensures { λ r. ⌜ ((t : Table) → wholeTable (now (s .entry)) ≡ some t → r ≡ initialsGood t) ⌝ }
+{
+    let Texts::At(_, description) = texts_at(s, 0, b'N', b'D') else {
+        return false;
+    };
+    let first = description.to;
+    modules_pass(s, first, Test::Initials)
+}
+
+// The lowest of the numbers 1 to 5 that are the table's, or 0. Number 6 is the structure report's.
+pub fn number_below_6(s: &[u8]) -> u8
+    ensures { λ r. ⌜ r ≡ numberBelow6 (readTable (now (s .entry))) ⌝ }
+{
+    if !is_readable(s) {
+        return 1;
+    }
+    if !counts_good(s) {
+        return 2;
+    }
+    if !names_good(s) {
+        return 3;
+    }
+    if !datainfos_good(s) {
+        return 4;
+    }
+    if !initials_good(s) {
+        return 5;
+    }
+    0
 }

@@ -1,6 +1,6 @@
 -- `table::judge::accessible_passes` meets its contract. Assumes nothing.
 use borrow.Author.Needs.{needs}
-use Rattle.table.proofs.Tests.{parameter-text, parameter-info, command-text, command-info, parameter-passes, command-passes, bad-passes}
+use Rattle.table.proofs.Tests.{parameter-text, parameter-initial, parameter-info, command-text, command-info, parameter-passes, command-passes, bad-passes}
 use Rattle.table.proofs.judge.accessible_passes.Statement.{statement}
 use Rattle.table.proofs.judge.accessible_passes.Tie as tie
 
@@ -11,7 +11,7 @@ enum-known-q : tie.Need-enum-known-q
 enum-known-q c = search needs
 
 parameter-passes-requires : tie.Need-parameter-passes-requires
-parameter-passes-requires c κs = (search parameter-text, search parameter-info)
+parameter-passes-requires c κs = ((search parameter-text, search parameter-initial), search parameter-info)
 
 enum-known-q-2 : tie.Need-enum-known-q-2
 enum-known-q-2 c = search needs
