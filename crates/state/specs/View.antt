@@ -11,6 +11,7 @@ use Rattle.message.specs.Line.{Line, whole, overlong}
 use Rattle.table.specs.Table.{Parameter}
 use Rattle.table.specs.Layout.{tableOf}
 use Rattle.table.specs.Search.{Placed, parameters}
+use Rattle.outbox.specs.Outbox.{Record, encodeAll}
 use Rattle.plain.specs.Node.{Client, closed, connected, Value, Node}
 use Rattle.state.specs.declared.Clients.{Clients}
 use Rattle.state.specs.declared.Settings.{Settings}
@@ -66,3 +67,11 @@ view table s values =
 -- "An accepted setting writes its stored form at the front of them and no other byte."
 unfoldable pub withStored : List ℕ → ℕ → List ℕ → List ℕ
 withStored values p text = sets values (placeOf p) text
+
+-- "An accepted call leaves outbox bytes past its written length untouched.": the outbox after a call that writes these records, and the
+-- written length
+unfoldable pub outboxAfter : List ℕ → List Record → List ℕ
+outboxAfter outbox rs = sets outbox 0 (encodeAll rs)
+
+unfoldable pub written : List Record → ℕ
+written rs = length (encodeAll rs)
