@@ -12,7 +12,7 @@ use Rattle.ascii.specs.Bytes.{isSome, isSpace, same}
 use Rattle.ascii.specs.Reader.{Left}
 use Rattle.json.specs.Json.{Json, skip, bare, value, text, compact}
 use Rattle.json.specs.Compacted.{CompactLength}
-use Rattle.json.proofs.Strip.{insideAfter, escapedAfter, strip}
+use Rattle.json.proofs.Strip.{insideAfter, escapedAfter, strip, strip-short}
 use Rattle.json.proofs.Copied.{stripped-compact}
 use Rattle.datainfo.specs.Datainfo.{Datainfo}
 use Rattle.datainfo.specs.Fit.{badJSON, severity, inRange, worse, valueVerdict, verdictOf, verdict, storedOf, storedForm, isFit, isStored}
@@ -53,17 +53,7 @@ module _ (o : Option (Datainfo × List ℕ)) (v : List ℕ) (t : Bool) (g : t �
 
 -- ## The stored form
 
--- a text without its spaces is no longer, and the same if it is as long
-strip-short : (xs : List ℕ) (i e : Bool) → length (strip i e xs) ≤ length xs
-unfolding strip
-strip-short [] i e = omega arith
-strip-short (b ∷ bs) i e = go i (isSpace b) (strip (insideAfter i e b) (escapedAfter i e b) bs) (strip-short bs (insideAfter i e b) (escapedAfter i e b))
-  where
-    go : (i k : Bool) (next : List ℕ) → length next ≤ length bs → length (cond i (b ∷ next) (cond k next (b ∷ next))) ≤ suc (length bs)
-    go true k next h = omega arith
-    go false true next h = omega arith
-    go false false next h = omega arith
-
+-- a text that is as long without its spaces is the same without them
 strip-same : (xs : List ℕ) (i e : Bool) → length (strip i e xs) ≡ length xs → strip i e xs ≡ xs
 unfolding strip
 strip-same [] i e h = refl

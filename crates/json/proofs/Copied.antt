@@ -1,6 +1,6 @@
 -- A text without its spaces outside strings is the compact text of the value that it is: each part that a reader takes is copied.
 -- Assumes nothing.
-use Prim.Native.Nat.{ℕ, zero, suc, _<_}
+use Prim.Native.Nat.{ℕ, zero, suc, _≤_, _<_}
 use native.Mathlib.Omega.{arith}
 use mathlib.Core.Path.{_≡_, refl, sym, _∙_, ap}
 use mathlib.Core.Bool.{Bool, true, false, cond, _&&_, _||_, false≢true}
@@ -19,7 +19,7 @@ use Rattle.json.specs.Json.{items, arrayEnd, key, members, objectEnd, ba
 use Rattle.json.specs.Json.{quoted, compact, compactItems, moreItems, compactMembers, moreMembers}
 use Rattle.json.proofs.ReadAgain.{Of, failed, gave, of-map, of-bind, of-some, upTo-is, inside-is}
 use Rattle.json.proofs.ReadBack.{of-giving, quoted-is, items-text, members-text}
-use Rattle.json.proofs.Strip.{strip, stripped}
+use Rattle.json.proofs.Strip.{strip, stripped, strip-short}
 
 of-case : {A : Type 0} {P : A → Type 0} (b : Bool) {x y : Option A} → (b ≡ true → Of P x) → (b ≡ false → Of P y) → Of P (cond b x y)
 of-case true p q = p refl
@@ -350,3 +350,6 @@ of-text xs = of-bind (of-spaced (bare 8) (of-bare 8) xs) λ p e.
 
 pub stripped-compact : (xs : List ℕ) (v : Json) → text xs ≡ some v → stripped xs ≡ compact v
 stripped-compact xs v e = of-some (rw e at (of-text xs))
+
+pub compact-short : (xs : List ℕ) (v : Json) → text xs ≡ some v → length (compact v) ≤ length xs
+compact-short xs v e = rw (← (stripped-compact xs v e)) (strip-short xs false false)

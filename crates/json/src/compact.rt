@@ -79,9 +79,10 @@ pub fn compact_length(s: &[u8]) -> usize
     n
 }
 
-// Writes the stored form of s at a position of out; the position after it.
+// Writes the stored form of s at a position of out, as far as out has room; the position after it. s itself may be longer than that
+// room, for its spaces.
 pub fn put_compact(out: &mut [u8], at: usize, s: &[u8]) -> usize
-    requires { ⌜ at + length (now s) ≤ length (now out) ⌝ }
+    requires { ⌜ at ≤ length (now out) ⌝ }
     ensures { λ r. ⌜ Compacted (now (s .entry)) (now (out .entry)) at (now (out .exit)) r ⌝ }
 {
     let mut inside = false;
@@ -89,6 +90,9 @@ pub fn put_compact(out: &mut [u8], at: usize, s: &[u8]) -> usize
     let mut end = at;
     let mut i = 0;
     while i < s.len() {
+        if end >= out.len() {
+            return end;
+        }
         let b = s[i];
         end = put_kept(out, end, inside, b);
         let escaping = is_escaping(inside, escaped, b);

@@ -9,14 +9,9 @@ fn number(high: u8, low: u8) -> usize {
 }
 
 fn write_fit(text: &[u8], stored: &mut [u8]) {
-    if stored.len() < text.len() {
-        return;
-    }
     let n = json::compact::put_compact(stored, 0, text);
     io::write_all(STDOUT_FILENO, b"fits ");
-    if n <= stored.len() {
-        io::write_all(STDOUT_FILENO, &stored[..n]);
-    }
+    io::write_all(STDOUT_FILENO, &stored[..n]);
     io::write_all(STDOUT_FILENO, b"\n");
 }
 

@@ -5,9 +5,6 @@ use borrow.Author.Needs.{needs}
 use Rattle.values.proofs.write_fit.Statement.{statement}
 use Rattle.values.proofs.write_fit.Tie as tie
 
-returns : tie.Need-returns
-returns c = search needs
-
 put-compact-requires : tie.Need-put-compact-requires
 put-compact-requires c κs = search needs
 
@@ -35,14 +32,13 @@ write-all-requires-3 c κs = search needs
 same-length : tie.Need-same-length
 same-length c = search needs
 
-returns-2 : tie.Need-returns-2
-returns-2 c = search needs
+returns : tie.Need-returns
+returns c = search needs
 
 pub write-fit-spec : {M : Type 1} → statement M
 write-fit-spec =
     tie.close
     (tie.spec
-    returns
     put-compact-requires
     slice-aggregate-write-all
     write-all-requires
@@ -52,4 +48,4 @@ write-fit-spec =
     slice-aggregate-write-all-3
     write-all-requires-3
     same-length
-    returns-2)
+    returns)
