@@ -7,7 +7,7 @@ use lib.IntN.{pos, negsuc}
 use Rattle.ascii.specs.Text.{bytes}
 use Rattle.ascii.specs.Numbers.{seconds}
 use Rattle.datainfo.specs.Datainfo.{Datainfo, double}
-use Rattle.datainfo.specs.Fit.{Verdict, fits, rangeError, wrongType, badJSON, verdict}
+use Rattle.fit.specs.Fit.{Verdict, fits, rangeError, wrongType, badJSON, verdict}
 use Rattle.message.specs.Reply.{replyLine}
 use Rattle.table.specs.Layout.{tableOf}
 use Rattle.report.specs.Report.{report}

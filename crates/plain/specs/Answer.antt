@@ -9,7 +9,7 @@ use Rattle.ascii.specs.Text.{bytes}
 use Rattle.json.specs.Json as Json
 use Rattle.json.specs.Json.{Json, text}
 use Rattle.datainfo.specs.Datainfo.{Datainfo}
-use Rattle.datainfo.specs.Fit.{Verdict, fits, rangeError, wrongType, badJSON, verdict, storedForm}
+use Rattle.fit.specs.Fit.{Verdict, fits, rangeError, wrongType, badJSON, verdict, storedForm}
 use Rattle.table.specs.Table.{Parameter, Command, Table}
 use Rattle.table.specs.Search.{Placed, parameters, findModule, findParameter, findCommand}
 use Rattle.report.specs.Report.{report}

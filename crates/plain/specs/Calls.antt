@@ -8,7 +8,7 @@ use lib.Dec.{ltb, eqb}
 use lib.ListN.{length, getElem?}
 use Rattle.ascii.specs.Bytes.{isSome}
 use Rattle.ascii.specs.Numbers.{latest}
-use Rattle.datainfo.specs.Fit.{Verdict, badJSON, verdict, isFit, storedForm}
+use Rattle.fit.specs.Fit.{Verdict, badJSON, verdict, isFit, storedForm}
 use Rattle.table.specs.Table.{Parameter, Table}
 use Rattle.table.specs.Layout.{tableOf}
 use Rattle.table.specs.Search.{Placed, parameters}

@@ -6,7 +6,7 @@ use mathlib.Core.Option.{Option, none, some}
 use mathlib.Core.Path.{_≡_, refl, sym, _∙_, ap, ap₂}
 use Rattle.ascii.specs.Bytes.{same}
 use Rattle.datainfo.specs.Datainfo.{Datainfo}
-use Rattle.datainfo.specs.Fit.{fit, verdict}
+use Rattle.fit.specs.Fit.{fit, verdict}
 use Rattle.table.specs.Table.{Parameter, Command, Accessible, parameter, command, Module, Table}
 use Rattle.table.specs.Search.{Placed, parametersOf, commandsOf, placedFrom, parameters, commands, firstFrom, first, findParameter, findCommand}
 use Rattle.report.specs.Theorems.{enforcedParameter, enforcedAccessible, enforcedModule, enforced, parameterSays, commandSays, JudgeAlike, ReportsTellVerdicts}

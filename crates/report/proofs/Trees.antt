@@ -11,7 +11,7 @@ use Rattle.ascii.specs.Bytes.{same}
 use Rattle.json.specs.Json as Json
 use Rattle.json.specs.Json.{Json, null, Items, no-items, item, Members, no-members, member}
 use Rattle.datainfo.specs.Datainfo.{Variant, Datainfo, double, int, bool, enum, string, array, tuple, struct, Elements, no-elements, element, Fields, no-fields, field}
-use Rattle.datainfo.specs.Fit.{asNumber, asBoolean, asString, asArray, asObject}
+use Rattle.fit.specs.Fit.{asNumber, asBoolean, asString, asArray, asObject}
 use Rattle.table.specs.Table.{Accessible, parameter, command, Module, Table}
 use Rattle.report.specs.Report.{variantValues, datainfoValue, elementValues, fieldValues, argumentMember, accessibleMember, accessibleMembers}
 use Rattle.report.specs.Report.{keyed, noteMember, moduleMembers, reportValue}

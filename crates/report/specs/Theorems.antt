@@ -6,7 +6,7 @@ use mathlib.Core.Option.{Option, none, some}
 use mathlib.Core.Path.{_≡_}
 use Rattle.json.specs.Json.{Json}
 use Rattle.datainfo.specs.Datainfo.{Datainfo}
-use Rattle.datainfo.specs.Fit.{fit, verdict}
+use Rattle.fit.specs.Fit.{fit, verdict}
 use Rattle.table.specs.Table.{Parameter, Command, Accessible, parameter, command, Module, Table}
 use Rattle.table.specs.Search.{Placed, findParameter, findCommand}
 use Rattle.report.specs.Report.{report}

@@ -8,7 +8,7 @@ use mathlib.Core.Path.{_≡_, refl, sym, _∙_, ap, ap₂, subst}
 use lib.ListN.{getElem?}
 use native.Mathlib.Omega.{arith}
 use Rattle.ascii.specs.Bytes.{isSome}
-use Rattle.datainfo.specs.Fit.{Verdict, fits, rangeError, wrongType, badJSON, severity, isFit, verdict, storedForm}
+use Rattle.fit.specs.Fit.{Verdict, fits, rangeError, wrongType, badJSON, severity, isFit, verdict, storedForm}
 use Rattle.table.specs.Table.{Parameter, Table}
 use Rattle.table.specs.Layout.{tableOf}
 use Rattle.table.specs.Search.{Placed, parameters}

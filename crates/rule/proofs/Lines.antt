@@ -6,7 +6,7 @@ use mathlib.Core.Option.{Option, none, some, Option·some-injective}
 use mathlib.Core.Path.{_≡_, refl, sym, _∙_, ap, subst}
 use lib.ListN.{length, getElem?}
 use native.Mathlib.Omega.{arith}
-use Rattle.datainfo.specs.Fit.{fits}
+use Rattle.fit.specs.Fit.{fits}
 use Rattle.table.specs.Table.{Parameter, Command, Accessible, parameter, command, Module, Table}
 use Rattle.table.specs.Layout.{tableOf}
 use Rattle.table.specs.Search.{Placed, parametersOf, placedFrom, parameters, commands}

@@ -7,7 +7,7 @@ use mathlib.Core.Path.{_≡_, refl, sym, ap, ap₂, subst, fun-ext}
 use lib.Dec.{eqb}
 use Rattle.ascii.specs.Text.{bytes}
 use lib.ListN.{getElem?}
-use Rattle.datainfo.specs.Fit.{Verdict, fits, rangeError, wrongType, badJSON, verdict, storedForm}
+use Rattle.fit.specs.Fit.{Verdict, fits, rangeError, wrongType, badJSON, verdict, storedForm}
 use Rattle.table.specs.Table.{Parameter, Command, Module, Table}
 use Rattle.table.specs.Search.{Placed, parameters, commands, findModule, findParameter, findCommand}
 use Rattle.message.specs.Request.{Request, identify, describe, ping, activate, deactivate, read, change, execute, malformed}

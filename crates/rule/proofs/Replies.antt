@@ -7,7 +7,7 @@ use mathlib.Core.Path.{_≡_, refl, sym, _∙_, ap}
 use lib.Dec.{eqb}
 use lib.ListN.{length, getElem?, take}
 use native.Mathlib.Omega.{arith}
-use Rattle.datainfo.specs.Fit.{storedForm}
+use Rattle.fit.specs.Fit.{storedForm}
 use Rattle.table.specs.Table.{Parameter, Table}
 use Rattle.table.specs.Layout.{tableOf}
 use Rattle.table.specs.Search.{Placed, parameters}

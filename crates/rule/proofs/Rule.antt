@@ -9,7 +9,7 @@ use lib.Dec.{eqb, ltb}
 use lib.ListN.{length, getElem?}
 use native.Mathlib.Omega.{arith}
 use borrow.Author.Tests.{lt-ltb, ne-eqb, eq-eqb, eqb-true}
-use Rattle.datainfo.specs.Fit.{fits, verdict, storedForm}
+use Rattle.fit.specs.Fit.{fits, verdict, storedForm}
 use Rattle.table.specs.Table.{Parameter, Module, Table}
 use Rattle.table.specs.Layout.{tableOf}
 use Rattle.table.specs.Search.{Placed, parameters}

@@ -8,7 +8,7 @@ use mathlib.Core.Logic.{_⊎_}
 use mathlib.Core.Option.{Option, some}
 use mathlib.Core.Path.{_≡_}
 use lib.ListN.{length, getElem?}
-use Rattle.datainfo.specs.Fit.{fits, verdict, storedForm}
+use Rattle.fit.specs.Fit.{fits, verdict, storedForm}
 use Rattle.ascii.specs.Text.{bytes}
 use Rattle.message.specs.Line.{whole, content, partsOf}
 use Rattle.message.specs.Request.{Request, read, change, execute, request}

@@ -10,7 +10,7 @@ use native.Mathlib.Omega.{arith}
 use borrow.Author.Tests.{eq-eqb, eqb-true, le-ltb, ltb-false}
 use Rattle.ascii.specs.Bytes.{isSome, all}
 use Rattle.ascii.specs.Numbers.{latest}
-use Rattle.datainfo.specs.Fit.{isFit}
+use Rattle.fit.specs.Fit.{isFit}
 use Rattle.table.specs.Table.{Table}
 use Rattle.table.specs.Layout.{tableOf}
 use Rattle.table.specs.Search.{parameters}

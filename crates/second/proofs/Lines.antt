@@ -7,7 +7,7 @@ use mathlib.Core.Path.{_≡_, refl, sym, _∙_, ap, subst, fun-ext}
 use lib.Dec.{eqb, ltb}
 use lib.ListN.{length}
 use borrow.Author.Tests.{eqb-true}
-use Rattle.datainfo.specs.Fit.{Verdict, fits, rangeError, wrongType, badJSON, verdict, storedForm}
+use Rattle.fit.specs.Fit.{Verdict, fits, rangeError, wrongType, badJSON, verdict, storedForm}
 use Rattle.table.specs.Table.{Parameter, Table}
 use Rattle.table.specs.Search.{Placed, parameters, findModule, findParameter, findCommand}
 use Rattle.message.specs.Line.{Line, whole, Parts}

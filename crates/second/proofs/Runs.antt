@@ -9,7 +9,7 @@ use lib.ListN.{getElem?}
 use borrow.Author.Tests.{eq-eqb}
 use Rattle.table.specs.Table.{Parameter, Table}
 use Rattle.table.specs.Search.{Placed, parameters}
-use Rattle.datainfo.specs.Fit.{storedForm}
+use Rattle.fit.specs.Fit.{storedForm}
 use Rattle.message.specs.Line.{Line, whole, with-byte, content, partsOf}
 use Rattle.outbox.specs.Outbox.{Record}
 use Rattle.plain.specs.Node.{Client, closed, connected, Value, Node, put, withClient, withValue, fresh, isOpen, lineOf, receive, emptied, reportOf, clientNumbers}

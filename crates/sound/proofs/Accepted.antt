@@ -13,7 +13,7 @@ use Rattle.ascii.specs.Bytes.{all}
 use Rattle.ascii.specs.Names.{isName, isText, unique}
 use Rattle.ascii.specs.Numbers.{latest}
 use Rattle.datainfo.specs.Rules.{isBetween, goodNames}
-use Rattle.datainfo.specs.Fit.{isStored}
+use Rattle.fit.specs.Fit.{isStored}
 use Rattle.table.specs.Table.{Parameter, Command, Accessible, parameter, command, Module, Table}
 use Rattle.table.specs.Layout.{readTable, orEmpty, tableOf}
 use Rattle.table.specs.Rules.{accessibleName, accessibleCount, countsGood, noteGood, accessibleNamesGood, moduleNamesGood, namesGood, initialGood, initialsGood}

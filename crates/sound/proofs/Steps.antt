@@ -13,7 +13,7 @@ use Rattle.ascii.specs.Text.{bytes}
 use Rattle.ascii.specs.Bytes.{all}
 use Rattle.ascii.specs.Numbers.{latest}
 use Rattle.datainfo.specs.Datainfo.{Datainfo}
-use Rattle.datainfo.specs.Fit.{Verdict, fits, rangeError, wrongType, badJSON, severity, verdict, storedForm, isFit}
+use Rattle.fit.specs.Fit.{Verdict, fits, rangeError, wrongType, badJSON, severity, verdict, storedForm, isFit}
 use Rattle.message.specs.Line.{Parts, content, partsOf}
 use Rattle.message.specs.Request.{Request, identify, describe, ping, activate, deactivate, read, change, execute, malformed, request}
 use Rattle.message.specs.Error.{Class, NoSuchModule, NoSuchParameter, NoSuchCommand}

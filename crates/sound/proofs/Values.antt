@@ -12,7 +12,7 @@ use Rattle.ascii.specs.Bytes.{same}
 use Rattle.json.specs.Json.{Json, text, compact}
 use Rattle.json.proofs.ReadBack.{compact-read-back}
 use Rattle.datainfo.specs.Datainfo.{Datainfo}
-use Rattle.datainfo.specs.Fit.{Verdict, severity, worse, inRange, fit, valueVerdict, verdictOf, verdict, storedOf, storedForm, isFit, isStored}
+use Rattle.fit.specs.Fit.{Verdict, severity, worse, inRange, fit, valueVerdict, verdictOf, verdict, storedOf, storedForm, isFit, isStored}
 use Rattle.sound.proofs.Lists.{both}
 
 -- ## The same bytes

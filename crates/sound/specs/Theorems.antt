@@ -8,7 +8,7 @@ use lib.Dec.{eqb}
 use lib.ListN.{length, getElem?}
 use Rattle.ascii.specs.Bytes.{all}
 use Rattle.ascii.specs.Numbers.{latest}
-use Rattle.datainfo.specs.Fit.{isStored}
+use Rattle.fit.specs.Fit.{isStored}
 use Rattle.message.specs.Line.{Line, whole, overlong}
 use Rattle.table.specs.Table.{Parameter, Table}
 use Rattle.table.specs.Layout.{tableOf}

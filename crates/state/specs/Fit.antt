@@ -6,7 +6,7 @@ use lib.Dec.{eqb, ltb}
 use lib.ListN.{length, getD}
 use Rattle.ascii.specs.Bytes.{any}
 use Rattle.ascii.specs.Numbers.{latest}
-use Rattle.datainfo.specs.Fit.{isStored}
+use Rattle.fit.specs.Fit.{isStored}
 use Rattle.table.specs.Table.{Parameter, Table}
 use Rattle.table.specs.Search.{Placed, parameters}
 use Rattle.plain.specs.Node.{clientNumbers}

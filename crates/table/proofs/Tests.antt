@@ -14,9 +14,9 @@ use Rattle.ascii.specs.Bytes.{_>>=_, all}
 use Rattle.ascii.specs.Names.{isText}
 use Rattle.ascii.specs.Reader.{Ends, rest}
 use Rattle.datainfo.specs.Datainfo.{Datainfo}
-use Rattle.datainfo.specs.Fit.{isStored}
 use Rattle.datainfo.specs.Rules as Datainfo
 use Rattle.datainfo.specs.Layout.{datainfoIn, datainfoAt}
+use Rattle.fit.specs.Fit.{isStored}
 use Rattle.table.specs.Table as Table
 use Rattle.table.specs.Layout.{begins, argumentAt, accessiblesAt, moduleAt, modulesAt}
 use Rattle.table.specs.Rules.{ifAny, accessibleNamesGood, rulesKept, initialGood}

@@ -10,9 +10,9 @@ use Rattle.ascii.specs.Text.{bytes}
 use Rattle.ascii.specs.Bytes.{_>>=_, all, same}
 use Rattle.ascii.specs.Names.{isText, lowercase}
 use Rattle.datainfo.specs.Datainfo.{Datainfo}
-use Rattle.datainfo.specs.Fit.{isStored}
 use Rattle.datainfo.specs.Rules as Datainfo
 use Rattle.datainfo.specs.Rules.{goodNames}
+use Rattle.fit.specs.Fit.{isStored}
 use Rattle.table.specs.Table.{Accessible, Module, Table}
 use Rattle.table.specs.Layout.{begins, moduleAt}
 use Rattle.table.specs.Rules.{accessibleName, accessibleCount, noteGood, accessibleNamesGood, moduleNamesGood, rulesKept, initialGood, countsGood, namesGood, datainfosGood, initialsGood}

@@ -10,7 +10,7 @@ use Rattle.ascii.specs.Names.{isText}
 use Rattle.datainfo.specs.Datainfo.{Datainfo}
 use Rattle.datainfo.specs.Rules as Datainfo
 use Rattle.datainfo.specs.Rules.{isBetween, goodNames}
-use Rattle.datainfo.specs.Fit.{isStored}
+use Rattle.fit.specs.Fit.{isStored}
 use Rattle.table.specs.Table.{Accessible, parameter, command, Module, Table}
 
 unfoldable pub accessibleName : Accessible → List ℕ

@@ -1,6 +1,6 @@
 // Reads cases from standard input, each a datainfo and a text, and writes what the text comes to, one to a line: `fits` and its stored
 // form, or the error class. A case is two bytes with the datainfo's length, two with the text's, and the bytes of both.
-use datainfo::Verdict;
+use fit::Verdict;
 use libc::STDIN_FILENO;
 use libc::STDOUT_FILENO;
 
@@ -16,7 +16,7 @@ fn write_fit(text: &[u8], stored: &mut [u8]) {
 }
 
 fn write_verdict(info: &[u8], text: &[u8], stored: &mut [u8]) {
-    match datainfo::fit::verdict(info, 0, text) {
+    match fit::fit::verdict(info, 0, text) {
         Verdict::Fits => {
             write_fit(text, stored);
         }

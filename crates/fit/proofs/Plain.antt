@@ -1,0 +1,95 @@
+-- Laws of values that hold no values. Assumes nothing.
+use Prim.Native.Nat.{ℕ, _-_}
+use mathlib.Core.Logic.{_⊎_, inl, inr, ⊎-elim}
+use mathlib.Core.Path.{_≡_, refl, sym, ap, _∙_}
+use mathlib.Core.Bool.{Bool, true, false}
+use mathlib.Core.List.{List, []}
+use mathlib.Core.Option.{some}
+use lib.ListN.{length, drop}
+use lib.Dec.{leb}
+use Rattle.ascii.specs.declared.Unsigned as U
+use Rattle.ascii.specs.declared.Unsigned.{Unsigned}
+use Rattle.ascii.specs.Bytes.{all, head}
+use Rattle.ascii.specs.Numbers.{unsigned}
+use Rattle.ascii.specs.Reader.{ByteAt}
+use Rattle.ascii.specs.Read.{ReadsUnsigned}
+use Rattle.json.specs.Json.{Json, bare}
+use Rattle.json.specs.Json as Json
+use Rattle.json.specs.Characters.{characters}
+use Rattle.datainfo.specs.Datainfo.{Datainfo, bool, string}
+use Rattle.datainfo.specs.Layout.{stringAt}
+use Rattle.datainfo.specs.Rules.{isBetween}
+use Rattle.fit.specs.Fit.{inRange, expect, asString, stringFit, fit}
+use Rattle.fit.specs.Verdict.{meaning, Judges, Limits}
+use Rattle.fit.specs.Walk.{Quoted}
+use Rattle.fit.specs.declared.Verdict.{Verdict}
+use Rattle.fit.specs.declared.Verdict.the-variants.{Fits, RangeError, WrongType}
+use Rattle.fit.proofs.Judged.{judges-of, same-read, same-left}
+use Rattle.fit.proofs.Shapes.{just, nothing, steps, shape, tells-yes, tells-no, as-boolean, as-string}
+
+-- ## bool
+
+module _ (v : List ℕ) (p b : ℕ) (x : ByteAt v p b) (depth : ℕ) where
+  bool-fits : {j : Json} {y : List ℕ} → (head (drop p v) ≡ 116) ⊎ (head (drop p v) ≡ 102) → bare depth (drop p v) ≡ some (j, y) → meaning Fits ≡ fit bool j
+  unfolding fit expect
+  bool-fits h k = tells-yes (as-boolean (shape depth (drop p v) k)) h (λ a e q. rw e)
+
+  bool-wrong : {j : Json} {y : List ℕ} → ((head (drop p v) ≡ 116) ⊎ (head (drop p v) ≡ 102) → ⊥) → bare depth (drop p v) ≡ some (j, y) → meaning WrongType ≡ fit bool j
+  unfolding fit expect
+  bool-wrong h k = rw (tells-no (as-boolean (shape depth (drop p v) k)) h)
+
+  pub bool-true : b ≡ 116 → Judges (some (bool, [])) (bare depth (drop p v)) Fits
+  bool-true h = record { is = λ e k. rw (same-read e refl) (bool-fits (inl (sym (x .is) ∙ h)) k) }
+
+  pub bool-false : b ≡ 102 → Judges (some (bool, [])) (bare depth (drop p v)) Fits
+  bool-false h = record { is = λ e k. rw (same-read e refl) (bool-fits (inr (sym (x .is) ∙ h)) k) }
+
+  pub bool-other : (b ≡ 116 → ⊥) → (b ≡ 102 → ⊥) → Judges (some (bool, [])) (bare depth (drop p v)) WrongType
+  bool-other h g = record { is = λ e k. rw (same-read e refl) (bool-wrong (⊎-elim (λ z. h (x .is ∙ z)) (λ z. g (x .is ∙ z))) k) }
+
+-- ## Limits of a count, of two bytes each
+
+module _ (s : List ℕ) (at n : ℕ) (r : Verdict) (u : Unsigned) (k : ReadsUnsigned s u (unsigned 2 (drop at s))) where
+  pub limits-1 : u ≡ U.the-variants.Short → Limits (drop at s) n r
+  limits-1 e = record { is = λ f g. absurd (nothing (sym (rw e at k) ∙ f)) }
+
+  module _ (lo a : ℕ) (e : u ≡ U.the-variants.Read lo a) (w : Unsigned) (l : ReadsUnsigned s w (unsigned 2 (drop a s))) where
+    -- past the first
+    past : {m : ℕ} {y : List ℕ} → unsigned 2 (drop at s) ≡ some (m, y) → y ≡ drop a s
+    past f = same-left f ((rw e at k) .0)
+
+    pub limits-2 : w ≡ U.the-variants.Short → Limits (drop at s) n r
+    limits-2 h = record { is = λ f g. absurd (nothing (sym (rw h at l) ∙ (rw (past f) at g))) }
+
+    pub limits-good : (hi b : ℕ) → w ≡ U.the-variants.Read hi b → meaning r ≡ inRange (isBetween lo hi n) → Limits (drop at s) n r
+    limits-good hi b h i = record { is = λ f g. rw (same-read f ((rw e at k) .0), same-read (rw (past f) at g) ((rw h at l) .0)) i }
+
+-- ## string
+
+string-some : {S : Type 0} (xs : List ℕ) {d : Datainfo} {x : List ℕ} → stringAt xs ≡ some (d, x)
+    → ((lo hi : ℕ) (y : List ℕ) → unsigned 2 xs ≡ some (lo, y) → unsigned 2 y ≡ some (hi, x) → d ≡ string lo hi → S) → S
+unfolding stringAt
+string-some xs e f = steps (unsigned 2 xs) _ e λ p h k. steps (unsigned 2 (p .1)) _ k λ q g l.
+    f (p .0) (q .0) (p .1) h (g ∙ ap (λ y. some (q .0, y)) (ap (λ p. p .1) (just l))) (sym (ap (λ p. p .0) (just l)))
+
+module _ (xs t : List ℕ) (f : Bool) (g : f ≡ all (λ c. leb c 127) (characters t)) where
+  pub string-high : f ≡ false → Judges (stringAt xs) (some (Json.string t, [])) RangeError
+  unfolding fit expect asString stringFit inRange
+  string-high h = judges-of refl λ d x e. string-some xs e λ lo hi y a b z. rw (z, ← g, h)
+
+  pub string-low : f ≡ true → (n : ℕ) (r : Verdict) → n ≡ length (characters t) → Limits xs n r → Judges (stringAt xs) (some (Json.string t, [])) r
+  unfolding fit expect asString stringFit
+  string-low h n r m i = judges-of refl λ d x e. string-some xs e λ lo hi y a b z. rw (z, ← g, h, ← m) (i .is a b)
+
+-- the string at p, with the bytes t between its quotes
+module _ (s : List ℕ) (at : ℕ) (v : List ℕ) (p b : ℕ) (x : ByteAt v p b) (depth : ℕ) where
+  pub string-other : (b ≡ 34 → ⊥) → Judges (stringAt (drop at s)) (bare depth (drop p v)) WrongType
+  unfolding fit expect
+  string-other h = record { is = λ e k. string-some (drop at s) e λ lo hi y c f z. rw (z, tells-no (as-string (shape depth (drop p v) k)) (λ g. h (x .is ∙ g))) }
+
+  pub string-quoted : b ≡ 34 → (t : List ℕ) (r : Verdict) → Quoted (drop p v) t → Judges (stringAt (drop at s)) (some (Json.string t, [])) r → Judges (stringAt (drop at s)) (bare depth (drop p v)) r
+  unfolding fit expect asString
+  string-quoted h t r q g = record {
+    is = λ e k. string-some (drop at s) e λ lo hi y c f z. tells-yes (as-string (shape depth (drop p v) k)) (sym (x .is) ∙ h) λ a i w.
+        rw (z, i, w .1, ← (q .is (sym (x .is) ∙ h) (w .0))) (rw z at (g .is e refl));
+  }

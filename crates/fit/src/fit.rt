@@ -1,0 +1,414 @@
+// Which values fit a datainfo: the table's bytes and the value's text are walked over together. `at` is a position in the table: of a
+// datainfo, or past its type byte where the function is of one type; `p` is the position of the value. Of bytes that can't be read as a
+// datainfo, or as a value, the answer says nothing; it is WrongType.
+ghost use mathlib.Core.Path.{_≡_};
+ghost use Prim.Native.Nat.{ℕ, _≤_};
+ghost use mathlib.Core.List.{[]};
+ghost use mathlib.Core.Bool.{true};
+ghost use mathlib.Core.Option.{some};
+ghost use lib.ListN.{length, drop};
+ghost use Rattle.decimal.specs.Token.{isWhole};
+ghost use Rattle.json.specs.Json as Json;
+ghost use Rattle.json.specs.Json.{bare, value, objectEnd};
+ghost use Rattle.datainfo.specs.Datainfo as Datainfo;
+ghost use Rattle.datainfo.specs.Layout.{doubleAt, intAt, enumAt, stringAt, arrayAt, tupleAt, structAt, datainfoIn};
+ghost use Rattle.datainfo.specs.Rules.{isBetween};
+ghost use Rattle.fit.specs.Fit as Fit;
+ghost use Rattle.fit.specs.Fit.{isFit, inRange, wholeFit, betweenIntegers};
+ghost use Rattle.fit.specs.Verdict.{meaning, Judges, JudgesFields, JudgesText, TellsStored, Limits, numeric, plain};
+use super::Verdict;
+use super::object::each_once;
+use super::object::find_key;
+use super::walk::first;
+use super::walk::next;
+use super::walk::quoted;
+use ascii::Next;
+use ascii::Signed;
+use ascii::Unsigned;
+use ascii::byte;
+use ascii::numbers::signed;
+use ascii::numbers::unsigned;
+use datainfo::layout::counted_end;
+use datainfo::layout::datainfo_end;
+use datainfo::layout::part_end;
+use datainfo::rules::Limit;
+use datainfo::rules::limit_at;
+use datainfo::rules::name_at;
+use decimal::compare::is_between;
+use decimal::compare::is_whole;
+use decimal::token::number_end;
+use json::characters::all_low;
+use json::characters::count;
+use json::compact::compact_length;
+use json::read::is_text;
+use json::read::spaces_end;
+
+fn severity(a: Verdict) -> u8
+    ensures { λ r. ⌜ r ≡ Fit.severity (meaning a) ⌝ }
+{
+    match a {
+        Verdict::Fits => 0,
+        Verdict::RangeError => 1,
+        Verdict::WrongType => 2,
+        Verdict::BadJson => 3,
+    }
+}
+
+// A type fault anywhere wins over a range fault anywhere.
+pub fn worse(a: Verdict, b: Verdict) -> Verdict
+    ensures { λ r. ⌜ meaning r ≡ Fit.worse (meaning a) (meaning b) ⌝ }
+{
+    if severity(b) <= severity(a) {
+        return a;
+    }
+    b
+}
+
+fn count_fit(lo: u64, hi: u64, n: usize) -> Verdict
+    ensures { λ r. ⌜ meaning r ≡ inRange (isBetween lo hi n) ⌝ }
+{
+    let count = n as u64;
+    if count < lo {
+        return Verdict::RangeError;
+    }
+    if hi < count {
+        return Verdict::RangeError;
+    }
+    Verdict::Fits
+}
+
+// RangeError for a count n outside the two limits at a position.
+fn limits_fit(s: &[u8], at: usize, n: usize) -> Verdict
+    requires { ⌜ at ≤ length (now s) ⌝ }
+    ensures { λ r. ⌜ Limits (drop at (now (s .entry))) n r ⌝ }
+{
+    let Unsigned::Read(lo, a) = unsigned(s, at, 2) else {
+        return Verdict::WrongType;
+    };
+    let Unsigned::Read(hi, _) = unsigned(s, a, 2) else {
+        return Verdict::WrongType;
+    };
+    count_fit(lo, hi, n)
+}
+
+// RangeError unless a test passes.
+fn range_fit(passes: bool) -> Verdict
+    ensures { λ r. ⌜ meaning r ≡ inRange passes ⌝ }
+{
+    if passes {
+        return Verdict::Fits;
+    }
+    Verdict::RangeError
+}
+
+// A number token, of which any is of the kind.
+fn double_fit(s: &[u8], at: usize, t: &[u8]) -> Verdict
+    requires { ⌜ at ≤ length (now s) ⌝ }
+    ensures { λ r. ⌜ Judges (doubleAt (drop at (now (s .entry)))) (some (Json.number (now (t .entry)), [])) r ⌝ }
+{
+    let Limit::Read(lo, lo_power, a) = limit_at(s, at) else {
+        return Verdict::WrongType;
+    };
+    let Limit::Read(hi, hi_power, _) = limit_at(s, a) else {
+        return Verdict::WrongType;
+    };
+    range_fit(is_between(lo, lo_power, hi, hi_power, t))
+}
+
+// A number token, which has to have no dot and no 'e', from lo to hi.
+fn whole_fit(lo: i64, hi: i64, t: &[u8]) -> Verdict
+    ensures { λ r. ⌜ meaning r ≡ wholeFit (betweenIntegers lo hi) (now (t .entry)) ⌝ }
+{
+    if is_whole(t) {
+        return range_fit(is_between(lo, 0, hi, 0, t));
+    }
+    Verdict::WrongType
+}
+
+fn int_fit(s: &[u8], at: usize, t: &[u8]) -> Verdict
+    requires { ⌜ at ≤ length (now s) ⌝ }
+    ensures { λ r. ⌜ Judges (intAt (drop at (now (s .entry)))) (some (Json.number (now (t .entry)), [])) r ⌝ }
+{
+    let Signed::Read(lo, a) = signed(s, at, 8) else {
+        return Verdict::WrongType;
+    };
+    let Signed::Read(hi, _) = signed(s, a, 8) else {
+        return Verdict::WrongType;
+    };
+    whole_fit(lo, hi, t)
+}
+
+// Whether the token t is the value of a member of an enum; of tokens with a dot or an 'e' nothing is said.
+fn member_fit(s: &[u8], at: usize, t: &[u8]) -> Verdict
+    requires { ⌜ at ≤ length (now s) ⌝ }
+    ensures { λ r. ⌜ (isWhole (now (t .entry)) ≡ true → Judges (enumAt (drop at (now (s .entry)))) (some (Json.number (now (t .entry)), [])) r) ⌝ }
+{
+    let Unsigned::Read(members, from) = unsigned(s, at, 1) else {
+        return Verdict::WrongType;
+    };
+    let mut i = from;
+    let mut left = members;
+    while 0 < left {
+        let Next::At(n) = counted_end(s, i) else {
+            return Verdict::WrongType;
+        };
+        let Signed::Read(value, e) = signed(s, n, 4) else {
+            return Verdict::WrongType;
+        };
+        if is_between(value, 0, value, 0, t) {
+            return Verdict::Fits;
+        }
+        i = e;
+        left -= 1;
+    }
+    Verdict::RangeError
+}
+
+fn enum_fit(s: &[u8], at: usize, t: &[u8]) -> Verdict
+    requires { ⌜ at ≤ length (now s) ⌝ }
+    ensures { λ r. ⌜ Judges (enumAt (drop at (now (s .entry)))) (some (Json.number (now (t .entry)), [])) r ⌝ }
+{
+    if is_whole(t) {
+        return member_fit(s, at, t);
+    }
+    Verdict::WrongType
+}
+
+// A number token for the type k, one of double (1), int (2) and enum (4).
+fn token_fit(s: &[u8], at: usize, k: u64, t: &[u8]) -> Verdict
+    requires { ⌜ at ≤ length (now s) ⌝ }
+    ensures { λ r. ⌜ Judges (numeric k (drop at (now (s .entry)))) (some (Json.number (now (t .entry)), [])) r ⌝ }
+{
+    if k == 1 {
+        return double_fit(s, at, t);
+    }
+    if k == 2 {
+        return int_fit(s, at, t);
+    }
+    enum_fit(s, at, t)
+}
+
+fn number_fit(s: &[u8], at: usize, k: u64, v: &[u8], p: usize) -> Verdict
+    requires { ⌜ (at ≤ length (now s)) × (p ≤ length (now v)) ⌝ }
+    ensures { λ r. ⌜ ((depth : ℕ) → Judges (numeric k (drop at (now (s .entry)))) (bare depth (drop p (now (v .entry)))) r) ⌝ }
+{
+    let Next::At(e) = number_end(v, p) else {
+        return Verdict::WrongType;
+    };
+    token_fit(s, at, k, &v[p..e])
+}
+
+// Of the values only `true` and `false` begin with a 't' or an 'f'.
+fn bool_fit(v: &[u8], p: usize) -> Verdict
+    ensures { λ r. ⌜ ((depth : ℕ) → Judges (some (Datainfo.bool, [])) (bare depth (drop p (now (v .entry)))) r) ⌝ }
+{
+    let b = byte(v, p);
+    if b == b't' {
+        return Verdict::Fits;
+    }
+    if b == b'f' {
+        return Verdict::Fits;
+    }
+    Verdict::WrongType
+}
+
+// A string with the bytes t between its quotes.
+fn characters_fit(s: &[u8], at: usize, t: &[u8]) -> Verdict
+    requires { ⌜ at ≤ length (now s) ⌝ }
+    ensures { λ r. ⌜ Judges (stringAt (drop at (now (s .entry)))) (some (Json.string (now (t .entry)), [])) r ⌝ }
+{
+    if all_low(t) {
+        return limits_fit(s, at, count(t));
+    }
+    Verdict::RangeError
+}
+
+fn string_fit(s: &[u8], at: usize, v: &[u8], p: usize) -> Verdict
+    requires { ⌜ (at ≤ length (now s)) × (p ≤ length (now v)) ⌝ }
+    ensures { λ r. ⌜ ((depth : ℕ) → Judges (stringAt (drop at (now (s .entry)))) (bare depth (drop p (now (v .entry)))) r) ⌝ }
+{
+    if byte(v, p) != b'"' {
+        return Verdict::WrongType;
+    }
+    characters_fit(s, at, quoted(v, p))
+}
+
+// What follows the type byte k of a type that holds no datainfos.
+fn plain_fit(s: &[u8], at: usize, k: u64, v: &[u8], p: usize) -> Verdict
+    requires { ⌜ (at ≤ length (now s)) × (p ≤ length (now v)) ⌝ }
+    ensures { λ r. ⌜ ((depth : ℕ) → Judges (plain k (drop at (now (s .entry)))) (bare depth (drop p (now (v .entry)))) r) ⌝ }
+{
+    if k == 3 {
+        return bool_fit(v, p);
+    }
+    if k == 5 {
+        return string_fit(s, at, v, p);
+    }
+    number_fit(s, at, k, v, p)
+}
+
+// The items of an array are judged by one datainfo, behind the two limits of their count. An item takes a byte at least, so of a JSON text
+// none is left when the bytes are.
+fn array_fit(s: &[u8], at: usize, levels: usize, v: &[u8], p: usize, depth: usize) -> Verdict
+    requires { ⌜ (at ≤ length (now s)) × (p ≤ length (now v)) ⌝ }
+    ensures { λ r. ⌜ Judges (arrayAt (datainfoIn levels) (drop at (now (s .entry)))) (bare depth (drop p (now (v .entry)))) r ⌝ }
+{
+    if depth == 0 {
+        return Verdict::WrongType;
+    }
+    if byte(v, p) != b'[' {
+        return Verdict::WrongType;
+    }
+    let Next::At(inner) = part_end(s, at, 4) else {
+        return Verdict::WrongType;
+    };
+    let mut worst = Verdict::Fits;
+    let mut n = 0;
+    let mut item = first(v, p + 1, b']');
+    let mut left = v.len() - p;
+    while 0 < left {
+        let Next::At(i) = item else {
+            return worse(limits_fit(s, at, n), worst);
+        };
+        worst = worse(worst, fit(s, inner, levels, v, spaces_end(v, i), depth - 1));
+        n += 1;
+        item = next(v, i, depth - 1);
+        left -= 1;
+    }
+    Verdict::WrongType
+}
+
+// The items of a tuple are judged by its datainfos in turn.
+fn tuple_fit(s: &[u8], at: usize, levels: usize, v: &[u8], p: usize, depth: usize) -> Verdict
+    requires { ⌜ (at ≤ length (now s)) × (p ≤ length (now v)) ⌝ }
+    ensures { λ r. ⌜ Judges (tupleAt (datainfoIn levels) (drop at (now (s .entry)))) (bare depth (drop p (now (v .entry)))) r ⌝ }
+{
+    if depth == 0 {
+        return Verdict::WrongType;
+    }
+    if byte(v, p) != b'[' {
+        return Verdict::WrongType;
+    }
+    let Unsigned::Read(count, from) = unsigned(s, at, 1) else {
+        return Verdict::WrongType;
+    };
+    let mut worst = Verdict::Fits;
+    let mut element = from;
+    let mut left = count;
+    let mut item = first(v, p + 1, b']');
+    while 0 < left {
+        let Next::At(i) = item else {
+            return worse(worst, Verdict::WrongType);
+        };
+        let Next::At(e) = datainfo_end(s, element, levels) else {
+            return Verdict::WrongType;
+        };
+        worst = worse(
+            worst,
+            fit(s, element, levels, v, spaces_end(v, i), depth - 1),
+        );
+        item = next(v, i, depth - 1);
+        element = e;
+        left -= 1;
+    }
+    let Next::At(_) = item else {
+        return worst;
+    };
+    worse(worst, Verdict::WrongType)
+}
+
+// The values of an object, past its '{', at the names of a struct, past its type byte; each name is exactly once among the keys.
+fn fields_fit(s: &[u8], at: usize, levels: usize, v: &[u8], p: usize, depth: usize) -> Verdict
+    requires { ⌜ (at ≤ length (now s)) × (p ≤ length (now v)) ⌝ }
+    ensures { λ r. ⌜ JudgesFields (structAt (datainfoIn levels) (drop at (now (s .entry)))) (objectEnd (value depth) (drop p (now (v .entry)))) r ⌝ }
+{
+    let Unsigned::Read(count, from) = unsigned(s, at, 1) else {
+        return Verdict::WrongType;
+    };
+    let mut worst = Verdict::Fits;
+    let mut field = from;
+    let mut left = count;
+    while 0 < left {
+        let Next::At(inner) = counted_end(s, field) else {
+            return Verdict::WrongType;
+        };
+        let Next::At(q) = find_key(v, p, depth, name_at(s, field)) else {
+            return Verdict::WrongType;
+        };
+        let Next::At(e) = datainfo_end(s, inner, levels) else {
+            return Verdict::WrongType;
+        };
+        worst = worse(worst, fit(s, inner, levels, v, q, depth));
+        field = e;
+        left -= 1;
+    }
+    worst
+}
+
+fn struct_fit(s: &[u8], at: usize, levels: usize, v: &[u8], p: usize, depth: usize) -> Verdict
+    requires { ⌜ (at ≤ length (now s)) × (p ≤ length (now v)) ⌝ }
+    ensures { λ r. ⌜ Judges (structAt (datainfoIn levels) (drop at (now (s .entry)))) (bare depth (drop p (now (v .entry)))) r ⌝ }
+{
+    if depth == 0 {
+        return Verdict::WrongType;
+    }
+    if byte(v, p) != b'{' {
+        return Verdict::WrongType;
+    }
+    if each_once(s, at, levels, v, p + 1, depth - 1) {
+        return fields_fit(s, at, levels, v, p + 1, depth - 1);
+    }
+    Verdict::WrongType
+}
+
+// The value at p, without spaces before it, and the datainfo at a position, of at most `levels` levels.
+pub fn fit(s: &[u8], at: usize, levels: usize, v: &[u8], p: usize, depth: usize) -> Verdict
+    requires { ⌜ (at ≤ length (now s)) × (p ≤ length (now v)) ⌝ }
+    ensures { λ r. ⌜ Judges (datainfoIn levels (drop at (now (s .entry)))) (bare depth (drop p (now (v .entry)))) r ⌝ }
+{
+    if levels == 0 {
+        return Verdict::WrongType;
+    }
+    let Unsigned::Read(k, inner) = unsigned(s, at, 1) else {
+        return Verdict::WrongType;
+    };
+    if k == 6 {
+        return array_fit(s, inner, levels - 1, v, p, depth);
+    }
+    if k == 7 {
+        return tuple_fit(s, inner, levels - 1, v, p, depth);
+    }
+    if k == 8 {
+        return struct_fit(s, inner, levels - 1, v, p, depth);
+    }
+    plain_fit(s, inner, k, v, p)
+}
+
+// What a text comes to: no JSON is BadJSON, more than 256 bytes in stored form a range fault.
+pub fn verdict(s: &[u8], at: usize, v: &[u8]) -> Verdict
+    requires { ⌜ at ≤ length (now s) ⌝ }
+    ensures { λ r. ⌜ JudgesText (datainfoIn 4 (drop at (now (s .entry)))) (now (v .entry)) r ⌝ }
+{
+    if is_text(v) {
+        let size = range_fit(compact_length(v) <= 256);
+        return worse(fit(s, at, 4, v, spaces_end(v, 0), 8), size);
+    }
+    Verdict::BadJson
+}
+
+fn is_fit(a: Verdict) -> bool
+    ensures { λ r. ⌜ r ≡ isFit (meaning a) ⌝ }
+{
+    severity(a) == 0
+}
+
+// Whether a text fits and is in stored form: the form is the text without some of its spaces, so it is the text where it is as long.
+pub fn is_stored(s: &[u8], at: usize, v: &[u8]) -> bool
+    requires { ⌜ at ≤ length (now s) ⌝ }
+    ensures { λ r. ⌜ TellsStored (datainfoIn 4 (drop at (now (s .entry)))) (now (v .entry)) r ⌝ }
+{
+    if compact_length(v) == v.len() {
+        return is_fit(verdict(s, at, v));
+    }
+    false
+}

@@ -1,0 +1,12 @@
+// Which values fit a datainfo in the table's bytes.
+pub mod fit;
+pub mod object;
+pub mod walk;
+
+// What a value comes to, each worse than the one before.
+pub enum Verdict {
+    Fits,
+    RangeError,
+    WrongType,
+    BadJson,
+}
