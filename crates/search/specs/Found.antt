@@ -6,9 +6,9 @@ use mathlib.Core.List.{List}
 use mathlib.Core.Option.{Option, none, some}
 use lib.ListN.{length, drop}
 use Rattle.ascii.specs.Bytes.{same}
 use Rattle.table.specs.Table.{Module}
 use Rattle.table.specs.Layout.{moduleAt}
-use Rattle.table.specs.declared.search.FoundModule as F
+use Rattle.search.specs.declared.find.FoundModule as F
 
 -- whether a module has a name
 abbrev pub isCalled : List ℕ → Module → Bool

@@ -8,21 +8,21 @@ use mathlib.Core.Option.{Option, none, some}
 use lib.ListN.{length, drop}
 use Rattle.ascii.specs.Text.{bytes}
 use Rattle.ascii.specs.Bytes.{_>>=_, same}
 use Rattle.table.specs.Table as Table
 use Rattle.table.specs.Layout.{begins, moduleAt, modulesAt, wholeTable}
 use Rattle.table.specs.Search.{first, firstFrom, findModule}
 use Rattle.table.specs.declared.layout.Part.{Part}
 use Rattle.table.specs.declared.layout.Texts as T
 use Rattle.table.specs.declared.judge.Kind.the-variants.{Modules}
 use Rattle.table.specs.declared.judge.Named as N
-use Rattle.table.specs.declared.search.FoundModule as F
+use Rattle.search.specs.declared.find.FoundModule as F
 use Rattle.table.specs.At.{bytesOf, textsAt, TextsAt, modulesFrom}
 use Rattle.table.specs.Judged.{kindBegins, namedAt, NamedIs}
-use Rattle.table.specs.Found.{isCalled, ModuleAt, FindsModule}
+use Rattle.search.specs.Found.{isCalled, ModuleAt, FindsModule}
 use Rattle.table.proofs.Accessibles.{in-some}
 use Rattle.table.proofs.Enough.{before, modules-stop, modules-more}
 use Rattle.table.proofs.Named.{Was, was, none-was}
 use Rattle.table.proofs.Whole.{opened, unread, never}
 
 -- a first element that was read before others
 pub record Split {A : Type 0} (a : A) (o : Option (List A × List ℕ)) (l : List A) (x : List ℕ) : Type 0 where

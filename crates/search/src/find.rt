@@ -1,23 +1,23 @@
 // Modules, parameters and commands by name, in a table that can be read. Names are compared as they stand.
-use crate::judge::Kind;
-use crate::judge::Named;
-use crate::judge::is_next;
-use crate::judge::name_at;
-use crate::layout::Part;
-use crate::layout::Texts;
-use crate::layout::texts_at;
 use ascii::names::same;
+use table::judge::Kind;
+use table::judge::Named;
+use table::judge::is_next;
+use table::judge::name_at;
+use table::layout::Part;
+use table::layout::Texts;
+use table::layout::texts_at;
 ghost use mathlib.Core.Path.{_≡_};
 ghost use mathlib.Core.List.{List};
 ghost use mathlib.Core.Option.{some};
 ghost use Prim.Native.Nat.{ℕ, _≤_};
 ghost use lib.ListN.{length};
 ghost use Rattle.ascii.specs.Bytes.{same};
 ghost use Rattle.table.specs.Table.{Module, Table};
 ghost use Rattle.table.specs.Layout.{wholeTable};
 ghost use Rattle.table.specs.Search.{first, findModule};
 ghost use Rattle.table.specs.At.{bytesOf, Inside, modulesFrom};
-ghost use Rattle.table.specs.Found.{FindsModule, isCalled};
+ghost use Rattle.search.specs.Found.{FindsModule, isCalled};
 
 // A module's number and where its record begins.
 pub enum FoundModule {

@@ -1,0 +1,2 @@
+// Finding the modules, parameters and commands of a table that can be read.
+pub mod find;
