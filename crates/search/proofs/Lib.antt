@@ -1,1 +1,3 @@
+pub mod Lefts
+pub mod Walks
 pub mod Searches
