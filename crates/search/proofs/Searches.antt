@@ -1,4 +1,4 @@
--- Laws of searches, one for each way through a function that searches. Assumes nothing.
+-- Laws of searches for modules, one for each way through a function that searches. Assumes nothing.
 use Prim.Native.Nat.{ℕ, suc, _+_, _≤_}
 use native.Mathlib.Numerals.{add-one}
 use mathlib.Core.Path.{_≡_, refl, sym, ap, _∙_}
@@ -105,6 +105,9 @@ module _ (s : List ℕ) (at : ℕ) (name : List ℕ) (n i : ℕ) (ws : Lefts s a
 module _ (s name : List ℕ) (r : T.Texts) (h : TextsAt s r (textsAt (78 ∷ 68 ∷ []) (drop 0 s))) (t : Table.Table) (w : wholeTable s ≡ some t) where
   pub find-untold : r ≡ T.the-variants.Bad → findModule t name ≡ none
   find-untold e = absurd (unread s r h t w e)
+
+  pub count-untold : (n : ℕ) → r ≡ T.the-variants.Bad → n ≡ length (t .modules)
+  count-untold n e = absurd (unread s r h t w e)
 
   pub find-modules : (p q : Part) → r ≡ T.the-variants.At p q → (f : F.FoundModule) → ((ms : List Table.Module) (x : List ℕ) → modulesFrom s (q .to) ≡ some (ms, x) → FindsModule s f (first (isCalled name) ms)) → FindsModule s f (findModule t name)
   unfolding findModule

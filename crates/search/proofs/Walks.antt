@@ -149,7 +149,7 @@ walk-after of s i c e w a =
     let y = a .later in
     record { fits = a .fits; later = omega arith; begun = a .begun }
 
-walk-less : (s : List ℕ) (c e : Cursor) → After s c e → length s - e .at < length s - c .at
+pub walk-less : (s : List ℕ) (c e : Cursor) → After s c e → length s - e .at < length s - c .at
 walk-less s c e a = let x = a .later in let y = a .fits .within in omega arith
 
 module _ (s : List ℕ) (c : Cursor) (r : R.Record) (h : RecordIs s c r) where
