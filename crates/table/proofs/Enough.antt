@@ -15,7 +15,7 @@ use Rattle.ascii.specs.Reader.{rest}
 use Rattle.datainfo.specs.Datainfo.{Datainfo}
 use Rattle.datainfo.specs.Layout.{counted, limit, doubleAt, intAt, variants, enumAt, stringAt, arrayAt, elements, tupleAt, fields, structAt, typed, datainfoIn}
 use Rattle.table.specs.Layout.{begins, flag, argumentAt, parameterAt, commandAt, accessiblesAt, noteAt, moduleAt, modulesAt}
-use Rattle.table.specs.At.{accessibleBegins, accessibleAt, accessiblesFrom, modulesFrom}
+use Rattle.table.specs.At.{textsAt, accessibleBegins, accessibleAt, accessiblesFrom, headingAt, modulesFrom}
 
 -- at most n bytes
 pub record Short (n : ℕ) (xs : List ℕ) : Type 0 where
@@ -267,6 +267,13 @@ w-module k xs h =
     r-then (r-mark 77 (79 ∷ []) h)
     (λ a g. w-then (w-counted g) (λ p i. w-then (w-counted i) (λ q j. w-then (w-note j) (λ r l. w-then (w-accessibles k (length (r .1)) l) (λ d e. left e)))))
 
+-- what a module has before its accessibles
+w-heading : {n : ℕ} (xs : List ℕ) → Short (suc n) xs → Within n (headingAt xs)
+unfolding headingAt textsAt bytes
+w-heading xs h =
+    w-then (r-then (r-mark 77 (79 ∷ []) h) (λ a g. w-then (w-counted g) (λ p i. w-then (w-counted i) (λ q j. left j))))
+    (λ t k. w-then (w-note k) (λ r l. left l))
+
 -- ## One record at a position, and those that follow it
 
 module _ (s : List ℕ) (i : ℕ) where
@@ -293,3 +300,9 @@ module _ (s : List ℕ) (i : ℕ) where
 
   pub module-less : (r : List ℕ) → begins (bytes "MO") (drop i s) ≡ true → rest (moduleAt (length s) (drop i s)) ≡ some r → length r < length (drop i s)
   module-less r h e = many-less (begins (bytes "MO")) (moduleAt (length s)) modules-empty takes-module (drop i s) r h e
+
+  takes-heading : (n : ℕ) (xs : List ℕ) → Short (suc n) xs → Within n (headingAt xs)
+  takes-heading n xs h = w-heading xs h
+
+  pub heading-less : (r : List ℕ) → begins (bytes "MO") (drop i s) ≡ true → rest (headingAt (drop i s)) ≡ some r → length r < length (drop i s)
+  heading-less r h e = many-less (begins (bytes "MO")) headingAt modules-empty takes-heading (drop i s) r h e

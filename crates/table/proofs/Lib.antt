@@ -6,4 +6,3 @@ pub mod Tests
 pub mod Named
 pub mod Heads
 pub mod Whole
-pub mod Searches

@@ -200,7 +200,7 @@ module _ (s : List ℕ) (r : T.Texts) (h : TextsAt s r (textsAt (78 ∷ 68 ∷ [
   y : Opened s p q t
   y = opened s r h t w p q er
 
-  modules-many : n ≡ length (t .modules)
+  pub modules-many : n ≡ length (t .modules)
   unfolding namesFrom
   modules-many =
       let k : n ≡ 0 + length (map (λ (m : Table.Module). m .name) (t .modules)) = hn ∙ rw (y .modules) in

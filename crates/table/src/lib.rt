@@ -1,4 +1,3 @@
-// The table: reading its records, judging it, and finding parameters and commands in it.
+// The table: reading its records and judging it.
 pub mod judge;
 pub mod layout;
-pub mod search;

@@ -1,9 +1,9 @@
--- `table::search::find_module` meets its contract. Assumes nothing.
+-- `search::find::find_module` meets its contract. Assumes nothing.
 use borrow.Author.Needs.{needs}
-use Rattle.table.proofs.Searches.{find-untold, find-modules}
+use Rattle.search.proofs.Searches.{find-untold, find-modules}
 use Rattle.table.proofs.Records.{texts-within}
-use Rattle.table.proofs.search.find_module.Statement.{statement}
-use Rattle.table.proofs.search.find_module.Tie as tie
+use Rattle.search.proofs.find.find_module.Statement.{statement}
+use Rattle.search.proofs.find.find_module.Tie as tie
 
 texts-at-requires : tie.Need-texts-at-requires
 texts-at-requires c κs = search needs

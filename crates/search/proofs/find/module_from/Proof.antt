@@ -1,13 +1,13 @@
--- `table::search::module_from` meets its contract. Assumes nothing.
+-- `search::find::module_from` meets its contract. Assumes nothing.
 use borrow.Author.Needs.{needs}
-use Rattle.table.proofs.Searches.{Lefts, search-start, search-last, search-bad, search-found, search-next}
+use Rattle.search.proofs.Searches.{Lefts, search-start, search-last, search-bad, search-found, search-next}
 use Rattle.table.proofs.Named.{name-inside, name-within, names-less, names-after}
 use denote.Ref.{now}
 use lib.ListN.{length}
 use native.Mathlib.Omega.{arith}
 use Prim.Native.Nat.{_≤_, _-_, _+_}
-use Rattle.table.proofs.search.module_from.Statement.{statement}
-use Rattle.table.proofs.search.module_from.Tie as tie
+use Rattle.search.proofs.find.module_from.Statement.{statement}
+use Rattle.search.proofs.find.module_from.Tie as tie
 
 abbrev Inv-loop : tie.InvT-loop
 Inv-loop s at name n₀ i₀ n i = ((i ≤ length s) × (n ≤ i)) × Lefts s at name n i

@@ -1,5 +1,5 @@
--- Laws of searches, one for each way through a function that searches. Assumes nothing.
-use Prim.Native.Nat.{ℕ, suc, _+_, _-_, _≤_}
+-- Laws of searches for modules, one for each way through a function that searches. Assumes nothing.
+use Prim.Native.Nat.{ℕ, suc, _+_, _≤_}
 use native.Mathlib.Numerals.{add-one}
 use mathlib.Core.Path.{_≡_, refl, sym, ap, _∙_}
 use mathlib.Core.Bool.{Bool, true, false, cond}
@@ -8,21 +8,21 @@ use mathlib.Core.Option.{Option, none, some}
 use lib.ListN.{length, drop}
 use Rattle.ascii.specs.Text.{bytes}
 use Rattle.ascii.specs.Bytes.{_>>=_, same}
 use Rattle.table.specs.Table as Table
 use Rattle.table.specs.Layout.{begins, moduleAt, modulesAt, wholeTable}
 use Rattle.table.specs.Search.{first, firstFrom, findModule}
 use Rattle.table.specs.declared.layout.Part.{Part}
 use Rattle.table.specs.declared.layout.Texts as T
 use Rattle.table.specs.declared.judge.Kind.the-variants.{Modules}
 use Rattle.table.specs.declared.judge.Named as N
-use Rattle.table.specs.declared.search.FoundModule as F
+use Rattle.search.specs.declared.find.FoundModule as F
 use Rattle.table.specs.At.{bytesOf, textsAt, TextsAt, modulesFrom}
 use Rattle.table.specs.Judged.{kindBegins, namedAt, NamedIs}
-use Rattle.table.specs.Found.{isCalled, ModuleAt, FindsModule}
+use Rattle.search.specs.Found.{isCalled, ModuleAt, FindsModule}
 use Rattle.table.proofs.Accessibles.{in-some}
 use Rattle.table.proofs.Enough.{before, modules-stop, modules-more}
 use Rattle.table.proofs.Named.{Was, was, none-was}
 use Rattle.table.proofs.Whole.{opened, unread, never}
 
 -- a first element that was read before others
 pub record Split {A : Type 0} (a : A) (o : Option (List A × List ℕ)) (l : List A) (x : List ℕ) : Type 0 where
@@ -105,6 +105,9 @@ module _ (s : List ℕ) (at : ℕ) (name : List ℕ) (n i : ℕ) (ws : Lefts s a
 module _ (s name : List ℕ) (r : T.Texts) (h : TextsAt s r (textsAt (78 ∷ 68 ∷ []) (drop 0 s))) (t : Table.Table) (w : wholeTable s ≡ some t) where
   pub find-untold : r ≡ T.the-variants.Bad → findModule t name ≡ none
   find-untold e = absurd (unread s r h t w e)
+
+  pub count-untold : (n : ℕ) → r ≡ T.the-variants.Bad → n ≡ length (t .modules)
+  count-untold n e = absurd (unread s r h t w e)
 
   pub find-modules : (p q : Part) → r ≡ T.the-variants.At p q → (f : F.FoundModule) → ((ms : List Table.Module) (x : List ℕ) → modulesFrom s (q .to) ≡ some (ms, x) → FindsModule s f (first (isCalled name) ms)) → FindsModule s f (findModule t name)
   unfolding findModule

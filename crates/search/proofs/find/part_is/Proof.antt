@@ -1,8 +1,8 @@
--- `table::search::part_is` meets its contract. Assumes nothing.
+-- `search::find::part_is` meets its contract. Assumes nothing.
 use borrow.Author.Needs.{needs}
 use Rattle.table.specs.At.{bytesOf}
-use Rattle.table.proofs.search.part_is.Statement.{statement}
-use Rattle.table.proofs.search.part_is.Tie as tie
+use Rattle.search.proofs.find.part_is.Statement.{statement}
+use Rattle.search.proofs.find.part_is.Tie as tie
 
 sub-same : tie.Need-sub-same
 sub-same c = search needs

@@ -1,0 +1,310 @@
+-- Laws of searches for parameters and commands by name and by number. Assumes nothing.
+use Prim.Native.Nat.{ℕ, zero, suc, _+_, _-_, _≤_, _<_}
+use native.Mathlib.Numerals.{add-one}
+use native.Mathlib.Omega.{arith}
+use mathlib.Core.Path.{_≡_, refl, sym, ap, ap₂, subst, _∙_}
+use mathlib.Core.Bool.{Bool, true, false, cond, not, _&&_, and-eq-true-iff, false≢true}
+use mathlib.Core.List.{List, [], _∷_}
+use mathlib.Core.Option.{Option, none, some}
+use lib.ListN.{length, drop, getElem?}
+use lib.Dec.{eqb}
+use borrow.Author.Tests.{eqb-true, not-true, not-false}
+use Rattle.ascii.specs.Bytes.{same}
+use Rattle.table.specs.Table as Table
+use Rattle.table.specs.Search.{Placed, parametersOf, commandsOf, parameters, commands, firstFrom, first, findParameter, findCommand}
+use Rattle.table.specs.declared.layout.ParameterAt.{ParameterAt}
+use Rattle.table.specs.declared.layout.CommandAt.{CommandAt}
+use Rattle.table.specs.At.{bytesOf, Inside, parameterOf, commandOf}
+use Rattle.table.proofs.Accessibles.{in-some}
+use Rattle.table.proofs.Whole.{never}
+use Rattle.search.specs.declared.cursor.Cursor.{Cursor}
+use Rattle.search.specs.declared.cursor.NextParameter as P
+use Rattle.search.specs.declared.cursor.NextCommand as C
+use Rattle.search.specs.Left.{placed, leftFrom, Fits, After, FirstIs, Begins, Ended, FirstCursor, NextParameterIs, NextCommandIs}
+use Rattle.search.proofs.Walks.{walk-less}
+use Rattle.search.specs.Found.{InTable, ParameterFound, CommandFound, ParameterNumbered}
+
+-- ## Lists
+
+module _ {A : Type 0} where
+  drop-more : (n : ℕ) (l : List A) (x : A) (xs : List A) → drop n l ≡ x ∷ xs → drop (suc n) l ≡ xs
+  drop-more zero [] x xs e = let z : _≡_ {A = ℕ} 0 1 = cc in absurd (omega arith)
+  drop-more zero (y ∷ l) x xs e = cc
+  drop-more (suc n) [] x xs e = let z : _≡_ {A = ℕ} 0 1 = cc in absurd (omega arith)
+  drop-more (suc n) (y ∷ l) x xs e = drop-more n l x xs e
+
+  drop-next : (n : ℕ) (l : List A) (x : A) (xs : List A) → drop n l ≡ x ∷ xs → drop (n + 1) l ≡ xs
+  drop-next n l x xs e = rw (add-one n) (drop-more n l x xs e)
+
+  drop-at : (n : ℕ) (l : List A) (x : A) (xs : List A) → drop n l ≡ x ∷ xs → getElem? l n ≡ some x
+  drop-at zero [] x xs e = let z : _≡_ {A = ℕ} 0 1 = cc in absurd (omega arith)
+  drop-at zero (y ∷ l) x xs e = cc
+  drop-at (suc n) [] x xs e = let z : _≡_ {A = ℕ} 0 1 = cc in absurd (omega arith)
+  drop-at (suc n) (y ∷ l) x xs e = drop-at n l x xs e
+
+  drop-past : (n : ℕ) (l : List A) (k : ℕ) → drop n l ≡ [] → n ≤ k → getElem? l k ≡ none
+  drop-past n [] k e h = refl
+  drop-past zero (y ∷ l) k e h = let z : _≡_ {A = ℕ} 0 1 = cc in absurd (omega arith)
+  drop-past (suc n) (y ∷ l) zero e h = absurd (omega arith)
+  drop-past (suc n) (y ∷ l) (suc k) e h = drop-past n l k e (omega arith)
+
+-- ## What a search finds
+
+both : (a b : Bool) → a && b ≡ true → (a ≡ true) × (b ≡ true)
+both a b = and-eq-true-iff a b .0
+
+same-is : (xs ys : List ℕ) → same xs ys ≡ true → xs ≡ ys
+unfolding same
+same-is [] [] e = refl
+same-is [] (y ∷ ys) e = absurd (false≢true e)
+same-is (x ∷ xs) [] e = absurd (false≢true e)
+same-is (x ∷ xs) (y ∷ ys) e =
+    let h = both (eqb x y) (same xs ys) e in
+    ap₂ _∷_ (eqb-true x y (h .0)) (same-is xs ys (h .1))
+
+module _ {A : Type 0} (p : A → Bool) where
+  -- a search's find, after n elements that did not pass
+  record Stands (n : ℕ) (l : List A) (k : ℕ × A) : Type 0 where
+    pub place : ℕ
+    pub number : k .0 ≡ n + place
+    pub there : getElem? l place ≡ some (k .1)
+    pub passes : p (k .1) ≡ true
+
+  stands-from : (n : ℕ) (l : List A) (k : ℕ × A) → firstFrom p n l ≡ some k → Stands n l k
+  unfolding firstFrom
+  stands-from n [] k e = absurd (never e)
+  stands-from n (x ∷ l) k e = go (p x) refl (λ z. stands-from (suc n) l k z) e
+    where
+      go : (b : Bool) → p x ≡ b → (firstFrom p (suc n) l ≡ some k → Stands (suc n) l k) → cond b (some (n, x)) (firstFrom p (suc n) l) ≡ some k → Stands n (x ∷ l) k
+      go true z f e =
+          let q : _≡_ {A = ℕ × A} (n, x) k = in-some e in
+          record { place = 0; number = omega (arith, ap (λ (y : ℕ × A). y .0) q); there = ap (λ (y : ℕ × A). some (y .1)) q; passes = ap (λ (y : ℕ × A). p (y .1)) (sym q) ∙ z }
+      go false z f e = let g = f e in let h = g .number in record { place = suc (g .place); number = omega arith; there = g .there; passes = g .passes }
+
+  pub first-there : (l : List A) (k : ℕ × A) → first p l ≡ some k → getElem? l (k .0) ≡ some (k .1)
+  unfolding first
+  first-there l k e =
+      let g = stands-from 0 l k e in
+      let h = g .number in
+      let i : g .place ≡ k .0 = omega arith in
+      subst (λ (j : ℕ). getElem? l j ≡ some (k .1)) i (g .there)
+
+  pub first-passes : (l : List A) (k : ℕ × A) → first p l ≡ some k → p (k .1) ≡ true
+  unfolding first
+  first-passes l k e = stands-from 0 l k e .passes
+
+-- the test of two names
+abbrev pub isNamed : {A : Type 0} → (A → List ℕ) → List ℕ → List ℕ → Placed A → Bool
+isNamed name m a x = same m (x .moduleName) && same a (name (x .it))
+
+named-is : {A : Type 0} (name : A → List ℕ) (m a : List ℕ) (x : Placed A) → isNamed name m a x ≡ true → (x .moduleName ≡ m) × (name (x .it) ≡ a)
+named-is name m a x e =
+    let h = both (same m (x .moduleName)) (same a (name (x .it))) e in
+    (sym (same-is m (x .moduleName) (h .0)), sym (same-is a (name (x .it)) (h .1)))
+
+abbrev parameterName : Table.Parameter → List ℕ
+parameterName p = p .name
+
+abbrev commandName : Table.Command → List ℕ
+commandName p = p .name
+
+-- a parameter that is found stands at its number, and has both names
+module _ (t : Table.Table) (m a : List ℕ) (k : ℕ × Placed Table.Parameter) (e : findParameter t m a ≡ some k) where
+  pub parameter-there : getElem? (parameters t) (k .0) ≡ some (k .1)
+  unfolding findParameter
+  parameter-there = first-there (isNamed parameterName m a) (parameters t) k e
+
+  pub parameter-named : (k .1 .moduleName ≡ m) × (k .1 .it .name ≡ a)
+  unfolding findParameter
+  parameter-named = named-is parameterName m a (k .1) (first-passes (isNamed parameterName m a) (parameters t) k e)
+
+-- so does a command
+module _ (t : Table.Table) (m a : List ℕ) (k : ℕ × Placed Table.Command) (e : findCommand t m a ≡ some k) where
+  pub command-there : getElem? (commands t) (k .0) ≡ some (k .1)
+  unfolding findCommand
+  command-there = first-there (isNamed commandName m a) (commands t) k e
+
+  pub command-named : (k .1 .moduleName ≡ m) × (k .1 .it .name ≡ a)
+  unfolding findCommand
+  command-named = named-is commandName m a (k .1) (first-passes (isNamed commandName m a) (commands t) k e)
+
+-- ## A count
+
+module _ {A : Type 0} (of : List Table.Accessible → List A) (l : Table.Table → List (Placed A)) (s : List ℕ) where
+  -- n of those of the table have been passed at c
+  pub record Counted (n : ℕ) (c : Cursor) : Type 0 where
+    pub fits : Fits s c
+    pub few : n ≤ c .at
+    pub left : InTable s λ t. leftFrom of s c ≡ some (drop n (l t))
+
+  pub counted-fits : (n : ℕ) (c : Cursor) → Counted n c → Fits s c
+  counted-fits n c h = h .fits
+
+  module _ (n : ℕ) (c : Cursor) (h : Counted n c) where
+    counted-end : Ended of s c → InTable s λ t. drop n (l t) ≡ []
+    counted-end e t w = e (drop n (l t)) (h .left t w)
+
+    module _ (e : Cursor) (a : A) (b : Begins of s c e a) where
+      counted-at : InTable s λ t. FirstIs of s e a (drop n (l t))
+      counted-at t w = b (drop n (l t)) (h .left t w)
+
+      counted-left : InTable s λ t. leftFrom of s e ≡ some (drop (n + 1) (l t))
+      counted-left t w = let f = counted-at t w in f .left ∙ ap some (sym (drop-next n (l t) _ _ (f .is)))
+
+      counted-on : After s c e → Counted (n + 1) e
+      counted-on x =
+          let y = h .few in
+          let z = x .later in
+          record { fits = x .fits; few = omega arith; left = counted-left }
+
+pub counted-parameters : (s : List ℕ) (c : Cursor) → FirstCursor s c → Counted parametersOf parameters s 0 c
+counted-parameters s c f = record { fits = f .fits; few = omega arith; left = f .parametersLeft }
+
+pub counted-commands : (s : List ℕ) (c : Cursor) → FirstCursor s c → Counted commandsOf commands s 0 c
+counted-commands s c f = record { fits = f .fits; few = omega arith; left = f .commandsLeft }
+
+-- ## A search by name
+
+module _ {A : Type 0} (of : List Table.Accessible → List A) (l : Table.Table → List (Placed A)) (name : A → List ℕ) (s m a : List ℕ) where
+  -- none of those that were passed has the names
+  pub record Sought (n : ℕ) (c : Cursor) : Type 0 where
+    pub counted : Counted of l s n c
+    pub finds : InTable s λ t. first (isNamed name m a) (l t) ≡ firstFrom (isNamed name m a) n (drop n (l t))
+
+  pub sought-start : (c : Cursor) → Counted of l s 0 c → Sought 0 c
+  unfolding first
+  sought-start c h = record { counted = h; finds = λ t w. refl }
+
+  pub sought-fits : (n : ℕ) (c : Cursor) → Sought n c → Fits s c
+  sought-fits n c h = h .counted .fits
+
+  module _ (n : ℕ) (c : Cursor) (h : Sought n c) where
+    sought-end : Ended of s c → InTable s λ t. first (isNamed name m a) (l t) ≡ none
+    unfolding firstFrom
+    sought-end e t w = h .finds t w ∙ rw (counted-end of l s n c (h .counted) e t w)
+
+    module _ (e : Cursor) (x : A) (b : Begins of s c e x) (d : Bool) (hd : d ≡ (same m (bytesOf s (e .name)) && same a (name x))) where
+      -- the search from here on, by what the test says
+      abbrev on : List (Placed A) → Bool → Option (ℕ × Placed A)
+      on others d = cond d (some (n, placed s e x)) (firstFrom (isNamed name m a) (suc n) others)
+
+      step : InTable s λ t. first (isNamed name m a) (l t) ≡ on (drop (n + 1) (l t)) d
+      unfolding firstFrom
+      step t w =
+          let f = counted-at of l s n c (h .counted) e x b t w in
+          h .finds t w ∙ ap (firstFrom (isNamed name m a) n) (f .is)
+          ∙ ap (on (f .others)) (sym hd)
+          ∙ ap (λ o. on o d) (sym (drop-next n (l t) _ _ (f .is)))
+
+      sought-here : d ≡ true → InTable s λ t. first (isNamed name m a) (l t) ≡ some (n, record { home = e .modules - 1; moduleName = m; it = x })
+      sought-here z t w =
+          let y = both (same m (bytesOf s (e .name))) (same a (name x)) (sym hd ∙ z) in
+          step t w ∙ rw (z, same-is m (bytesOf s (e .name)) (y .0))
+
+      sought-on : d ≡ false → After s c e → Sought (n + 1) e
+      sought-on z v =
+          record {
+            counted = counted-on of l s n c (h .counted) e x b v;
+            finds = λ t w. step t w ∙ rw (z, ← (add-one n));
+          }
+
+-- ## Where the next one lies
+
+after-room : (s : List ℕ) (c e : Cursor) → After s c e → (n : ℕ) → n ≤ c .at → n + 1 ≤ length s
+after-room s c e a n h = let x = a .later in let y = a .fits .within in omega arith
+
+module _ (s : List ℕ) (c : Cursor) (r : P.NextParameter) (hr : NextParameterIs s c r) (q : ParameterAt) (e : Cursor) (z : r ≡ P.the-variants.At q e) where
+  pub parameter-home : Inside s (e .name)
+  parameter-home = (rw z at hr) .after .fits .name
+
+  pub parameter-inside : Inside s (q .name)
+  parameter-inside = (rw z at hr) .held .name
+
+  pub parameter-begun : 0 < e .modules
+  parameter-begun = (rw z at hr) .after .begun
+
+  pub parameter-falls : length s - e .at < length s - c .at
+  parameter-falls = walk-less s c e ((rw z at hr) .after)
+
+  pub parameter-room : (n : ℕ) → n ≤ c .at → n + 1 ≤ length s
+  parameter-room n h = after-room s c e ((rw z at hr) .after) n h
+
+module _ (s : List ℕ) (c : Cursor) (r : C.NextCommand) (hr : NextCommandIs s c r) (q : CommandAt) (e : Cursor) (z : r ≡ C.the-variants.At q e) where
+  pub command-home : Inside s (e .name)
+  command-home = (rw z at hr) .after .fits .name
+
+  pub command-inside : Inside s (q .name)
+  command-inside = (rw z at hr) .held .name
+
+  pub command-begun : 0 < e .modules
+  command-begun = (rw z at hr) .after .begun
+
+  pub command-falls : length s - e .at < length s - c .at
+  command-falls = walk-less s c e ((rw z at hr) .after)
+
+  pub command-room : (n : ℕ) → n ≤ c .at → n + 1 ≤ length s
+  command-room n h = after-room s c e ((rw z at hr) .after) n h
+
+-- ## One law for each way through a search
+
+module _ (m a x y : List ℕ) (b : Bool) (h : b ≡ same m x) where
+  pub named-not : not b ≡ true → false ≡ (same m x && same a y)
+  named-not e = rw (← h, not-true b e)
+
+  pub named-so : (d : Bool) → not b ≡ false → d ≡ same a y → d ≡ (same m x && same a y)
+  named-so d e g = rw (← h, not-false b e) g
+
+abbrev pub SoughtParameter : List ℕ → List ℕ → List ℕ → ℕ → Cursor → Type 0
+SoughtParameter s m a n c = Sought parametersOf parameters parameterName s m a n c
+
+abbrev pub SoughtCommand : List ℕ → List ℕ → List ℕ → ℕ → Cursor → Type 0
+SoughtCommand s m a n c = Sought commandsOf commands commandName s m a n c
+
+module _ (s m a : List ℕ) (n : ℕ) (c : Cursor) (h : SoughtParameter s m a n c) (r : P.NextParameter) (hr : NextParameterIs s c r) where
+  pub parameter-missing : r ≡ P.the-variants.End → InTable s λ t. findParameter t m a ≡ none
+  unfolding findParameter
+  parameter-missing z = sought-end parametersOf parameters parameterName s m a n c h (rw z at hr)
+
+  module _ (q : ParameterAt) (e : Cursor) (z : r ≡ P.the-variants.At q e) (d : Bool) (hd : d ≡ (same m (bytesOf s (e .name)) && same a (bytesOf s (q .name)))) where
+    pub parameter-is : d ≡ true → ParameterFound s m a n (e .modules - 1) q
+    unfolding findParameter parameterOf
+    parameter-is y = let x = rw z at hr in record { held = x .held; is = sought-here parametersOf parameters parameterName s m a n c h e _ (x .first) d hd y }
+
+    pub parameter-on : d ≡ false → SoughtParameter s m a (n + 1) e
+    unfolding parameterOf
+    parameter-on y = let x = rw z at hr in sought-on parametersOf parameters parameterName s m a n c h e _ (x .first) d hd y (x .after)
+
+module _ (s m a : List ℕ) (n : ℕ) (c : Cursor) (h : SoughtCommand s m a n c) (r : C.NextCommand) (hr : NextCommandIs s c r) where
+  pub command-missing : r ≡ C.the-variants.End → InTable s λ t. findCommand t m a ≡ none
+  unfolding findCommand
+  command-missing z = sought-end commandsOf commands commandName s m a n c h (rw z at hr)
+
+  module _ (q : CommandAt) (e : Cursor) (z : r ≡ C.the-variants.At q e) (d : Bool) (hd : d ≡ (same m (bytesOf s (e .name)) && same a (bytesOf s (q .name)))) where
+    pub command-is : d ≡ true → CommandFound s m a n (e .modules - 1) q
+    unfolding findCommand commandOf
+    command-is y = let x = rw z at hr in record { held = x .held; is = sought-here commandsOf commands commandName s m a n c h e _ (x .first) d hd y }
+
+    pub command-on : d ≡ false → SoughtCommand s m a (n + 1) e
+    unfolding commandOf
+    command-on y = let x = rw z at hr in sought-on commandsOf commands commandName s m a n c h e _ (x .first) d hd y (x .after)
+
+-- ## One law for each way through a search by number
+
+module _ (s : List ℕ) (k n : ℕ) (c : Cursor) (h : Counted parametersOf parameters s n c) (r : P.NextParameter) (hr : NextParameterIs s c r) where
+  pub number-missing : r ≡ P.the-variants.End → n ≤ k → InTable s λ t. getElem? (parameters t) k ≡ none
+  number-missing z l t w = drop-past n (parameters t) k (counted-end parametersOf parameters s n c h (rw z at hr) t w) l
+
+  module _ (q : ParameterAt) (e : Cursor) (z : r ≡ P.the-variants.At q e) where
+    pub number-is : n ≡ k → ParameterNumbered s k q e
+    number-is y = let x = rw z at hr in
+        rw (← y)
+        (record {
+          fits = x .after .fits;
+          begun = x .after .begun;
+          held = x .held;
+          is = λ t w. drop-at n (parameters t) _ _ (counted-at parametersOf parameters s n c h e _ (x .first) t w .is);
+          left = counted-left parametersOf parameters s n c h e _ (x .first);
+        })
+
+    pub number-on : Counted parametersOf parameters s (n + 1) e
+    number-on = let x = rw z at hr in counted-on parametersOf parameters s n c h e _ (x .first) (x .after)

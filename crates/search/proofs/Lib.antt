@@ -1,0 +1,4 @@
+pub mod Lefts
+pub mod Walks
+pub mod Finds
+pub mod Searches

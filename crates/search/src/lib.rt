@@ -1,0 +1,3 @@
+// Finding the modules, parameters and commands of a table that can be read.
+pub mod cursor;
+pub mod find;
