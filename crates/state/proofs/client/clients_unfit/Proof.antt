@@ -1,0 +1,70 @@
+-- `state::client::clients_unfit` meets its contract. The loop's invariant: of the first c clients none is unfit. Assumes nothing.
+use Rattle.state.proofs.Judged.{unfit-at, any-found, any-more, any-none}
+use borrow.Author.Needs.{needs}
+use native.Mathlib.Omega.{arith}
+use mathlib.Core.Path.{_≡_, refl}
+use Prim.Native.Nat.{_-_, _≤_}
+use lib.ListN.{drop}
+use Rattle.ascii.specs.Bytes.{any}
+use Rattle.plain.specs.Node.{clientNumbers}
+use Rattle.state.specs.Fit.{clientUnfit}
+use Rattle.state.specs.Becomes.{Sized}
+use Rattle.state.proofs.client.clients_unfit.Statement.{statement}
+use Rattle.state.proofs.client.clients_unfit.Tie as tie
+
+abbrev Inv-loop : tie.InvT-loop
+Inv-loop s modules c₀ c = (c ≤ 8) × (any (clientUnfit modules s) clientNumbers ≡ any (clientUnfit modules s) (drop c clientNumbers))
+
+abbrev μ-loop : tie.MeasureT-loop
+μ-loop s modules c₀ c = 8 - c
+
+loop-holds : tie.Need-loop-holds Inv-loop μ-loop
+loop-holds c = (omega arith, refl)
+
+client-unfit-requires : tie.Need-client-unfit-requires Inv-loop μ-loop
+client-unfit-requires c κs = search needs
+
+returns : tie.Need-returns Inv-loop μ-loop
+returns c =
+    let at = c .before .before .before in
+    let args = at .before .args in
+    let z : Sized (args .s) = record { isOpen = search needs; isOverlong = search needs; mask = search needs; size = search needs; room = search needs } in
+    let below = c .before .before .loop-test .taken in
+    let own = unfit-at (args .modules) (args .s) (at .loop .c) below (c .before .client-unfit .result) (c .before .client-unfit .ensures) (c .if1 .taken) in
+    record { is = any-found (clientUnfit (args .modules) (args .s)) clientNumbers (at .loop .c) (at .loop .inv .1) below own; sized = z }
+
+add-c : tie.Need-add-c Inv-loop μ-loop
+add-c c = omega arith
+
+loop-less : tie.Need-loop-less Inv-loop μ-loop
+loop-less c = omega arith
+
+loop-again : tie.Need-loop-again Inv-loop μ-loop
+loop-again c =
+    let at = c .before .before .before in
+    let args = at .before .args in (
+      omega arith,
+      any-more (clientUnfit (args .modules) (args .s)) clientNumbers (at .loop .c) (at .loop .inv .1) (c .before .before .loop-test .taken)
+          (unfit-at (args .modules) (args .s) (at .loop .c) (c .before .before .loop-test .taken) (c .before .client-unfit .result) (c .before .client-unfit .ensures) (c .if1 .left)),
+    )
+
+returns-2 : tie.Need-returns-2 Inv-loop μ-loop
+returns-2 c =
+    let at = c .before in
+    let args = at .before .args in
+    let z : Sized (args .s) = record { isOpen = search needs; isOverlong = search needs; mask = search needs; size = search needs; room = search needs } in
+    record { is = any-none (clientUnfit (args .modules) (args .s)) clientNumbers (at .loop .c) (at .loop .inv .1) (c .loop-test .left); sized = z }
+
+pub clients-unfit-spec : {M : Type 1} → statement M
+clients-unfit-spec =
+    tie.close
+    (tie.spec
+    Inv-loop
+    μ-loop
+    loop-holds
+    client-unfit-requires
+    returns
+    add-c
+    loop-less
+    loop-again
+    returns-2)

@@ -1,0 +1,50 @@
+-- What the code that changes one client does. Assumes nothing.
+use Prim.Native.Nat.{ℕ, _≤_}
+use mathlib.Core.Path.{_≡_}
+use mathlib.Core.Bool.{Bool, true, false}
+use mathlib.Core.List.{List}
+use lib.Dec.{eqb}
+use lib.ListN.{length, getD}
+use Rattle.ascii.specs.Bytes.{any}
+use Rattle.plain.specs.Node.{Client, put, clientNumbers}
+use Rattle.state.specs.declared.Clients.{Clients}
+use Rattle.state.specs.View.{isSet, clientAt}
+use Rattle.state.specs.Fit.{clientUnfit, pastLast}
+
+-- of the clients s, client c becomes x and no other is changed. The others stay as fit for a table of m modules as they were, and c stays
+-- fit under a condition
+pub record Becomes (s : Clients) (c : ℕ) (x : Client) (condition : ℕ → Type 0) (r : Clients) : Type 0 where
+  pub is : (d : ℕ) → clientAt r d ≡ put (clientAt s) c x d
+  pub others : (m d : ℕ) → eqb d c ≡ false → clientUnfit m r d ≡ clientUnfit m s d
+  pub own : (m : ℕ) → clientUnfit m s c ≡ false → condition m → clientUnfit m r c ≡ false
+
+-- no condition
+abbrev pub Always : ℕ → Type 0
+Always m = Unit
+
+-- client c is open, and the bytes have no line feed
+pub record Joinable (s : Clients) (c : ℕ) (bytes : List ℕ) (m : ℕ) : Type 0 where
+  pub isOpen : isSet (s .open) c ≡ true
+  pub noFeed : any (λ b. eqb b 10) bytes ≡ false
+
+-- client c is open, and no module past the last is in the mask
+pub record Activatable (s : Clients) (c mask m : ℕ) : Type 0 where
+  pub isOpen : isSet (s .open) c ≡ true
+  pub within : pastLast mask m ≡ false
+
+-- how many elements the arrays have
+pub record Sized (s : Clients) : Type 0 where
+  pub isOpen : length (s .open) ≡ 8
+  pub isOverlong : length (s .overlong) ≡ 8
+  pub mask : length (s .active) ≡ 8
+  pub size : length (s .length) ≡ 8
+  pub room : length (s .lines) ≡ 8192
+
+-- r says whether a client is unfit for a table of m modules
+pub record Judged (m : ℕ) (s : Clients) (r : Bool) : Type 0 where
+  pub is : r ≡ any (clientUnfit m s) clientNumbers
+  pub sized : Sized s
+
+-- no line reaches into the next client's place
+abbrev pub LinesFit : Clients → Type 0
+LinesFit s = (d : ℕ) → getD (s .length) d 0 ≤ 1024

@@ -1,0 +1,199 @@
+// Changes of one client, and the judging of all. A client's line has 1,024 bytes of the lines, from 1,024 times its number on.
+use crate::Clients;
+use crate::bits::has_bit;
+use crate::bits::is_past;
+use ascii::write::put;
+ghost use mathlib.Core.Path.{_≡_};
+ghost use mathlib.Core.Bool.{false, not, _&&_, _||_};
+ghost use Prim.Native.Nat.{_*_, _+_, _<_, _≤_};
+ghost use lib.Dec.{eqb};
+ghost use lib.ListN.{length, getD};
+ghost use Rattle.ascii.specs.Bytes.{any};
+ghost use Rattle.plain.specs.Node as Node;
+ghost use Rattle.plain.specs.Node.{fresh, receive, emptied, activated, isActive};
+ghost use Rattle.state.specs.View.{isSet, bit, clientAt};
+ghost use Rattle.state.specs.Fit.{clientUnfit};
+ghost use Rattle.state.specs.Becomes.{Becomes, Always, Joinable, Activatable, Judged, LinesFit};
+
+// "Open begins with an empty line and nothing active".
+pub fn opened(s: Clients, c: usize) -> Clients
+    requires { ⌜ c < 8 ⌝ }
+    ensures { λ r. ⌜ Becomes s c fresh Always r ⌝ }
+{
+    let mut next = s;
+    next.open[c] = 1;
+    next.overlong[c] = 0;
+    next.active[c] = 0;
+    next.length[c] = 0;
+    next
+}
+
+// "close forgets both".
+pub fn closed(s: Clients, c: usize) -> Clients
+    requires { ⌜ c < 8 ⌝ }
+    ensures { λ r. ⌜ Becomes s c Node.closed Always r ⌝ }
+{
+    let mut next = s;
+    next.open[c] = 0;
+    next.overlong[c] = 0;
+    next.active[c] = 0;
+    next.length[c] = 0;
+    next
+}
+
+// A line was carried out: no bytes stay.
+pub fn ended(s: Clients, c: usize) -> Clients
+    requires { ⌜ c < 8 ⌝ }
+    ensures { λ r. ⌜ Becomes s c (emptied (clientAt s c)) Always r ⌝ }
+{
+    let mut next = s;
+    next.overlong[c] = 0;
+    next.length[c] = 0;
+    next
+}
+
+pub fn with_active(s: Clients, c: usize, mask: u16) -> Clients
+    requires { ⌜ c < 8 ⌝ }
+    ensures { λ r. ⌜ Becomes s c (activated (bit mask) (clientAt s c)) (Activatable s c mask) r ⌝ }
+{
+    let mut next = s;
+    next.active[c] = mask;
+    next
+}
+
+// The line gets over 1,024 bytes, and only that is kept.
+fn overflowed(s: Clients, c: usize, bytes: &[u8]) -> Clients
+    requires { ⌜ (c < 8) × ((LinesFit s) × ((isSet (s .overlong) c ≡ false) × (1024 < getD (s .length) c 0 + length (now bytes)))) ⌝ }
+    ensures { λ r. ⌜ Becomes s c (receive (clientAt s c) (now (bytes .entry))) (Joinable s c (now (bytes .entry))) r ⌝ }
+{
+    let mut next = s;
+    next.overlong[c] = 1;
+    next.length[c] = 0;
+    next
+}
+
+// The line still has at most 1,024 bytes.
+fn extended(s: Clients, c: usize, bytes: &[u8]) -> Clients
+    requires { ⌜ (c < 8) × ((LinesFit s) × ((isSet (s .overlong) c ≡ false) × (getD (s .length) c 0 + length (now bytes) ≤ 1024))) ⌝ }
+    ensures { λ r. ⌜ Becomes s c (receive (clientAt s c) (now (bytes .entry))) (Joinable s c (now (bytes .entry))) r ⌝ }
+{
+    let mut next = s;
+    let length = s.length[c] as usize;
+    let mut lines = s.lines;
+    put(&mut lines, 1024 * c + length, bytes);
+    next.lines = lines;
+    next.length[c] = (length + bytes.len()) as u16;
+    next
+}
+
+// "The bytes a piece uses join its client's"; "once over 1,024, only that" is kept.
+pub fn joined(s: Clients, c: usize, bytes: &[u8]) -> Clients
+    requires { ⌜ (c < 8) × (LinesFit s) ⌝ }
+    ensures { λ r. ⌜ Becomes s c (receive (clientAt s c) (now (bytes .entry))) (Joinable s c (now (bytes .entry))) r ⌝ }
+{
+    if s.overlong[c] != 0 {
+        return s;
+    }
+    let length = s.length[c] as usize;
+    if 1024 - length < bytes.len() {
+        return overflowed(s, c, bytes);
+    }
+    extended(s, c, bytes)
+}
+
+pub fn is_open(s: Clients, c: usize) -> bool
+    requires { ⌜ c < 8 ⌝ }
+    ensures { λ r. ⌜ r ≡ isSet (s .open) c ⌝ }
+{
+    s.open[c] != 0
+}
+
+// Whether client c is open and has the module of number i active.
+pub fn is_active(s: Clients, c: usize, i: usize) -> bool
+    requires { ⌜ (c < 8) × (i < 16) ⌝ }
+    ensures { λ r. ⌜ r ≡ isActive (clientAt s c) i ⌝ }
+{
+    if s.open[c] == 0 {
+        return false;
+    }
+    has_bit(s.active[c], i)
+}
+
+pub fn has_feed(bytes: &[u8]) -> bool
+    ensures { λ r. ⌜ r ≡ any (λ b. eqb b 10) (now (bytes .entry)) ⌝ }
+{
+    let mut i = 0;
+    while i < bytes.len() {
+        if bytes[i] == 10 {
+            return true;
+        }
+        i += 1;
+    }
+    false
+}
+
+// Whether a client inside an overlong line keeps bytes of it.
+fn keeps_dropped(s: Clients, c: usize) -> bool
+    requires { ⌜ c < 8 ⌝ }
+    ensures { λ r. ⌜ r ≡ isSet (s .overlong) c && isSet (s .length) c ⌝ }
+{
+    if s.overlong[c] == 0 {
+        return false;
+    }
+    s.length[c] != 0
+}
+
+// Whether a closed client has bytes, an overlong line or active modules.
+fn keeps_closed(s: Clients, c: usize) -> bool
+    requires { ⌜ c < 8 ⌝ }
+    ensures { λ r. ⌜ r ≡ not (isSet (s .open) c) && (isSet (s .length) c || isSet (s .overlong) c || isSet (s .active) c) ⌝ }
+{
+    if s.open[c] != 0 {
+        return false;
+    }
+    if s.length[c] != 0 {
+        return true;
+    }
+    if s.overlong[c] != 0 {
+        return true;
+    }
+    s.active[c] != 0
+}
+
+// The faults of one client in the order of document 01. A line over 1,024 bytes is not looked at: it may reach past the lines.
+fn client_unfit(s: Clients, modules: usize, c: usize) -> bool
+    requires { ⌜ (c < 8) × (modules ≤ 16) ⌝ }
+    ensures { λ r. ⌜ r ≡ clientUnfit modules s c ⌝ }
+{
+    let length = s.length[c] as usize;
+    if 1024 < length {
+        return true;
+    }
+    let lines = s.lines;
+    let from = 1024 * c;
+    let to = from + length;
+    if has_feed(&lines[from..to]) {
+        return true;
+    }
+    if keeps_dropped(s, c) {
+        return true;
+    }
+    if is_past(s.active[c], modules) {
+        return true;
+    }
+    keeps_closed(s, c)
+}
+
+pub fn clients_unfit(s: Clients, modules: usize) -> bool
+    requires { ⌜ modules ≤ 16 ⌝ }
+    ensures { λ r. ⌜ Judged modules s r ⌝ }
+{
+    let mut c = 0;
+    while c < 8 {
+        if client_unfit(s, modules, c) {
+            return true;
+        }
+        c += 1;
+    }
+    false
+}
