@@ -1,5 +1,6 @@
 pub mod Records
 pub mod Accessibles
+pub mod Leaves
 pub mod Enough
 pub mod Modules
 pub mod Tests
@@ -7,3 +8,4 @@ pub mod Named
 pub mod Heads
 pub mod Whole
 pub mod Searches
+pub mod Places
