@@ -8,3 +8,4 @@ pub mod Judged
 pub mod Kept
 pub mod Settled
 pub mod Stands
+pub mod Views
