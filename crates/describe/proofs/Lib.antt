@@ -1,0 +1,5 @@
+pub mod Pieces
+pub mod Says
+pub mod Infos
+pub mod Lists
+pub mod Nested

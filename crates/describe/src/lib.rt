@@ -1,0 +1,3 @@
+// The structure report of a table, in code.
+pub mod info;
+pub mod write;
