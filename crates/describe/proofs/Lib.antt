@@ -3,3 +3,5 @@ pub mod Says
 pub mod Infos
 pub mod Lists
 pub mod Nested
+pub mod Reported
+pub mod Numbered

@@ -2,7 +2,7 @@
 use Prim.Native.Nat.{ℕ, zero, suc}
 use mathlib.Core.Path.{_≡_, refl, sym, ap, _∙_}
 use mathlib.Core.Bool.{Bool, true, false, cond}
-use mathlib.Core.List.{List, [], _∷_, _++_, append-assoc}
+use mathlib.Core.List.{List, [], _∷_, _++_, append-assoc, append-nil}
 use mathlib.Core.Option.{Option, none, some}
 use lib.Dec.{eqb}
 use lib.IntN.{ℤ}
@@ -36,6 +36,14 @@ pub listed-more : (ms : Members) → listed false ms ≡ moreMembers ms
 unfolding listed comma moreMembers bytes
 listed-more no-members = refl
 listed-more (member k v ms) = refl
+
+-- a member and those after it
+pub listed-member : (first : Bool) (k : List ℕ) (v : Json) (ms : Members) → listed first (member k v ms) ≡ comma first ++ compactMembers (member k v no-members) ++ listed false ms
+unfolding listed compactMembers moreMembers
+listed-member first k v ms = go (quoted k ++ bytes ":" ++ compact v)
+  where
+    go : (x : List ℕ) → comma first ++ x ++ moreMembers ms ≡ comma first ++ (x ++ []) ++ listed false ms
+    go x = rw (append-nil x, listed-more ms)
 
 listedItems : Bool → Items → List ℕ
 listedItems first no-items = []

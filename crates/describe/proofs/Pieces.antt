@@ -92,6 +92,9 @@ pub key-text : (d e f text : List ℕ) (at p q : ℕ) → Emits d at text e p �
 unfolding bytes
 key-text d e f text at p q x y = both x y
 
+pub string-of : (d e text part : List ℕ) (at p : ℕ) → text ≡ part → Emits d at (quoted text) e p → Emits d at (quoted part) e p
+string-of d e text part at p z x = rw z at x
+
 pub key-of : (d e key name : List ℕ) (at p : ℕ) → key ≡ name → Emits d at (quoted key ++ bytes ":") e p → Emits d at (quoted name ++ bytes ":") e p
 key-of d e key name at p z x = rw z at x
 

@@ -35,6 +35,15 @@ module _ {A B : Type 0} (f : A → List ℕ) (m : A → B) (g : B → List ℕ) 
   mapped none k y = says-nothing refl
   mapped (some a) k y = says-text refl (k (a .0) (y .is refl))
 
+-- another text of the same
+pub retold : {A : Type 0} (f g : A → List ℕ) (o : Option (A × List ℕ)) {d e e' h : List ℕ} {at p q r : ℕ} → ((a : A) → Emits e p (f a) e' q → Emits d at (g a) h r) → Says (told f o) e p e' q → Says (told g o) d at h r
+retold f g none k y = says-nothing refl
+retold f g (some a) k y = says-text refl (k (a .0) (y .is refl))
+
+pub told-same : {A : Type 0} (f g : A → List ℕ) → ((a : A) → f a ≡ g a) → (o : Option (A × List ℕ)) → told f o ≡ told g o
+told-same f g h none = refl
+told-same f g h (some a) = rw (h (a .0))
+
 pub rest-told : {A : Type 0} (f : A → List ℕ) (o : Option (A × List ℕ)) → rest (told f o) ≡ rest o
 rest-told f none = refl
 rest-told f (some p) = refl

@@ -69,6 +69,10 @@ module _ (inner : List ℕ → Option (Datainfo × List ℕ)) (k : ℕ) where
 
 -- ## Accessibles and modules
 
+-- whether a parameter is read only, after the member before it, and the key of its datainfo
+unfoldable pub readonlyText : Bool → List ℕ
+readonlyText b = bytes ",\"readonly\":" ++ cond b (bytes "true") (bytes "false") ++ bytes ",\"datainfo\":"
+
 -- a command's argument, after the member before it
 unfoldable pub argumentText : Option Datainfo → List ℕ
 argumentText a = moreMembers (argumentMember a)
@@ -90,3 +94,7 @@ moduleText m = compactMembers (moduleMembers (m ∷ []))
 
 unfoldable pub modulesText : List Module → List ℕ
 modulesText ms = compactMembers (moduleMembers ms)
+
+-- what stands after the modules: an equipment id and a description
+unfoldable pub textsText : List ℕ → List ℕ → List ℕ
+textsText id text = bytes "},\"equipment_id\":" ++ quoted id ++ (bytes ",\"description\":" ++ quoted text) ++ bytes "}"
