@@ -20,9 +20,9 @@ use Rattle.table.proofs.Whole.{never}
 use Rattle.search.specs.declared.cursor.Cursor.{Cursor}
 use Rattle.search.specs.declared.cursor.NextParameter as P
 use Rattle.search.specs.declared.cursor.NextCommand as C
-use Rattle.search.specs.Left.{placed, leftFrom, Fits, After, FirstIs, Begins, Ended, FirstCursor, NextParameterIs, NextCommandIs}
+use Rattle.search.specs.Left.{placed, leftFrom, Fits, After, FirstIs, Begins, Ended, InTable, FirstCursor, NextParameterIs, NextCommandIs}
 use Rattle.search.proofs.Walks.{walk-less}
-use Rattle.search.specs.Found.{InTable, ParameterFound, CommandFound, ParameterNumbered}
+use Rattle.search.specs.Found.{ParameterFound, CommandFound, ParameterNumbered}
 
 -- ## Lists
 
@@ -158,10 +158,10 @@ module _ {A : Type 0} (of : List Table.Accessible → List A) (l : Table.Table �
           record { fits = x .fits; few = omega arith; left = counted-left }
 
 pub counted-parameters : (s : List ℕ) (c : Cursor) → FirstCursor s c → Counted parametersOf parameters s 0 c
-counted-parameters s c f = record { fits = f .fits; few = omega arith; left = f .parametersLeft }
+counted-parameters s c f = record { fits = f .fits; few = omega arith; left = f .parameters }
 
 pub counted-commands : (s : List ℕ) (c : Cursor) → FirstCursor s c → Counted commandsOf commands s 0 c
-counted-commands s c f = record { fits = f .fits; few = omega arith; left = f .commandsLeft }
+counted-commands s c f = record { fits = f .fits; few = omega arith; left = f .commands }
 
 -- ## A search by name
 

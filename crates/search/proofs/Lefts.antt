@@ -13,7 +13,7 @@ use Rattle.ascii.specs.Text.{bytes}
 use Rattle.ascii.specs.Bytes.{_>>=_, isSome, after}
 use Rattle.ascii.specs.Reader.{rest}
 use Rattle.table.specs.Table as Table
-use Rattle.table.specs.Layout.{begins, accessiblesAt, modulesAt, wholeTable}
+use Rattle.table.specs.Layout.{begins, accessiblesAt, modulesAt}
 use Rattle.table.specs.Search.{Placed, placedFrom, parametersOf, commandsOf, parameters, commands}
 use Rattle.table.specs.declared.layout.Part.{Part}
 use Rattle.table.specs.declared.layout.Texts as T
@@ -28,7 +28,7 @@ use Rattle.table.proofs.Enough.{before, accessibles-stop, accessibles-more, acc
 use Rattle.table.proofs.Modules.{withThem, withAccessibles, module-as, module-is, less}
 use Rattle.table.proofs.Whole.{opened, unread, never}
 use Rattle.search.specs.declared.cursor.Cursor.{Cursor}
-use Rattle.search.specs.Left.{follows, accessiblesLeft, placed, leftFrom, accessiblesOf, Fits, After, FirstIs, Begins, Ended, ParameterFirst, CommandFirst, ModuleFirst, FirstCursor}
+use Rattle.search.specs.Left.{follows, accessiblesLeft, placed, leftFrom, accessiblesOf, Fits, After, FirstIs, Begins, Ended, ParameterFirst, CommandFirst, ModuleFirst, InTable, FirstCursor}
 
 -- ## Whether an accessible is next
 
@@ -237,15 +237,16 @@ module _ (s : List ℕ) (r : T.Texts) (h : TextsAt s r (textsAt (78 ∷ 68 ∷ [
   first-bad e =
       record {
         fits = record { within = omega arith; name = record { order = omega arith; within = omega arith }; few = omega arith };
-        parametersLeft = λ t w. absurd (unread s r h t w e);
-        commandsLeft = λ t w. absurd (unread s r h t w e);
+        accessibles = λ t w. absurd (unread s r h t w e);
+        parameters = λ t w. absurd (unread s r h t w e);
+        commands = λ t w. absurd (unread s r h t w e);
       }
 
   module _ (p q : Part) (e : r ≡ T.the-variants.At p q) where
     abbrev start : Cursor
     start = record { at = q .to; modules = 0; name = record { from = q .to; to = q .to } }
 
-    all-left : {A : Type 0} (of : List Table.Accessible → List A) → of [] ≡ [] → (t : Table.Table) → wholeTable s ≡ some t → leftFrom of s start ≡ some (placedFrom of 0 (t .modules))
+    all-left : {A : Type 0} (of : List Table.Accessible → List A) → of [] ≡ [] → InTable s λ t. leftFrom of s start ≡ some (placedFrom of 0 (t .modules))
     unfolding accessiblesLeft
     all-left of z t w = left-as of s start ∙ rw (opened s r h t w p q e .modules, z)
 
@@ -255,6 +256,7 @@ module _ (s : List ℕ) (r : T.Texts) (h : TextsAt s r (textsAt (78 ∷ 68 ∷ [
         let w = (rw e at h) .description .within in
         record {
           fits = record { within = w; name = record { order = omega arith; within = w }; few = omega arith };
-          parametersLeft = all-left parametersOf refl;
-          commandsLeft = all-left commandsOf refl;
+          accessibles = all-left accessiblesOf refl;
+          parameters = all-left parametersOf refl;
+          commands = all-left commandsOf refl;
         }

@@ -6,8 +6,8 @@ use mathlib.Core.List.{List}
 use mathlib.Core.Option.{Option, none, some}
 use lib.ListN.{length, drop, getElem?}
 use Rattle.ascii.specs.Bytes.{same}
-use Rattle.table.specs.Table.{Module, Table}
-use Rattle.table.specs.Layout.{moduleAt, wholeTable}
+use Rattle.table.specs.Table.{Module}
+use Rattle.table.specs.Layout.{moduleAt}
 use Rattle.table.specs.Search.{parametersOf, parameters, findParameter, findCommand}
 use Rattle.table.specs.At.{parameterOf, commandOf}
 use Rattle.table.specs.declared.layout.ParameterAt.{ParameterAt}
@@ -17,7 +17,7 @@ use Rattle.search.specs.declared.cursor.NextParameter as N
 use Rattle.search.specs.declared.find.FoundModule as F
 use Rattle.search.specs.declared.find.FoundParameter as P
 use Rattle.search.specs.declared.find.FoundCommand as C
-use Rattle.search.specs.Left.{placed, leftFrom, Fits, ParameterIn, CommandIn}
+use Rattle.search.specs.Left.{placed, leftFrom, Fits, InTable, ParameterIn, CommandIn}
 
 -- whether a module has a name
 abbrev pub isCalled : List ℕ → Module → Bool
@@ -34,10 +34,6 @@ pub record ModuleAt (s : List ℕ) (n i : ℕ) (o : Option (ℕ × Module)) : Ty
 abbrev pub FindsModule : List ℕ → F.FoundModule → Option (ℕ × Module) → Type 0
 FindsModule s (F.the-variants.At n i) o = ModuleAt s n i o
 FindsModule s F.the-variants.Nothing o = o ≡ none
-
--- what holds of the table that s can be read as
-abbrev pub InTable : List ℕ → (Table → Type 0) → Type 0
-InTable s f = (t : Table) → wholeTable s ≡ some t → f t
 
 -- the parameter a of the module m has the number k, its module has the number h, and q has its positions
 pub record ParameterFound (s m a : List ℕ) (k h : ℕ) (q : ParameterAt) : Type 0 where

@@ -80,7 +80,7 @@ pub record CommandIn (s : List ℕ) (q : CommandAt) : Type 0 where
 
 -- ## Answers
 
--- a is the first of what is left at c, and e is the cursor after it
+-- a, of the module of e, is the first of l, and the others are what is left at e
 pub record FirstIs {A : Type 0} (of : List Table.Accessible → List A) (s : List ℕ) (e : Cursor) (a : A) (l : List (Placed A)) : Type 0 where
   pub others : List (Placed A)
   pub is : l ≡ placed s e a ∷ others
@@ -113,16 +113,21 @@ module _ {A : Type 0} (of : List Table.Accessible → List A) (asOne : Table.Com
     pub held : CommandIn s q
     pub first : Begins of s c e (asOne (commandOf s q (held .argument)))
 
--- c is before a module's accessibles at e
+-- a module begins at c, and its accessibles at e
 pub record ModuleFirst (s : List ℕ) (c e : Cursor) : Type 0 where
   pub after : After s c e
   pub goes : Goes accessiblesOf s c e
 
+-- what holds of the table that s can be read as
+abbrev pub InTable : List ℕ → (Table.Table → Type 0) → Type 0
+InTable s f = (t : Table.Table) → wholeTable s ≡ some t → f t
+
 -- all of the table is left at c
 pub record FirstCursor (s : List ℕ) (c : Cursor) : Type 0 where
   pub fits : Fits s c
-  pub parametersLeft : (t : Table.Table) → wholeTable s ≡ some t → leftFrom parametersOf s c ≡ some (parameters t)
-  pub commandsLeft : (t : Table.Table) → wholeTable s ≡ some t → leftFrom commandsOf s c ≡ some (commands t)
+  pub accessibles : InTable s λ t. leftFrom accessiblesOf s c ≡ some (placedFrom accessiblesOf 0 (t .modules))
+  pub parameters : InTable s λ t. leftFrom parametersOf s c ≡ some (parameters t)
+  pub commands : InTable s λ t. leftFrom commandsOf s c ≡ some (commands t)
 
 -- the next record from c on
 abbrev pub RecordIs : List ℕ → Cursor → R.Record → Type 0

@@ -22,10 +22,10 @@ ghost use mathlib.Core.Option.{some};
 ghost use Prim.Native.Nat.{ℕ, _≤_};
 ghost use lib.ListN.{length};
 ghost use Rattle.ascii.specs.Bytes.{same};
-ghost use Rattle.table.specs.Table.{Module, Table};
-ghost use Rattle.table.specs.Layout.{wholeTable};
+ghost use Rattle.table.specs.Table.{Module};
 ghost use Rattle.table.specs.Search.{first, findModule};
 ghost use Rattle.table.specs.At.{bytesOf, Inside, modulesFrom};
+ghost use Rattle.search.specs.Left.{InTable};
 ghost use Rattle.search.specs.Found.{FindsModule, isCalled, FindsParameter, FindsCommand, NumberedParameter};
 
 // A module's number and where its record begins.
@@ -76,7 +76,7 @@ fn module_from(s: &[u8], at: usize, name: &[u8]) -> FoundModule
 }
 
 pub fn find_module(s: &[u8], name: &[u8]) -> FoundModule
-    ensures { λ r. ⌜ ((t : Table) → wholeTable (now (s .entry)) ≡ some t → FindsModule (now (s .entry)) r (findModule t (now (name .entry)))) ⌝ }
+    ensures { λ r. ⌜ (InTable (now (s .entry)) λ t. FindsModule (now (s .entry)) r (findModule t (now (name .entry)))) ⌝ }
 {
     let Texts::At(_, description) = texts_at(s, 0, b'N', b'D') else {
         return FoundModule::Nothing;
@@ -85,6 +85,7 @@ pub fn find_module(s: &[u8], name: &[u8]) -> FoundModule
     module_from(s, first, name)
 }
 
+// Whether a module's name and an accessible's name are those that are sought.
 fn are_named(s: &[u8], p: Part, q: Part, module: &[u8], name: &[u8]) -> bool
     requires { ⌜ Inside (now s) p × Inside (now s) q ⌝ }
     ensures { λ r. ⌜ r ≡ (same (now («module» .entry)) (bytesOf (now (s .entry)) p) && same (now (name .entry)) (bytesOf (now (s .entry)) q)) ⌝ }
@@ -153,8 +154,9 @@ pub fn parameter_by_number(s: &[u8], k: usize) -> NextParameter
     }
 }
 
+// How many modules the table has.
 pub fn module_count(s: &[u8]) -> usize
-    ensures { λ r. ⌜ ((t : Table) → wholeTable (now (s .entry)) ≡ some t → r ≡ length (t .modules)) ⌝ }
+    ensures { λ r. ⌜ (InTable (now (s .entry)) λ t. r ≡ length (t .modules)) ⌝ }
 {
     let Texts::At(_, description) = texts_at(s, 0, b'N', b'D') else {
         return 0;

@@ -6,3 +6,4 @@ pub mod Cells
 pub mod Joins
 pub mod Judged
 pub mod Kept
+pub mod Settled

@@ -2,6 +2,7 @@
 // table and a values area is judged by each call (number 9).
 pub mod bits;
 pub mod client;
+pub mod setting;
 
 // Of each of the eight clients: whether it is open and inside an overlong line (0: no, anything else: yes), a bit for each active module
 // (the lowest for the first), the length of its unfinished line, and the lines, 1,024 bytes for each client.
