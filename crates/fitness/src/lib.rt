@@ -15,8 +15,7 @@ use state::State;
 use state::client::clients_unfit;
 
 // "a stored length is over 256; a stored value is not in stored form or doesn't fit its datainfo; a stored time is above the limit"
-fn setting_unfit(table: &[u8], values: &[u8], settings: Settings, k: usize, info: usize) -> bool
-{
+fn setting_unfit(table: &[u8], values: &[u8], settings: Settings, k: usize, info: usize) -> bool {
     let size = settings.length[k] as usize;
     if size > 256 {
         return true;
@@ -33,8 +32,7 @@ fn setting_unfit(table: &[u8], values: &[u8], settings: Settings, k: usize, info
 }
 
 // "Places past the last parameter are not looked at."
-fn settings_unfit(table: &[u8], values: &[u8], settings: Settings) -> bool
-{
+fn settings_unfit(table: &[u8], values: &[u8], settings: Settings) -> bool {
     let mut k = 0;
     let mut cursor = first_cursor(table);
     while k < 64 {

@@ -11,7 +11,8 @@ ghost use Rattle.table.specs.Layout.{tableOf};
 ghost use Rattle.table.specs.Search.{parameters};
 ghost use Rattle.plain.specs.Node.{clientNumbers, updatesTo, updatesOf};
 ghost use Rattle.state.specs.View.{clientAt, view};
-ghost use Rattle.update.specs.Ready.{Ready, wanted};
+ghost use Rattle.outcome.specs.Ready.{Ready};
+ghost use Rattle.update.specs.Scope.{wanted};
 use outbox::write::put_update;
 use search::cursor::Cursor;
 use search::cursor::NextParameter;
@@ -76,8 +77,7 @@ fn put_shown(
     k: usize,
     p: ParameterAt,
     home: Cursor,
-) -> usize
-{
+) -> usize {
     let size = settings.length[k] as usize;
     let time = settings.time[k];
     let initial = p.initial;

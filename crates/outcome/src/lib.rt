@@ -1,4 +1,4 @@
-// What a request comes to.
+// What a request comes to, and what answering a line leaves.
 use message::say::Class;
 use state::State;
 

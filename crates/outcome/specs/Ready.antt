@@ -1,18 +1,15 @@
 -- What the code that answers is given: a table that is accepted, a state that is fit for it, and buffers that are large enough, as a call
 -- has just judged them. Assumes nothing.
 use Prim.Native.Nat.{ℕ, _≤_, _<_}
-use mathlib.Core.Bool.{Bool, true, false}
+use mathlib.Core.Bool.{true, false}
 use mathlib.Core.List.{List}
 use mathlib.Core.Path.{_≡_}
-use lib.Dec.{eqb}
 use lib.ListN.{length}
 use Rattle.table.specs.Layout.{tableOf}
 use Rattle.report.specs.Judge.{tableNumber}
 use Rattle.state.specs.declared.State.{State}
 use Rattle.state.specs.View.{isSet}
 use Rattle.state.specs.Fit.{isUnfit}
-use Rattle.update.specs.declared.Scope.{Scope}
-use Rattle.update.specs.declared.Scope.the-variants.{All, Module}
 
 -- an accepted table, and an outbox for client c
 pub record Lent (table out : List ℕ) (c : ℕ) : Type 0 where
@@ -26,8 +23,3 @@ pub record Ready (table : List ℕ) (s : State) (values out : List ℕ) (c : ℕ
   pub area : 16384 ≤ length values
   pub fit : isUnfit (tableOf table) s values ≡ false
   pub isOpen : isSet (s .clients .open) c ≡ true
-
--- the modules that a scope has, by their numbers
-abbrev pub wanted : Scope → ℕ → Bool
-wanted All i = true
-wanted (Module n) i = eqb i n

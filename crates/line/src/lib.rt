@@ -1,13 +1,7 @@
 // A client's line: taken apart, carried out, and answered.
-use super::access::change;
-use super::access::execute;
-use super::access::read;
-use super::outcome::Answered;
-use super::outcome::Outcome;
-use super::switch::activate;
-use super::switch::activate_all;
-use super::switch::deactivate;
-use super::switch::deactivate_all;
+use access::change;
+use access::execute;
+use access::read;
 use ascii::write::put_byte;
 use describe::put_report;
 use describe::report_length;
@@ -22,13 +16,18 @@ use outbox::write::put_describing_start;
 use outbox::write::put_final_error;
 use outbox::write::put_final_identification;
 use outbox::write::put_final_pong;
+use outcome::Answered;
+use outcome::Outcome;
 use state::State;
 use state::client::with_active;
 use state::setting::stored;
+use switch::activate;
+use switch::activate_all;
+use switch::deactivate;
+use switch::deactivate_all;
 
 // "`describing . ` and the report"
-fn describe(table: &[u8], out: &mut [u8], client: u8) -> Outcome
-{
+fn describe(table: &[u8], out: &mut [u8], client: u8) -> Outcome {
     let size = report_length(table);
     let start = put_describing_start(out, 0, client, size);
     let end = put_report(out, start, table);
@@ -47,14 +46,33 @@ fn change_to(
     module: &[u8],
     name: &[u8],
     payload: Part,
-) -> Outcome
-{
+) -> Outcome {
     if is_null(line, payload) {
-        return change(table, values, out, state, client, time, module, name, b"null");
+        return change(
+            table,
+            values,
+            out,
+            state,
+            client,
+            time,
+            module,
+            name,
+            b"null",
+        );
     }
     let from = payload.from;
     let to = payload.to;
-    change(table, values, out, state, client, time, module, name, &line[from..to])
+    change(
+        table,
+        values,
+        out,
+        state,
+        client,
+        time,
+        module,
+        name,
+        &line[from..to],
+    )
 }
 
 fn execute_with(
@@ -66,8 +84,7 @@ fn execute_with(
     module: &[u8],
     name: &[u8],
     payload: Part,
-) -> Outcome
-{
+) -> Outcome {
     if is_null(line, payload) {
         return execute(table, out, client, time, module, name, b"null");
     }
@@ -77,8 +94,7 @@ fn execute_with(
 }
 
 // The bytes of a part of a line.
-fn bytes_of(line: &[u8], p: Part) -> &[u8]
-{
+fn bytes_of(line: &[u8], p: Part) -> &[u8] {
     let from = p.from;
     let to = p.to;
     &line[from..to]
@@ -96,12 +112,17 @@ fn outcome(
     specifier: Part,
     payload: Part,
     asked: Request,
-) -> Outcome
-{
+) -> Outcome {
     match asked {
         Request::Identify => Outcome::Sent(put_final_identification(out, 0, client)),
         Request::Describe => describe(table, out, client),
-        Request::Ping => Outcome::Sent(put_final_pong(out, 0, client, bytes_of(line, specifier), time)),
+        Request::Ping => Outcome::Sent(put_final_pong(
+            out,
+            0,
+            client,
+            bytes_of(line, specifier),
+            time,
+        )),
         Request::ActivateAll => activate_all(table, values, out, state, client),
         Request::Activate(m) => activate(table, values, out, state, client, bytes_of(line, m)),
         Request::DeactivateAll => deactivate_all(out, client),
@@ -150,8 +171,7 @@ fn conclude(
     action: &[u8],
     specifier: &[u8],
     came: Outcome,
-) -> Answered
-{
+) -> Answered {
     let clients = state.clients;
     let settings = state.settings;
     match came {
@@ -193,8 +213,7 @@ pub fn answer_line(
     client: u8,
     time: u64,
     line: &[u8],
-) -> Answered
-{
+) -> Answered {
     let Parsed::Line {
         action,
         specifier,
@@ -206,7 +225,16 @@ pub fn answer_line(
     };
     let asked = request_of(line, action, specifier);
     let came = outcome(
-        table, values, out, state, client, time, line, specifier, payload, asked,
+        table,
+        values,
+        out,
+        state,
+        client,
+        time,
+        line,
+        specifier,
+        payload,
+        asked,
     );
     conclude(
         out,

@@ -2,20 +2,20 @@
 ghost use Prim.Native.Nat.{ℕ, _≤_};
 ghost use Rattle.ascii.specs.Numbers.{latest};
 ghost use Rattle.message.specs.Request as Request;
-ghost use Rattle.update.specs.Ready.{Lent, Ready};
-ghost use Rattle.answer.specs.Outcome.{Comes, ComesAtAny};
-use super::outcome::Outcome;
+ghost use Rattle.outcome.specs.Ready.{Lent, Ready};
+ghost use Rattle.outcome.specs.Outcome.{Comes, ComesAtAny};
+use ascii::byte;
 use fit::Verdict;
 use fit::fit::verdict;
 use json::compact::put_compact;
 use json::read::is_text;
 use json::read::spaces_end;
-use ascii::byte;
 use message::say::Class;
 use outbox::write::Told;
 use outbox::write::put_final_report;
 use outbox::write::put_order_change;
 use outbox::write::put_order_command;
+use outcome::Outcome;
 use search::find::FoundCommand;
 use search::find::FoundModule;
 use search::find::FoundParameter;
@@ -67,12 +67,20 @@ fn set(
     module: &[u8],
     name: &[u8],
     text: &[u8],
-) -> Outcome
-{
+) -> Outcome {
     let at = 256 * k;
     let end = put_compact(values, at, text);
     let order = put_order_change(out, 0, client, k as u8, &values[at..end]);
-    let told = put_updates_to(out, order, clients, home, module, name, &values[at..end], time);
+    let told = put_updates_to(
+        out,
+        order,
+        clients,
+        home,
+        module,
+        name,
+        &values[at..end],
+        time,
+    );
     let done = put_final_report(
         out,
         told,
@@ -112,7 +120,18 @@ pub fn change(
     let clients = state.clients;
     let info = p.info;
     match verdict(table, info, text) {
-        Verdict::Fits => set(values, out, clients, client, time, k, home, module, name, text),
+        Verdict::Fits => set(
+            values,
+            out,
+            clients,
+            client,
+            time,
+            k,
+            home,
+            module,
+            name,
+            text,
+        ),
         Verdict::RangeError => Outcome::Refused(Class::RangeError),
         Verdict::WrongType => Outcome::Refused(Class::WrongType),
         Verdict::BadJson => Outcome::Refused(Class::BadJSON),
@@ -120,8 +139,7 @@ pub fn change(
 }
 
 // "Without a declared argument only `null` is right, else WrongType.": `null` is the only value that begins with an `n`
-fn null_verdict(text: &[u8]) -> Verdict
-{
+fn null_verdict(text: &[u8]) -> Verdict {
     if !is_text(text) {
         return Verdict::BadJson;
     }
@@ -132,8 +150,7 @@ fn null_verdict(text: &[u8]) -> Verdict
     Verdict::WrongType
 }
 
-fn argument_verdict(table: &[u8], argument: bool, info: usize, text: &[u8]) -> Verdict
-{
+fn argument_verdict(table: &[u8], argument: bool, info: usize, text: &[u8]) -> Verdict {
     if argument {
         return verdict(table, info, text);
     }
@@ -141,8 +158,7 @@ fn argument_verdict(table: &[u8], argument: bool, info: usize, text: &[u8]) -> V
 }
 
 // "the argument's stored form, or nothing where none is declared"
-fn put_order(out: &mut [u8], client: u8, k: usize, argument: bool, text: &[u8]) -> usize
-{
+fn put_order(out: &mut [u8], client: u8, k: usize, argument: bool, text: &[u8]) -> usize {
     if !argument {
         return put_order_command(out, 0, client, k as u8, b"");
     }
@@ -161,8 +177,7 @@ fn order(
     module: &[u8],
     name: &[u8],
     text: &[u8],
-) -> Outcome
-{
+) -> Outcome {
     let told = put_order(out, client, k, argument, text);
     let end = put_final_report(out, told, client, Told::Done, module, name, b"null", time);
     Outcome::Sent(end)

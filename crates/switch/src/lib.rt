@@ -9,13 +9,13 @@ ghost use Rattle.ascii.specs.Names.{isName};
 ghost use Rattle.table.specs.Layout.{tableOf};
 ghost use Rattle.message.specs.Request as Request;
 ghost use Rattle.state.specs.Fit.{pastLast};
-ghost use Rattle.update.specs.Ready.{Lent, Ready};
-ghost use Rattle.answer.specs.Outcome.{Comes, ComesAtAny, ComesWith};
-use super::outcome::Outcome;
+ghost use Rattle.outcome.specs.Ready.{Lent, Ready};
+ghost use Rattle.outcome.specs.Outcome.{Comes, ComesAtAny, ComesWith};
 use message::say::Class;
 use outbox::write::Switched;
 use outbox::write::put_final_switched;
 use outbox::write::put_final_switched_name;
+use outcome::Outcome;
 use search::find::FoundModule;
 use search::find::find_module;
 use search::find::module_count;
@@ -26,7 +26,13 @@ use state::bits::without_bit;
 use update::Scope;
 use update::put_updates_of;
 
-pub fn activate_all(table: &[u8], values: &[u8], out: &mut [u8], state: State, client: u8) -> Outcome
+pub fn activate_all(
+    table: &[u8],
+    values: &[u8],
+    out: &mut [u8],
+    state: State,
+    client: u8,
+) -> Outcome
     requires { ⌜ Ready (now table) state (now values) (now out) client ⌝ }
     ensures { λ r. ⌜ ((t : ℕ) → Comes (now (table .entry)) state (now (values .entry)) (now (out .entry)) client t r (now (values .entry)) (now (out .exit)) (Request.activate none)) ⌝ }
 {

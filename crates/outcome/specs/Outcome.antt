@@ -20,10 +20,10 @@ use Rattle.message.specs.Request.{Request}
 use Rattle.state.specs.declared.State.{State}
 use Rattle.state.specs.View.{bit, view, withStored}
 use Rattle.state.specs.Fit.{isUnfit, pastLast}
-use Rattle.answer.specs.Area.{withSetting}
-use Rattle.answer.specs.declared.outcome.Outcome.{Outcome}
-use Rattle.answer.specs.declared.outcome.Outcome.the-variants.{Refused, Sent, Active, Stored}
-use Rattle.answer.specs.declared.outcome.Answered.{Answered}
+use Rattle.outcome.specs.Area.{withSetting}
+use Rattle.outcome.specs.declared.Outcome.{Outcome}
+use Rattle.outcome.specs.declared.Outcome.the-variants.{Refused, Sent, Active, Stored}
+use Rattle.outcome.specs.declared.Answered.{Answered}
 
 -- On the table w, at the plain node n, for client c at the time t: the outbox held `before` and holds `after`, the values area held `values` and
 -- holds `stored`.
