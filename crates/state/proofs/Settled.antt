@@ -10,7 +10,7 @@ use lib.Dec.{eqb, ltb}
 use lib.ListN.{length, getD, set, take, drop, getElem?}
 use borrow.Author.Tests.{eqb-true, eqb-false, ne-eqb, ltb-false, le-ltb}
 use Rattle.ascii.specs.Numbers.{latest}
-use Rattle.datainfo.specs.Fit.{isStored}
+use Rattle.fit.specs.Fit.{isStored}
 use Rattle.table.specs.Table.{Parameter}
 use Rattle.table.specs.Search.{Placed}
 use Rattle.table.specs.declared.layout.Part.{Part}
