@@ -54,13 +54,13 @@ unfoldable pub blank : ℕ → State
 blank time =
     record {
       clients =
-        record {
-          «open» = replicate 8 0;
-          overlong = replicate 8 0;
-          active = replicate 8 0;
-          length = replicate 8 0;
-          lines = replicate 8192 0;
-        };
+          record {
+            «open» = replicate 8 0;
+            overlong = replicate 8 0;
+            active = replicate 8 0;
+            length = replicate 8 0;
+            lines = replicate 8192 0;
+          };
       settings = record { length = replicate 64 0; time = replicate 64 time };
     }
 
