@@ -6,7 +6,7 @@ use native.Mathlib.Omega.{arith}
 use mathlib.Core.Path.{_≡_, refl, sym, ap, _∙_}
 use mathlib.Core.Bool.{Bool, true, false, cond}
 use mathlib.Core.List.{List, [], _∷_, _++_, append-assoc, append-nil}
-use lib.ListN.{length, drop, getD, length-append, drop-of-length-le}
+use lib.ListN.{length, drop, length-append, drop-of-length-le}
 use lib.Dec.{eqb}
 use lib.Seq.{drop-cons}
 use Rattle.ascii.specs.Text.{bytes}
@@ -19,8 +19,6 @@ use Rattle.message.proofs.Said.{data-length, report-length}
 use Rattle.outbox.specs.Outbox.{Record, update, body, encode, encodeAll}
 use Rattle.outbox.specs.Written.{RoomFor}
 use Rattle.plain.specs.Node.{Client, isActive, clientNumbers, updatesTo}
-use Rattle.state.specs.declared.Clients.{Clients}
-use Rattle.state.specs.View.{clientAt}
 use Rattle.state.proofs.Judged.{number-at}
 use Rattle.update.specs.declared.Scope.{Scope}
 use Rattle.update.specs.declared.Scope.the-variants.{Module}

@@ -1,6 +1,5 @@
 -- `update::put_update_to` meets its contract. Assumes nothing.
 use borrow.Author.Needs.{needs}
-use native.Mathlib.Omega.{arith}
 use Rattle.update.proofs.Sendings.{to-room, to-active, to-none}
 use Rattle.update.proofs.put_update_to.Statement.{statement}
 use Rattle.update.proofs.put_update_to.Tie as tie
