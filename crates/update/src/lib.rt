@@ -2,34 +2,45 @@
 // one client.
 ghost use Prim.Native.Nat.{_+_, _≤_, _<_};
 ghost use lib.ListN.{length};
+ghost use mathlib.Core.List.{[], _∷_};
 ghost use Rattle.ascii.specs.Writer.{Puts};
 ghost use Rattle.message.specs.Said.{reportOf};
 ghost use Rattle.outbox.specs.Outbox.{encodeAll};
 ghost use mathlib.Core.Path.{_≡_};
 ghost use Rattle.table.specs.At.{bytesOf, Inside};
-ghost use Rattle.table.specs.Layout.{tableOf};
-ghost use Rattle.table.specs.Search.{parameters};
-ghost use Rattle.plain.specs.Node.{clientNumbers, updatesTo, updatesOf};
-ghost use Rattle.state.specs.View.{clientAt, view};
-ghost use Rattle.outcome.specs.Ready.{Ready};
+ghost use Rattle.plain.specs.Node.{clientNumbers, updatesTo};
+ghost use Rattle.state.specs.View.{clientAt};
 ghost use Rattle.update.specs.Scope.{wanted};
 use outbox::write::put_update;
-use search::cursor::Cursor;
-use search::cursor::NextParameter;
-use search::cursor::first_cursor;
-use search::cursor::next_parameter;
 use state::Clients;
-use state::Settings;
-use state::State;
 use state::client::is_active;
-use state::setting::shown;
-use table::layout::ParameterAt;
 use table::layout::Part;
 
 // All modules, or the one of a number.
 pub enum Scope {
     All,
     Module(usize),
+}
+
+// The update to one client, if it is open and has the module active.
+fn put_update_to(
+    out: &mut [u8],
+    at: usize,
+    clients: Clients,
+    c: usize,
+    home: usize,
+    module: &[u8],
+    accessible: &[u8],
+    value: &[u8],
+    time: u64,
+) -> usize
+    requires { ⌜ (c < 8) × ((home < 16) × ((at + length (encodeAll (updatesTo (clientAt clients) home (reportOf (now «module») (now accessible) (now value) time) (c ∷ []))) ≤ length (now out)) × (length (now «module») + length (now accessible) + length (now value) ≤ 1024))) ⌝ }
+    ensures { λ r. ⌜ Puts (now (out .entry)) at (encodeAll (updatesTo (clientAt clients) home (reportOf (now («module» .entry)) (now (accessible .entry)) (now (value .entry)) time) (c ∷ []))) (now (out .exit)) r ⌝ }
+{
+    if is_active(clients, c, home) {
+        return put_update(out, at, c as u8, module, accessible, value, time);
+    }
+    at
 }
 
 // "an update to each open client with M active, lowest client number first": of a parameter of the module of number `home`
@@ -49,9 +60,7 @@ pub fn put_updates_to(
     let mut end = at;
     let mut c = 0;
     while c < 8 {
-        if is_active(clients, c, home) {
-            end = put_update(out, end, c as u8, module, accessible, value, time);
-        }
+        end = put_update_to(out, end, clients, c, home, module, accessible, value, time);
         c += 1;
     }
     end
@@ -64,57 +73,6 @@ fn wants(scope: Scope, i: usize) -> bool
         Scope::All => true,
         Scope::Module(n) => i == n,
     }
-}
-
-// The update of one parameter to a client, with the value shown.
-fn put_shown(
-    table: &[u8],
-    values: &[u8],
-    out: &mut [u8],
-    at: usize,
-    settings: Settings,
-    client: u8,
-    k: usize,
-    p: ParameterAt,
-    home: Cursor,
-) -> usize {
-    let size = settings.length[k] as usize;
-    let time = settings.time[k];
-    let initial = p.initial;
-    let value = shown(table, values, size, initial, k);
-    let module = bytes_of(table, home.name);
-    let name = bytes_of(table, p.name);
-    put_update(out, at, client, module, name, value, time)
-}
-
-// "an update for each parameter of those modules, table order", to one client, from the front of the outbox on
-pub fn put_updates_of(
-    table: &[u8],
-    values: &[u8],
-    out: &mut [u8],
-    state: State,
-    client: u8,
-    scope: Scope,
-) -> usize
-    requires { ⌜ Ready (now table) state (now values) (now out) client ⌝ }
-    ensures { λ r. ⌜ Puts (now (out .entry)) 0 (encodeAll (updatesOf client (wanted scope) (view (now (table .entry)) state (now (values .entry)) .values) 0 (parameters (tableOf (now (table .entry)))))) (now (out .exit)) r ⌝ }
-{
-    let settings = state.settings;
-    let mut end = 0;
-    let mut k = 0;
-    let mut cursor = first_cursor(table);
-    while k < 64 {
-        let NextParameter::At(p, next) = next_parameter(table, cursor) else {
-            return end;
-        };
-        let home = next.modules - 1;
-        if wants(scope, home) {
-            end = put_shown(table, values, out, end, settings, client, k, p, next);
-        }
-        cursor = next;
-        k += 1;
-    }
-    end
 }
 
 // The bytes of a part of a table.
