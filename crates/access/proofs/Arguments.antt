@@ -43,3 +43,17 @@ module _ (xs text : List ℕ) (r : Verdict) where
             let q : _≡_ {A = Option Datainfo × List ℕ} (none, xs) (a, x) = in-some i in
             h ∙ ap (λ (y : Option Datainfo × List ℕ). argumentVerdict (y .0) text) q;
       }
+
+-- an argument is declared where the table says so
+pub declared-is : (b : Bool) (xs : List ℕ) (a : Option Datainfo) (x : List ℕ) → argumentAt b xs ≡ some (a, x) → isSome a ≡ b
+unfolding argumentAt
+declared-is false xs a x i =
+    let q : _≡_ {A = Option Datainfo × List ℕ} (none, xs) (a, x) = in-some i in
+    ap (λ (y : Option Datainfo × List ℕ). isSome (y .0)) (sym q)
+declared-is true xs a x i = go (datainfoAt xs) i
+  where
+    go : (o : Option (Datainfo × List ℕ)) → (o >>= declared) ≡ some (a, x) → isSome a ≡ true
+    go none i = absurd (never i)
+    go (some p) i =
+        let q : _≡_ {A = Option Datainfo × List ℕ} (some (p .0), p .1) (a, x) = in-some i in
+        ap (λ (y : Option Datainfo × List ℕ). isSome (y .0)) (sym q)

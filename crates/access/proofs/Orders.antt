@@ -54,7 +54,7 @@ put-stored d xs out at after r e h c =
 
 -- ## The argument
 
-form-is : (a : Option Datainfo) (b : Bool) → isSome a ≡ b → (xs : List ℕ) → formOf b xs ≡ argumentForm a xs
+pub form-is : (a : Option Datainfo) (b : Bool) → isSome a ≡ b → (xs : List ℕ) → formOf b xs ≡ argumentForm a xs
 unfolding formOf argumentForm
 form-is none b e xs = rw (← e)
 form-is (some d) b e xs = rw (← e)
