@@ -37,9 +37,13 @@ pub record Going (d : List ℕ) (at : ℕ) (all left : List Record) (e : List �
   pub puts : Puts d at (encodeAll written) e p
   pub is : all ≡ written ++ left
 
-pub going-start : (d : List ℕ) (at : ℕ) (all : List Record) → Going d at all all d at
+-- no record is written
+pub none-put : (d : List ℕ) (at : ℕ) → Puts d at (encodeAll []) d at
 unfolding encodeAll
-going-start d at all = record { written = []; puts = record { is = refl; ends = sym (add-zero at) }; is = refl }
+none-put d at = record { is = refl; ends = sym (add-zero at) }
+
+pub going-start : (d : List ℕ) (at : ℕ) (all : List Record) → Going d at all all d at
+going-start d at all = record { written = []; puts = none-put d at; is = refl }
 
 module _ {d : List ℕ} {at : ℕ} {all : List Record} {e : List ℕ} {p : ℕ} where
   pub going-room : (rs left : List Record) → Going d at all (rs ++ left) e p → at + length (encodeAll all) ≤ length d → p + length (encodeAll rs) ≤ length e
@@ -73,11 +77,11 @@ update-short : (m a v : List ℕ) (t : ℕ) → length m + length a + length v �
 unfolding updateLine bytes
 update-short m a v t h k = simp length-append (omega (arith, seconds-low t k, data-length v t, report-length m a v t))
 
-one : (r : Record) → encodeAll (r ∷ []) ≡ encode r
+pub one : (r : Record) → encodeAll (r ∷ []) ≡ encode r
 unfolding encodeAll
 one r = append-nil (encode r)
 
-room-update :
+pub room-update :
     (d : List ℕ) (at c : ℕ) (m a v : List ℕ) (t : ℕ) → length m + length a + length v ≤ 1024 → t < 2 ^ 64
     → at + length (encodeAll (update c (reportOf m a v t) ∷ [])) ≤ length d → RoomFor d at (update c (reportOf m a v t))
 unfolding body
@@ -117,8 +121,7 @@ module _ (f : ℕ → Client) (i c : ℕ) (b : Bool) (h : b ≡ isActive (f c) i
   to-active r e x = rw (is-update r e, one (update c r)) x
 
   pub to-none : (r : Report) (d : List ℕ) (at : ℕ) → b ≡ false → Puts d at (encodeAll (updatesTo f i r (c ∷ []))) d at
-  unfolding going-start
-  to-none r d at e = rw (updates-cond f i r c, ← h, e) (going-start d at [] .puts)
+  to-none r d at e = rw (updates-cond f i r c, ← h, e) (none-put d at)
 
 -- ## Updates to all clients, of which the first c have theirs
 
