@@ -1,13 +1,14 @@
 -- Laws of requests that alter a client's active modules: the modules that are found, the bits of masks, and the records. Assumes nothing.
-use Prim.Native.Nat.{ℕ, zero, suc, _+_, _≤_, _<_}
+use Prim.Native.Nat.{ℕ, zero, suc, _≤_, _<_}
 use native.Mathlib.Omega.{arith}
 use mathlib.Core.Path.{_≡_, refl, sym, ap, subst, fun-ext, _∙_}
 use mathlib.Core.Bool.{Bool, true, false, cond, not, _&&_, _||_}
-use mathlib.Core.List.{List, [], _∷_, _++_}
+use mathlib.Core.List.{List, [], _∷_, _++_, map}
 use mathlib.Core.Option.{Option, none, some}
 use lib.Dec.{eqb, ltb}
 use lib.ListN.{length, getD, getElem?}
 use borrow.Author.Tests.{eqb-true, lt-ltb, le-ltb}
+use borrow.Author.Needs.{length-unmapped}
 use Rattle.ascii.specs.Names.{isName}
 use Rattle.ascii.specs.Writer.{Puts}
 use Rattle.table.specs.Table.{Parameter, Module, Table}
@@ -25,19 +26,23 @@ use Rattle.outbox.specs.Outbox.{Record, final, update, encode, encodeAll}
 use Rattle.outbox.specs.Written.{RoomFor}
 use Rattle.outbox.specs.Theorems.{Named}
 use Rattle.plain.specs.Node.{Client, closed, connected, Value, Node, withClient, isActive, activated, reportOf, updatesOf}
-use Rattle.plain.specs.Answer.{Outcome, refused, carried, found, activates, deactivates, inScope, outcome}
+use Rattle.plain.specs.Answer.{refused, carried, found, activates, deactivates, inScope, outcome}
 use Rattle.sound.specs.Theorems.{ClientHeld, Sound}
 use Rattle.sound.proofs.Lists.{each-at}
-use Rattle.sound.proofs.Accepted.{Accepted, GoodModule, accepted, accepted-whole}
+use Rattle.sound.proofs.Accepted.{GoodModule, accepted, accepted-whole}
 use Rattle.sound.proofs.Records.{says-inactive, written-final}
 use Rattle.sound.proofs.Room.{puts-none, puts-after, room-after}
 use Rattle.sound.proofs.Steps.{comes-activates}
+use Rattle.state.specs.declared.Clients.{Clients}
 use Rattle.state.specs.declared.State.{State}
 use Rattle.state.specs.View.{isSet, bit, clientAt, view}
 use Rattle.state.specs.Fit.{pastLast}
+use Rattle.state.specs.Becomes.{Sized}
 use Rattle.state.proofs.Masks.{no-bit, past-last, not-past}
+use Rattle.state.proofs.Stands.{fit-is-sound}
 use Rattle.outcome.specs.Area.{withSetting}
 use Rattle.outcome.specs.Outcome.{Activates, Refuses}
+use Rattle.outcome.specs.Ready.{Ready}
 
 -- ## A module that is found
 
@@ -75,6 +80,13 @@ module _ (table name : List ℕ) (a : tableNumber table ≡ 0) (r : F.FoundModul
             (each-at GoodModule (tableOf table .modules) (w .allModules) i (f .it) there .0);
       }
 
+-- how many modules there are
+pub count-few : (table : List ℕ) → tableNumber table ≡ 0 → (k : ℕ) → InTable table (λ t. k ≡ length (t .modules)) → k ≤ 16
+count-few table a k f =
+    let e = f (tableOf table) (accepted-whole table a) in
+    let h = accepted table a .fewModules in
+    omega arith
+
 -- ## Room
 
 pub inactive-room : (d : List ℕ) (c : ℕ) (m : Option (List ℕ)) → Named m → 32768 ≤ length d → RoomFor d 0 (final c (inactive m))
@@ -83,7 +95,7 @@ inactive-room d c m e h =
     room-after [] (final c (inactive m)) d d 0 (puts-none d) (omega arith) h
 
 -- what a client of a state has active
-pub open-bits : (table : List ℕ) (s : State) (values : List ℕ) (c : ℕ) → isSet (s .clients .open) c ≡ true
+open-bits : (table : List ℕ) (s : State) (values : List ℕ) (c : ℕ) → isSet (s .clients .open) c ≡ true
     → (j : ℕ) → isActive (view table s values .clients c) j ≡ bit (getD (s .clients .active) c 0) j
 unfolding view clientAt isActive
 open-bits table s values c e j = rw e
@@ -104,17 +116,6 @@ unset values c wanted f k (p ∷ ps) r = go (wanted (p .home)) (unset values c w
         → withSetting values ((cond b (update c (reportOf p (f k)) ∷ []) [] ++ updatesOf c wanted f (suc k) ps) ++ (final c r ∷ [])) ≡ values
     go true h = refl
     go false h = h
-
--- a reply after the updates has room
-pub active-room :
-    (table : List ℕ) → tableNumber table ≡ 0 → (n : Node) → Sound (tableOf table) n → (c : ℕ) → c < 8
-    → (wanted : ℕ → Bool) (m : Option (List ℕ)) → Named m
-    → (d e : List ℕ) (p : ℕ) → 32768 ≤ length d → Puts d 0 (encodeAll (updatesOf c wanted (n .values) 0 (parameters (tableOf table)))) e p
-    → RoomFor e p (final c (active m))
-unfolding activates
-active-room table a n s c low wanted m h d e p room x =
-    let k = comes-activates (tableOf table) (accepted table a) n s c (omega arith) 0 (omega arith) wanted m h .written .short in
-    room-after (updatesOf c wanted (n .values) 0 (parameters (tableOf table))) (final c (active m)) d e p x (omega arith) room
 
 -- ## Outcomes
 
@@ -208,7 +209,7 @@ module _ (w : Table) (n : Node) (c t : ℕ) (before after values : List ℕ) whe
         (puts-after (updatesOf c wanted (n .values) 0 (parameters w)) (final c (active m)) before mid p x after written y)
         (unset values c wanted (n .values) 0 (parameters w) (active m))
 
-    pub all-active :
+    all-active :
         (next : ℕ) → ((j : ℕ) → bit next j ≡ bit mask j || ltb j (length (w .modules)))
         → Puts before 0 (encodeAll (updatesOf c (λ i. true) (n .values) 0 (parameters w))) mid p
         → Puts mid p (encode (final c (active none))) after written
@@ -217,7 +218,7 @@ module _ (w : Table) (n : Node) (c t : ℕ) (before after values : List ℕ) whe
     all-active next k x y =
         more-active (λ i. true) none next (λ j. k j ∙ ap (λ (b : Bool). bit mask j || b) (sym (and-true (ltb j (length (w .modules)))))) x y
 
-    pub one-active :
+    one-active :
         (name : List ℕ) (i : ℕ) (m : Module) → findModule w name ≡ some (i, m) → i < length (w .modules)
         → (next : ℕ) → ((j : ℕ) → bit next j ≡ bit mask j || eqb j i)
         → Puts before 0 (encodeAll (updatesOf c (λ j. eqb j i) (n .values) 0 (parameters w))) mid p
@@ -226,3 +227,60 @@ module _ (w : Table) (n : Node) (c t : ℕ) (before after values : List ℕ) whe
     unfolding outcome inScope found
     one-active name i m e low next k x y =
         rw e (more-active (λ j. eqb j i) (some name) next (λ j. k j ∙ ap (λ (b : Bool). bit mask j || b) (sym (low-only j i (length (w .modules)) low))) x y)
+
+-- ## An activate, at a state that is fit
+
+-- the arrays of clients, as a struct's fields are handed to a proof
+pub clients-sized :
+    (s : Clients) → length (map (λ (v : ℕ). v) (s .open)) ≡ 8 → length (map (λ (v : ℕ). v) (s .overlong)) ≡ 8
+    → length (map (λ (v : ℕ). v) (s .active)) ≡ 8 → length (map (λ (v : ℕ). v) (s .length)) ≡ 8 → length (map (λ (v : ℕ). v) (s .lines)) ≡ 8192
+    → Sized s
+clients-sized s h i j k l =
+    record {
+      isOpen = length-unmapped ℕ (s .open) 8 h;
+      isOverlong = length-unmapped ℕ (s .overlong) 8 i;
+      mask = length-unmapped ℕ (s .active) 8 j;
+      size = length-unmapped ℕ (s .length) 8 k;
+      room = length-unmapped ℕ (s .lines) 8192 l;
+    }
+
+module _ (table : List ℕ) (s : State) (z : Sized (s .clients)) (values out : List ℕ) (c : ℕ) (r : Ready table s values out c) where
+  abbrev w : Table
+  w = tableOf table
+
+  abbrev n : Node
+  n = view table s values
+
+  sound : Sound w n
+  sound = fit-is-sound table s values z (r .lent .accepted) (r .fit)
+
+  -- the reply has room after the updates
+  pub active-room :
+      (wanted : ℕ → Bool) (m : Option (List ℕ)) → Named m
+      → (e : List ℕ) (p : ℕ) → Puts out 0 (encodeAll (updatesOf c wanted (n .values) 0 (parameters w))) e p → RoomFor e p (final c (active m))
+  unfolding activates
+  active-room wanted m h e p x =
+      let low = r .lent .low in
+      let k = comes-activates w (accepted table (r .lent .accepted)) n sound c (omega arith) 0 (omega arith) wanted m h .written .short in
+      room-after (updatesOf c wanted (n .values) 0 (parameters w)) (final c (active m)) out e p x (omega arith) (r .lent .room)
+
+  module _ (t : ℕ) (mid after : List ℕ) (p next written : ℕ) where
+    pub activated-all :
+        (k : ℕ) → InTable table (λ t. k ≡ length (t .modules))
+        → ((j : ℕ) → bit next j ≡ bit (getD (s .clients .active) c 0) j || ltb j k)
+        → Puts out 0 (encodeAll (updatesOf c (λ i. true) (n .values) 0 (parameters w))) mid p
+        → Puts mid p (encode (final c (active none))) after written
+        → Activates w n c t out after values values (outcome w n c t (activate none)) next written
+    activated-all k f h =
+        all-active w n c t out after values sound (getD (s .clients .active) c 0) (open-bits table s values c (r .isOpen)) mid p written next
+        (λ j. h j ∙ ap (λ (m : ℕ). bit (getD (s .clients .active) c 0) j || ltb j m) (f w (accepted-whole table (r .lent .accepted))))
+
+    pub activated-one :
+        (name : List ℕ) (i : ℕ) → ModuleFound table name i
+        → ((j : ℕ) → bit next j ≡ bit (getD (s .clients .active) c 0) j || eqb j i)
+        → Puts out 0 (encodeAll (updatesOf c (λ j. eqb j i) (n .values) 0 (parameters w))) mid p
+        → Puts mid p (encode (final c (active (some name)))) after written
+        → Activates w n c t out after values values (outcome w n c t (activate (some name))) next written
+    activated-one name i f h =
+        one-active w n c t out after values sound (getD (s .clients .active) c 0) (open-bits table s values c (r .isOpen)) mid p written
+        name i (f .it) (f .is) (f .low) next h

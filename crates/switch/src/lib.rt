@@ -8,8 +8,8 @@ ghost use lib.ListN.{length};
 ghost use Rattle.table.specs.Layout.{tableOf};
 ghost use Rattle.message.specs.Request as Request;
 ghost use Rattle.state.specs.Fit.{pastLast};
-ghost use Rattle.outcome.specs.Ready.{Lent};
-ghost use Rattle.outcome.specs.Outcome.{ComesAtAny, ComesWith};
+ghost use Rattle.outcome.specs.Ready.{Lent, Ready};
+ghost use Rattle.outcome.specs.Outcome.{Comes, ComesAtAny, ComesWith};
 use message::say::Class;
 use outbox::write::Switched;
 use outbox::write::put_final_switched;
@@ -17,7 +17,53 @@ use outbox::write::put_final_switched_name;
 use outcome::Outcome;
 use search::find::FoundModule;
 use search::find::find_module;
+use search::find::module_count;
+use state::State;
+use state::bits::with_bit;
+use state::bits::with_bits;
 use state::bits::without_bit;
+use update::Scope;
+use update::put_updates_of;
+
+pub fn activate_all(
+    table: &[u8],
+    values: &[u8],
+    out: &mut [u8],
+    state: State,
+    client: u8,
+) -> Outcome
+    requires { ⌜ Ready (now table) state (now values) (now out) client ⌝ }
+    ensures { λ r. ⌜ ((t : ℕ) → Comes (now (table .entry)) state (now (values .entry)) (now (out .entry)) client t r (now (values .entry)) (now (out .exit)) (Request.activate none)) ⌝ }
+{
+    let clients = state.clients;
+    let mask = clients.active[client as usize];
+    let all = with_bits(mask, module_count(table));
+    let told = put_updates_of(table, values, out, state, client, Scope::All);
+    let end = put_final_switched(out, told, client, Switched::Active);
+    Outcome::Active(all, end)
+}
+
+pub fn activate(
+    table: &[u8],
+    values: &[u8],
+    out: &mut [u8],
+    state: State,
+    client: u8,
+    module: &[u8],
+) -> Outcome
+    requires { ⌜ Ready (now table) state (now values) (now out) client ⌝ }
+    ensures { λ r. ⌜ ((t : ℕ) → Comes (now (table .entry)) state (now (values .entry)) (now (out .entry)) client t r (now (values .entry)) (now (out .exit)) (Request.activate (some (now («module» .entry))))) ⌝ }
+{
+    let FoundModule::At(i, _) = find_module(table, module) else {
+        return Outcome::Refused(Class::NoSuchModule);
+    };
+    let clients = state.clients;
+    let mask = clients.active[client as usize];
+    let more = with_bit(mask, i);
+    let told = put_updates_of(table, values, out, state, client, Scope::Module(i));
+    let end = put_final_switched_name(out, told, client, Switched::Active, module);
+    Outcome::Active(more, end)
+}
 
 pub fn deactivate_all(out: &mut [u8], client: u8) -> Outcome
     requires { ⌜ 32768 ≤ length (now out) ⌝ }
