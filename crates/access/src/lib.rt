@@ -1,20 +1,23 @@
 // `read`, `change` and `do`: what is asked of one accessible of a module.
+mod command;
+mod setting;
+
 ghost use Prim.Native.Nat.{ℕ, _≤_};
 ghost use Rattle.ascii.specs.Numbers.{latest};
+ghost use Rattle.ascii.specs.Writer.{Puts};
 ghost use Rattle.message.specs.Request as Request;
+ghost use Rattle.outbox.specs.Outbox.{encode};
 ghost use Rattle.outcome.specs.Ready.{Lent, Ready};
 ghost use Rattle.outcome.specs.Outcome.{Comes, ComesAtAny};
-use ascii::byte;
+ghost use Rattle.access.specs.Shown.{Shows, shownReply};
+use crate::command::argument_verdict;
+use crate::command::order;
+use crate::setting::set;
 use fit::Verdict;
 use fit::fit::verdict;
-use json::compact::put_compact;
-use json::read::is_text;
-use json::read::spaces_end;
 use message::say::Class;
 use outbox::write::Told;
 use outbox::write::put_final_report;
-use outbox::write::put_order_change;
-use outbox::write::put_order_command;
 use outcome::Outcome;
 use search::find::FoundCommand;
 use search::find::FoundModule;
@@ -22,12 +25,40 @@ use search::find::FoundParameter;
 use search::find::find_command;
 use search::find::find_module;
 use search::find::find_parameter;
-use state::Clients;
+use state::Settings;
 use state::State;
-use state::setting::shown;
-use update::put_updates_to;
+use table::layout::Part;
 
-// "`reply M:P [value,{"t":time}]`, the stored time"
+// "`reply M:P [value,{"t":time}]`, the stored time". "Length 0 means never set: the value shown is then the part of the table that holds its
+// initial value, otherwise the part of the values area that holds the stored one, no copy."
+fn put_shown(
+    table: &[u8],
+    values: &[u8],
+    out: &mut [u8],
+    settings: Settings,
+    k: usize,
+    initial: Part,
+    client: u8,
+    module: &[u8],
+    name: &[u8],
+) -> usize
+    requires { ⌜ Shows (now table) settings (now values) k initial client (now «module») (now name) (now out) ⌝ }
+    ensures { λ r. ⌜ Puts (now (out .entry)) 0 (encode (shownReply (now (table .entry)) settings (now (values .entry)) k initial client (now («module» .entry)) (now (name .entry)))) (now (out .exit)) r ⌝ }
+{
+    let size = settings.length[k] as usize;
+    let time = settings.time[k];
+    if size == 0 {
+        let from = initial.from;
+        let to = initial.to;
+        let value = &table[from..to];
+        return put_final_report(out, 0, client, Told::Reply, module, name, value, time);
+    }
+    let first = 256 * k;
+    let last = first + size;
+    let value = &values[first..last];
+    put_final_report(out, 0, client, Told::Reply, module, name, value, time)
+}
+
 pub fn read(
     table: &[u8],
     values: &[u8],
@@ -47,51 +78,19 @@ pub fn read(
         return Outcome::Refused(Class::NoSuchParameter);
     };
     let settings = state.settings;
-    let size = settings.length[k] as usize;
-    let time = settings.time[k];
     let initial = p.initial;
-    let value = shown(table, values, size, initial, k);
-    let end = put_final_report(out, 0, client, Told::Reply, module, name, value, time);
-    Outcome::Sent(end)
-}
-
-// "the driver's order, an update to each open client with M active, .., then `changed M:P [..]`, with the stored form"
-fn set(
-    values: &mut [u8],
-    out: &mut [u8],
-    clients: Clients,
-    client: u8,
-    time: u64,
-    k: usize,
-    home: usize,
-    module: &[u8],
-    name: &[u8],
-    text: &[u8],
-) -> Outcome {
-    let at = 256 * k;
-    let end = put_compact(values, at, text);
-    let order = put_order_change(out, 0, client, k as u8, &values[at..end]);
-    let told = put_updates_to(
+    let end = put_shown(
+        table,
+        values,
         out,
-        order,
-        clients,
-        home,
-        module,
-        name,
-        &values[at..end],
-        time,
-    );
-    let done = put_final_report(
-        out,
-        told,
+        settings,
+        k,
+        initial,
         client,
-        Told::Changed,
         module,
         name,
-        &values[at..end],
-        time,
     );
-    Outcome::Stored(k, end - at, done)
+    Outcome::Sent(end)
 }
 
 pub fn change(
@@ -138,51 +137,6 @@ pub fn change(
     }
 }
 
-// "Without a declared argument only `null` is right, else WrongType.": `null` is the only value that begins with an `n`
-fn null_verdict(text: &[u8]) -> Verdict {
-    if !is_text(text) {
-        return Verdict::BadJson;
-    }
-    let at = spaces_end(text, 0);
-    if byte(text, at) == b'n' {
-        return Verdict::Fits;
-    }
-    Verdict::WrongType
-}
-
-fn argument_verdict(table: &[u8], argument: bool, info: usize, text: &[u8]) -> Verdict {
-    if argument {
-        return verdict(table, info, text);
-    }
-    null_verdict(text)
-}
-
-// "the argument's stored form, or nothing where none is declared"
-fn put_order(out: &mut [u8], client: u8, k: usize, argument: bool, text: &[u8]) -> usize {
-    if !argument {
-        return put_order_command(out, 0, client, k as u8, b"");
-    }
-    let mut form = [0u8; 256];
-    let size = put_compact(&mut form, 0, text);
-    put_order_command(out, 0, client, k as u8, &form[..size])
-}
-
-// "the driver's order, then `done M:C [null,{"t":now}]`"
-fn order(
-    out: &mut [u8],
-    client: u8,
-    time: u64,
-    k: usize,
-    argument: bool,
-    module: &[u8],
-    name: &[u8],
-    text: &[u8],
-) -> Outcome {
-    let told = put_order(out, client, k, argument, text);
-    let end = put_final_report(out, told, client, Told::Done, module, name, b"null", time);
-    Outcome::Sent(end)
-}
-
 pub fn execute(
     table: &[u8],
     out: &mut [u8],
@@ -204,7 +158,7 @@ pub fn execute(
     let argument = c.argument;
     let info = c.info;
     match argument_verdict(table, argument, info, text) {
-        Verdict::Fits => order(out, client, time, k, argument, module, name, text),
+        Verdict::Fits => Outcome::Sent(order(out, client, time, k, argument, module, name, text)),
         Verdict::RangeError => Outcome::Refused(Class::RangeError),
         Verdict::WrongType => Outcome::Refused(Class::WrongType),
         Verdict::BadJson => Outcome::Refused(Class::BadJSON),
