@@ -17,6 +17,7 @@ use Rattle.state.specs.View.{view, outboxAfter, written}
 use Rattle.state.specs.Fit.{isUnfit}
 use Rattle.promise.specs.declared.Done.{Done}
 use Rattle.promise.specs.Promise.{stepFrom, areaOf, areaAfter, Kept}
+use Rattle.promise.specs.Leaves.{Leaves}
 
 nothing-written : _≡_ {A = ℕ} 0 (written [])
 unfolding written encodeAll
@@ -65,17 +66,7 @@ module _ (table : List ℕ) (s : State) (values : List ℕ) (e : Call) where
         refused = λ y. refl;
       }
 
-  -- what an accepted call leaves
-  pub record Leaves (outbox : List ℕ) (r : Done) (values′ outbox′ : List ℕ) : Type 0 where
-    pub number : r .number ≡ 0
-    pub used : r .used ≡ does .used
-    pub writes : r .written ≡ written (does .records)
-    pub sends : outbox′ ≡ outboxAfter outbox (does .records)
-    pub area : values′ ≡ areaOf values e (does .records)
-    pub node : view table (r .state) values′ ≡ does .next
-    pub fit : isUnfit (tableOf table) (r .state) values′ ≡ false
-
-  pub accepts : (outbox : List ℕ) (r : Done) (values′ outbox′ : List ℕ) → number ≡ 0 → Leaves outbox r values′ outbox′
+  pub accepts : (outbox : List ℕ) (r : Done) (values′ outbox′ : List ℕ) → number ≡ 0 → Leaves table s values e outbox r values′ outbox′
       → Kept table e s values outbox r values′ outbox′
   accepts outbox r values′ outbox′ h l =
       let q = sym (accepted-step h) in

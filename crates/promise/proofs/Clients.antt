@@ -25,7 +25,7 @@ use Rattle.state.proofs.Views.{client-view}
 use Rattle.outcome.specs.Area.{withSetting}
 use Rattle.promise.specs.declared.Done.{Done}
 use Rattle.promise.specs.Promise.{areaOf}
-use Rattle.promise.proofs.Answers.{Leaves}
+use Rattle.promise.specs.Leaves.{Leaves}
 
 -- ## Fitness
 

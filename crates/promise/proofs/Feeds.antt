@@ -26,7 +26,7 @@ use Rattle.outcome.specs.declared.Answered.{Answered}
 use Rattle.outcome.specs.Outcome.{Answers}
 use Rattle.promise.specs.declared.Done.{Done}
 use Rattle.promise.specs.Promise.{areaOf}
-use Rattle.promise.proofs.Answers.{Leaves}
+use Rattle.promise.specs.Leaves.{Leaves}
 
 -- a client inside an overlong line keeps no bytes of it, and an overlong line says what an empty one does
 held-content : (s : Clients) (c : ℕ) → isSet (s .open) c ≡ true → (isSet (s .overlong) c ≡ true → getD (s .length) c 0 ≡ 0)
