@@ -2,3 +2,4 @@ pub mod Numbers
 pub mod Answers
 pub mod Clients
 pub mod Feeds
+pub mod Held
