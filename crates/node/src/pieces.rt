@@ -1,4 +1,5 @@
 // A piece of a client's bytes.
+use crate::feed::feed_at;
 use crate::judge::lent_number;
 use crate::judge::quiet;
 use line::answer_line;
@@ -8,32 +9,17 @@ use state::State;
 use state::client::ended;
 use state::client::is_open;
 use state::client::joined;
-ghost use mathlib.Core.Path.{_≡_};
 ghost use Prim.Native.Nat.{_≤_};
 ghost use lib.ListN.{length};
 ghost use Rattle.ascii.specs.Numbers.{latest};
 ghost use Rattle.table.specs.Layout.{tableOf};
 ghost use Rattle.plain.specs.Answer.{answer};
-ghost use Rattle.plain.specs.Calls.{Piece, beforeFeed};
+ghost use Rattle.plain.specs.Calls.{Piece};
 ghost use Rattle.state.specs.View.{view};
 ghost use Rattle.outcome.specs.Ready.{Ready};
 ghost use Rattle.outcome.specs.Outcome.{Answers};
 ghost use Rattle.promise.specs.Promise.{Kept};
 ghost use Rattle.promise.specs.Leaves.{Leaves};
-
-// How many bytes stand before the first line feed.
-fn feed_at(bytes: &[u8]) -> usize
-    ensures { λ r. ⌜ r ≡ length (beforeFeed (now (bytes .entry))) ⌝ }
-{
-    let mut i = 0;
-    while i < bytes.len() {
-        if bytes[i] == 10 {
-            return i;
-        }
-        i += 1;
-    }
-    i
-}
 
 // "a line feed ends a line, which is carried out and answered from what is held, .., and no bytes stay"
 fn answer_held(
