@@ -1,1 +1,3 @@
 pub mod Conclusions
+pub mod Standing
+pub mod Answers

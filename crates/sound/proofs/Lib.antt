@@ -2,6 +2,7 @@ pub mod Lists
 pub mod Accepted
 pub mod Values
 pub mod Records
+pub mod Room
 pub mod Lines
 pub mod Held
 pub mod Steps
