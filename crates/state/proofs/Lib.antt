@@ -7,3 +7,5 @@ pub mod Joins
 pub mod Judged
 pub mod Kept
 pub mod Settled
+pub mod Stands
+pub mod Views

@@ -1,170 +1,49 @@
 -- The counts of `accessiblesAt` and `modulesAt` never cut a table short: with any count that is at least the number of bytes they read
 -- the same. The reason: no reader leaves more than it was given, and each record takes a byte at least. Assumes nothing.
-use Prim.Native.Nat.{ℕ, zero, suc, _-_, _≤_, _<_}
+use Prim.Native.Nat.{ℕ, zero, suc, _≤_, _<_}
 use native.Mathlib.Omega.{arith}
 use mathlib.Core.Path.{_≡_, refl, sym, _∙_}
 use mathlib.Core.Bool.{Bool, true, false, cond, false≢true}
 use mathlib.Core.List.{List, [], _∷_}
 use mathlib.Core.Option.{Option, none, some}
 use lib.ListN.{length, drop, length-drop}
-use lib.Dec.{leb, eqb}
+use lib.Dec.{eqb}
 use Rattle.ascii.specs.Text.{bytes}
-use Rattle.ascii.specs.Bytes.{_>>=_, after, part}
-use Rattle.ascii.specs.Numbers.{unsigned, signed}
+use Rattle.ascii.specs.Bytes.{_>>=_, after}
 use Rattle.ascii.specs.Reader.{rest}
-use Rattle.datainfo.specs.Datainfo.{Datainfo}
-use Rattle.datainfo.specs.Layout.{counted, limit, doubleAt, intAt, variants, enumAt, stringAt, arrayAt, elements, tupleAt, fields, structAt, typed, datainfoIn}
-use Rattle.table.specs.Layout.{begins, flag, argumentAt, parameterAt, commandAt, accessiblesAt, noteAt, moduleAt, modulesAt}
+use Rattle.table.specs.Layout.{begins, parameterAt, commandAt, accessiblesAt, moduleAt, modulesAt}
 use Rattle.table.specs.At.{textsAt, accessibleBegins, accessibleAt, accessiblesFrom, headingAt, modulesFrom}
+use Rattle.table.proofs.Leaves.{Within, failed, left, Rest, Ending, w-cond, w-then, r-then, r-cond, r-after, w-counted, w-flag, w-datainfo, w-unsigned, w-part, w-argument, w-note}
 
 -- at most n bytes
 pub record Short (n : ℕ) (xs : List ℕ) : Type 0 where
   pub short : length xs ≤ n
 
--- what is left is at most n bytes, if anything was read
-pub data Within {A : Type 0} (n : ℕ) : Option (A × List ℕ) → Type 0 where
-  failed : Within n none
-  left : {p : A × List ℕ} → Short n (p .1) → Within n (some p)
-
-data Rest (n : ℕ) : Option (List ℕ) → Type 0 where
-  failed : Rest n none
-  left : {r : List ℕ} → Short n r → Rest n (some r)
-
--- ## Readers that leave no more than they were given
-
-module _ {n : ℕ} where
-  w-cond : {A : Type 0} (b : Bool) {x y : Option (A × List ℕ)} → Within n x → Within n y → Within n (cond b x y)
-  w-cond true p q = p
-  w-cond false p q = q
-
-  w-then : {A B : Type 0} {o : Option (A × List ℕ)} {f : A × List ℕ → Option (B × List ℕ)} → Within n o → ((p : A × List ℕ) → Short n (p .1) → Within n (f p)) → Within n (o >>= f)
-  w-then failed h = failed
-  w-then (left {p = p} g) h = h p g
-
-  r-then : {B : Type 0} {o : Option (List ℕ)} {f : List ℕ → Option (B × List ℕ)} → Rest n o → ((r : List ℕ) → Short n r → Within n (f r)) → Within n (o >>= f)
-  r-then failed h = failed
-  r-then (left {r = r} g) h = h r g
-
-  r-cond : (b : Bool) {x y : Option (List ℕ)} → Rest n x → Rest n y → Rest n (cond b x y)
-  r-cond true p q = p
-  r-cond false p q = q
-
-  r-after : (m : List ℕ) {xs : List ℕ} → Short n xs → Rest n (after m xs)
-  unfolding after
-  r-after [] h = left h
-  r-after (w ∷ ws) {xs = []} h = failed
-  r-after (w ∷ ws) {xs = x ∷ xs} h = r-cond (eqb x w) (r-after ws {xs = xs} (record { short = omega arith })) failed
-
-  w-part : (k : ℕ) {xs : List ℕ} → Short n xs → Within n (part k xs)
-  unfolding part
-  w-part k {xs} h = w-cond (leb k (length xs)) (left (record { short = rw length-drop (omega arith) })) failed
-
-  w-unsigned : (k : ℕ) {xs : List ℕ} → Short n xs → Within n (unsigned k xs)
-  unfolding unsigned
-  w-unsigned k h = w-then (w-part k h) (λ p g. left g)
-
-  w-signed : (k : ℕ) {xs : List ℕ} → Short n xs → Within n (signed k xs)
-  unfolding signed
-  w-signed k h = w-then (w-part k h) (λ p g. left g)
-
-  w-counted : {xs : List ℕ} → Short n xs → Within n (counted xs)
-  unfolding counted
-  w-counted h = w-then (w-unsigned 1 h) (λ p g. w-part (p .0) g)
-
-  w-limit : {xs : List ℕ} → Short n xs → Within n (limit xs)
-  unfolding limit
-  w-limit h = w-then (w-signed 8 h) (λ p g. w-then (w-signed 1 g) (λ q k. left k))
-
-  w-double : {xs : List ℕ} → Short n xs → Within n (doubleAt xs)
-  unfolding doubleAt
-  w-double h = w-then (w-limit h) (λ p g. w-then (w-limit g) (λ q k. left k))
-
-  w-int : {xs : List ℕ} → Short n xs → Within n (intAt xs)
-  unfolding intAt
-  w-int h = w-then (w-signed 8 h) (λ p g. w-then (w-signed 8 g) (λ q k. left k))
-
-  w-string : {xs : List ℕ} → Short n xs → Within n (stringAt xs)
-  unfolding stringAt
-  w-string h = w-then (w-unsigned 2 h) (λ p g. w-then (w-unsigned 2 g) (λ q k. left k))
-
-  w-variants : (m : ℕ) {xs : List ℕ} → Short n xs → Within n (variants m xs)
-  unfolding variants
-  w-variants zero h = left h
-  w-variants (suc m) h = w-then (w-counted h) (λ p g. w-then (w-signed 4 g) (λ q k. w-then (w-variants m k) (λ r l. left l)))
-
-  w-enum : {xs : List ℕ} → Short n xs → Within n (enumAt xs)
-  unfolding enumAt
-  w-enum h = w-then (w-unsigned 1 h) (λ p g. w-then (w-variants (p .0) g) (λ q k. left k))
-
-  module _ (f : List ℕ → Option (Datainfo × List ℕ)) (w : (xs : List ℕ) → Short n xs → Within n (f xs)) where
-    w-array : {xs : List ℕ} → Short n xs → Within n (arrayAt f xs)
-    unfolding arrayAt
-    w-array h = w-then (w-unsigned 2 h) (λ p g. w-then (w-unsigned 2 g) (λ q k. w-then (w (q .1) k) (λ r l. left l)))
-
-    w-elements : (m : ℕ) {xs : List ℕ} → Short n xs → Within n (elements f m xs)
-    unfolding elements
-    w-elements zero h = left h
-    w-elements (suc m) {xs} h = w-then (w xs h) (λ p g. w-then (w-elements m g) (λ q k. left k))
-
-    w-fields : (m : ℕ) {xs : List ℕ} → Short n xs → Within n (fields f m xs)
-    unfolding fields
-    w-fields zero h = left h
-    w-fields (suc m) h = w-then (w-counted h) (λ p g. w-then (w (p .1) g) (λ q k. w-then (w-fields m k) (λ r l. left l)))
-
-    w-typed : (k : ℕ) {xs : List ℕ} → Short n xs → Within n (typed f k xs)
-    unfolding typed tupleAt structAt
-    w-typed k h =
-        w-cond (eqb k 1) (w-double h)
-        (w-cond (eqb k 2) (w-int h)
-        (w-cond (eqb k 3) (left h)
-        (w-cond (eqb k 4) (w-enum h)
-        (w-cond (eqb k 5) (w-string h)
-        (w-cond (eqb k 6) (w-array h)
-        (w-cond (eqb k 7) (w-then (w-unsigned 1 h) (λ p g. w-then (w-elements (p .0) g) (λ q l. left l)))
-        (w-cond (eqb k 8) (w-then (w-unsigned 1 h) (λ p g. w-then (w-fields (p .0) g) (λ q l. left l)))
-        failed)))))))
-
-w-datainfo : (l : ℕ) {n : ℕ} (xs : List ℕ) → Short n xs → Within n (datainfoIn l xs)
-unfolding datainfoIn
-w-datainfo zero xs h = failed
-w-datainfo (suc l) xs h = w-then (w-unsigned 1 h) (λ p g. w-typed (datainfoIn l) (w-datainfo l) (p .0) g)
-
-module _ {n : ℕ} where
-  w-flag : {xs : List ℕ} → Short n xs → Within n (flag xs)
-  unfolding flag
-  w-flag h = w-then (w-unsigned 1 h) (λ p g. w-cond (leb (p .0) 1) (left g) failed)
-
-  w-argument : (b : Bool) {xs : List ℕ} → Short n xs → Within n (argumentAt b xs)
-  unfolding argumentAt
-  w-argument false h = left h
-  w-argument true {xs} h = w-then (w-datainfo 4 xs h) (λ p g. left g)
-
-  w-note : {xs : List ℕ} → Short n xs → Within n (noteAt xs)
-  unfolding noteAt
-  w-note {xs} h = w-cond (begins (bytes "NO") xs) (r-then (r-after (bytes "NO") h) (λ a g. w-then (w-counted g) (λ p k. left k))) (left h)
+shorter : {n : ℕ} → Ending (Short n)
+shorter k xs h = record { short = rw length-drop (omega (arith, h .short)) }
 
 -- ## Records, each of which takes a byte
 
 -- a mark takes a byte
-r-mark : {n : ℕ} (w : ℕ) (m : List ℕ) {xs : List ℕ} → Short (suc n) xs → Rest n (after (w ∷ m) xs)
+r-mark : {n : ℕ} (w : ℕ) (m : List ℕ) {xs : List ℕ} → Short (suc n) xs → Rest (Short n) (after (w ∷ m) xs)
 unfolding after
 r-mark w m {xs = []} h = failed
-r-mark {n} w m {xs = x ∷ xs} h = r-cond (eqb x w) (r-after m {xs = xs} (record { short = omega arith })) failed
+r-mark {n} w m {xs = x ∷ xs} h = r-cond (eqb x w) (r-after shorter m (record { short = omega arith })) failed
 
 module _ {n : ℕ} where
-  w-parameter : (k : ℕ) {xs : List ℕ} → Short (suc n) xs → Within n (parameterAt k xs)
+  w-parameter : (k : ℕ) {xs : List ℕ} → Short (suc n) xs → Within (Short n) (parameterAt k xs)
   unfolding parameterAt bytes
   w-parameter k h =
       r-then (r-mark 80 (65 ∷ []) h)
-      (λ a g. w-then (w-counted g) (λ p i. w-then (w-counted i) (λ q j. w-then (w-flag j) (λ r l. w-then (w-datainfo 4 (r .1) l) (λ d e. w-then (w-unsigned 2 e) (λ u v. w-then (w-part (u .0) v) (λ x y. left y)))))))
+      (λ a g. w-then (w-counted shorter g) (λ p i. w-then (w-counted shorter i) (λ q j. w-then (w-flag shorter j) (λ r l. w-then (w-datainfo shorter 4 (r .1) l) (λ d e. w-then (w-unsigned shorter 2 e) (λ u v. w-then (w-part shorter (u .0) v) (λ x y. left y)))))))
 
-  w-command : {xs : List ℕ} → Short (suc n) xs → Within n (commandAt xs)
+  w-command : {xs : List ℕ} → Short (suc n) xs → Within (Short n) (commandAt xs)
   unfolding commandAt bytes
   w-command h =
       r-then (r-mark 67 (77 ∷ []) h)
-      (λ a g. w-then (w-counted g) (λ p i. w-then (w-counted i) (λ q j. w-then (w-flag j) (λ r l. w-then (w-argument (r .0) l) (λ d e. left e)))))
+      (λ a g. w-then (w-counted shorter g) (λ p i. w-then (w-counted shorter i) (λ q j. w-then (w-flag shorter j) (λ r l. w-then (w-argument shorter (r .0) l) (λ d e. left e)))))
 
-  w-accessible : (k : ℕ) (xs : List ℕ) → Short (suc n) xs → Within n (accessibleAt k xs)
+  w-accessible : (k : ℕ) (xs : List ℕ) → Short (suc n) xs → Within (Short n) (accessibleAt k xs)
   unfolding accessibleAt
   w-accessible k xs h = w-cond (begins (bytes "PA") xs) (w-parameter k h) (w-command h)
 
@@ -178,7 +57,7 @@ nil : {xs : List ℕ} → Short 0 xs → xs ≡ []
 nil {xs = []} h = refl
 nil {xs = x ∷ xs} h = absurd (omega arith)
 
-out : {A : Type 0} {n : ℕ} {p : A × List ℕ} → Within n (some p) → Short n (p .1)
+out : {A : Type 0} {n : ℕ} {p : A × List ℕ} → Within (Short n) (some p) → Short n (p .1)
 out (left h) = h
 
 all-of-it : (xs : List ℕ) → Short (length xs) xs
@@ -194,8 +73,8 @@ many test read zero xs = some ([], xs)
 many test read (suc k) xs = cond (test xs) (read xs >>= λ p. before (p .0) (many test read k (p .1))) (some ([], xs))
 
 -- records of which none begins in no bytes, and each takes a byte
-module _ {A : Type 0} (test : List ℕ → Bool) (read : List ℕ → Option (A × List ℕ)) (empty : test [] ≡ false) (takes : (n : ℕ) (xs : List ℕ) → Short (suc n) xs → Within n (read xs)) where
-  pub w-many : (k : ℕ) {n : ℕ} {xs : List ℕ} → Short n xs → Within n (many test read k xs)
+module _ {A : Type 0} (test : List ℕ → Bool) (read : List ℕ → Option (A × List ℕ)) (empty : test [] ≡ false) (takes : (n : ℕ) (xs : List ℕ) → Short (suc n) xs → Within (Short n) (read xs)) where
+  pub w-many : (k : ℕ) {n : ℕ} {xs : List ℕ} → Short n xs → Within (Short n) (many test read k xs)
   unfolding many
   w-many zero h = left h
   w-many (suc k) {n} {xs} h =
@@ -231,7 +110,7 @@ module _ {A : Type 0} (test : List ℕ → Bool) (read : List ℕ → Option (A 
   many-less [] r h e = absurd (false≢true (sym empty ∙ h))
   many-less (x ∷ xs) r h e = go (takes (length xs) (x ∷ xs) (all-of-it (x ∷ xs))) e
     where
-      go : {o : Option (A × List ℕ)} → Within (length xs) o → rest o ≡ some r → length r < suc (length xs)
+      go : {o : Option (A × List ℕ)} → Within (Short (length xs)) o → rest o ≡ some r → length r < suc (length xs)
       go failed e = let z : _≡_ {A = ℕ} 0 1 = cc in absurd (omega arith)
       go (left {p = p} g) e = let z : p .1 ≡ r = cc in let y = g .short in rw (← z) (omega arith)
 
@@ -247,7 +126,7 @@ accessibles-empty : accessibleBegins [] ≡ false
 unfolding begins after bytes
 accessibles-empty = refl
 
-w-accessibles : (n k : ℕ) {m : ℕ} {xs : List ℕ} → Short m xs → Within m (accessiblesAt n k xs)
+w-accessibles : (n k : ℕ) {m : ℕ} {xs : List ℕ} → Short m xs → Within (Short m) (accessiblesAt n k xs)
 w-accessibles n k {m} {xs} h = rw accessibles-many (w-many accessibleBegins (accessibleAt n) accessibles-empty (λ j ys g. w-accessible n ys g) k h)
 
 pub modules-many : (n k : ℕ) (xs : List ℕ) → modulesAt n k xs ≡ many (begins (bytes "MO")) (moduleAt n) k xs
@@ -261,23 +140,23 @@ modules-empty : begins (bytes "MO") [] ≡ false
 unfolding begins after bytes
 modules-empty = refl
 
-w-module : (k : ℕ) {n : ℕ} (xs : List ℕ) → Short (suc n) xs → Within n (moduleAt k xs)
+w-module : (k : ℕ) {n : ℕ} (xs : List ℕ) → Short (suc n) xs → Within (Short n) (moduleAt k xs)
 unfolding moduleAt bytes
 w-module k xs h =
     r-then (r-mark 77 (79 ∷ []) h)
-    (λ a g. w-then (w-counted g) (λ p i. w-then (w-counted i) (λ q j. w-then (w-note j) (λ r l. w-then (w-accessibles k (length (r .1)) l) (λ d e. left e)))))
+    (λ a g. w-then (w-counted shorter g) (λ p i. w-then (w-counted shorter i) (λ q j. w-then (w-note shorter j) (λ r l. w-then (w-accessibles k (length (r .1)) l) (λ d e. left e)))))
 
 -- what a module has before its accessibles
-w-heading : {n : ℕ} (xs : List ℕ) → Short (suc n) xs → Within n (headingAt xs)
+w-heading : {n : ℕ} (xs : List ℕ) → Short (suc n) xs → Within (Short n) (headingAt xs)
 unfolding headingAt textsAt bytes
 w-heading xs h =
-    w-then (r-then (r-mark 77 (79 ∷ []) h) (λ a g. w-then (w-counted g) (λ p i. w-then (w-counted i) (λ q j. left j))))
-    (λ t k. w-then (w-note k) (λ r l. left l))
+    w-then (r-then (r-mark 77 (79 ∷ []) h) (λ a g. w-then (w-counted shorter g) (λ p i. w-then (w-counted shorter i) (λ q j. left j))))
+    (λ t k. w-then (w-note shorter k) (λ r l. left l))
 
 -- ## One record at a position, and those that follow it
 
 module _ (s : List ℕ) (i : ℕ) where
-  takes-accessible : (n : ℕ) (xs : List ℕ) → Short (suc n) xs → Within n (accessibleAt (length s) xs)
+  takes-accessible : (n : ℕ) (xs : List ℕ) → Short (suc n) xs → Within (Short n) (accessibleAt (length s) xs)
   takes-accessible n xs h = w-accessible (length s) xs h
 
   pub accessibles-stop : accessibleBegins (drop i s) ≡ false → accessiblesFrom s i ≡ some ([], drop i s)
@@ -289,7 +168,7 @@ module _ (s : List ℕ) (i : ℕ) where
   pub accessible-less : (r : List ℕ) → accessibleBegins (drop i s) ≡ true → rest (accessibleAt (length s) (drop i s)) ≡ some r → length r < length (drop i s)
   accessible-less r h e = many-less accessibleBegins (accessibleAt (length s)) accessibles-empty takes-accessible (drop i s) r h e
 
-  takes-module : (n : ℕ) (xs : List ℕ) → Short (suc n) xs → Within n (moduleAt (length s) xs)
+  takes-module : (n : ℕ) (xs : List ℕ) → Short (suc n) xs → Within (Short n) (moduleAt (length s) xs)
   takes-module n xs h = w-module (length s) xs h
 
   pub modules-stop : begins (bytes "MO") (drop i s) ≡ false → modulesFrom s i ≡ some ([], drop i s)
@@ -301,7 +180,7 @@ module _ (s : List ℕ) (i : ℕ) where
   pub module-less : (r : List ℕ) → begins (bytes "MO") (drop i s) ≡ true → rest (moduleAt (length s) (drop i s)) ≡ some r → length r < length (drop i s)
   module-less r h e = many-less (begins (bytes "MO")) (moduleAt (length s)) modules-empty takes-module (drop i s) r h e
 
-  takes-heading : (n : ℕ) (xs : List ℕ) → Short (suc n) xs → Within n (headingAt xs)
+  takes-heading : (n : ℕ) (xs : List ℕ) → Short (suc n) xs → Within (Short n) (headingAt xs)
   takes-heading n xs h = w-heading xs h
 
   pub heading-less : (r : List ℕ) → begins (bytes "MO") (drop i s) ≡ true → rest (headingAt (drop i s)) ≡ some r → length r < length (drop i s)

@@ -1,8 +1,10 @@
 pub mod Records
 pub mod Accessibles
+pub mod Leaves
 pub mod Enough
 pub mod Modules
 pub mod Tests
 pub mod Named
 pub mod Heads
 pub mod Whole
+pub mod Places

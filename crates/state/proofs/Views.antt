@@ -1,0 +1,65 @@
+-- Laws of the plain node that a state stands for: a change of the state is the plain node's own small change. Assumes nothing.
+use Prim.Native.Nat.{ℕ, zero, suc, _≤_, _<_}
+use native.Mathlib.Omega.{arith}
+use mathlib.Core.Path.{_≡_, refl, ap, ap₂, fun-ext}
+use mathlib.Core.Bool.{false}
+use mathlib.Core.List.{List, [], _∷_}
+use mathlib.Core.Option.{Option, none, some}
+use lib.ListN.{length, getD, getElem?}
+use Rattle.table.specs.Table.{Parameter, Table}
+use Rattle.table.specs.Layout.{readTable, orEmpty, tableOf}
+use Rattle.table.specs.Search.{Placed, parameters}
+use Rattle.table.proofs.Places.{initial-lies}
+use Rattle.plain.specs.Node.{Client, closed, Value, withClient, withValue, initially, begin}
+use Rattle.state.specs.declared.Clients.{Clients}
+use Rattle.state.specs.declared.Settings.{Settings}
+use Rattle.state.specs.declared.State.{State}
+use Rattle.state.specs.View.{shown, valueAt, clientAt, view, withStored}
+use Rattle.state.specs.Fit.{settingsUnfit}
+use Rattle.state.specs.Becomes.{Becomes}
+use Rattle.state.proofs.Settled.{Sized, withSetting, stored-view}
+
+-- an element that is there has a number below the length
+placed : {A : Type 0} (l : List A) (p : ℕ) (x : A) → getElem? l p ≡ some x → p < length l
+placed [] p x e = let z : _≡_ {A = ℕ} 0 1 = cc in absurd (omega arith)
+placed (y ∷ l) zero x e = omega arith
+placed (y ∷ l) (suc p) x e = let h = placed l p x e in omega arith
+
+-- one client becomes another
+pub client-view : (table : List ℕ) (s : State) (values : List ℕ) {r : Clients} {c : ℕ} {x : Client} {condition : ℕ → Type 0} → Becomes (s .clients) c x condition r
+    → view table (record { clients = r; settings = s .settings }) values ≡ withClient (view table s values) c x
+unfolding view
+client-view table s values b = ap (λ (f : ℕ → Client). record { clients = f; values = view table s values .values }) (fun-ext (b .is))
+
+-- a value is stored
+module _ (table : List ℕ) (s : State) (z : Sized (s .settings)) (values : List ℕ) (room : 16384 ≤ length values) (k : ℕ) (h : k < 64) (text : List ℕ) (some-bytes : 0 < length text) (short : length text ≤ 256) (time : ℕ) where
+  pub value-view : settingsUnfit (s .settings) values 0 (parameters (tableOf table)) ≡ false → (x : Placed Parameter) → getElem? (parameters (tableOf table)) k ≡ some x
+      → view table (record { clients = s .clients; settings = withSetting (s .settings) k (length text) time }) (withStored values k text)
+      ≡ withValue (view table s values) k (record { text = text; time = time })
+  unfolding view
+  value-view fit x at =
+      ap (λ (f : ℕ → Value). record { clients = clientAt (s .clients); values = f })
+      (fun-ext (stored-view (s .settings) z values room k h text some-bytes short time (parameters (tableOf table)) fit x at table))
+
+-- a parameter that was never set shows its initial value
+module _ (table : List ℕ) (w : Table) (read : readTable table ≡ some w) (s : Settings) (values : List ℕ) where
+  pub never-set : (p : ℕ) (x : Placed Parameter) → getElem? (parameters w) p ≡ some x → getD (s .length) p 0 ≡ 0 → shown table s values p (x .it) ≡ x .it .initial
+  unfolding shown
+  never-set p x e h = rw h (initial-lies table w read p x e)
+
+  -- with nothing set, and one time for all
+  started : (t : ℕ) → ((p : ℕ) → p < length (parameters w) → getD (s .length) p 0 ≡ 0) → ((p : ℕ) → p < length (parameters w) → getD (s .time) p 0 ≡ t) → (p : ℕ) → valueAt table s values p (getElem? (parameters w) p) ≡ initially (getElem? (parameters w) p) t
+  unfolding valueAt initially
+  started t n m p = go (getElem? (parameters w) p) refl
+    where
+      go : (o : Option (Placed Parameter)) → getElem? (parameters w) p ≡ o → valueAt table s values p o ≡ initially o t
+      go none e = refl
+      go (some x) e = rw (never-set p x e (n p (placed (parameters w) p x e)), m p (placed (parameters w) p x e))
+
+-- the node after an accepted start: no client is open, nothing is set, and all times are the start's
+pub begun-view : (table : List ℕ) (w : Table) → readTable table ≡ some w → (s : State) (values : List ℕ) (t : ℕ) → ((c : ℕ) → clientAt (s .clients) c ≡ closed)
+    → ((p : ℕ) → p < length (parameters w) → getD (s .settings .length) p 0 ≡ 0) → ((p : ℕ) → p < length (parameters w) → getD (s .settings .time) p 0 ≡ t)
+    → view table s values ≡ begin w t
+unfolding view begin tableOf orEmpty
+begun-view table w read s values t c n m =
+    rw read (ap₂ (λ (f : ℕ → Client) (g : ℕ → Value). record { clients = f; values = g }) (fun-ext c) (fun-ext (started table w read (s .settings) values t n m)))
