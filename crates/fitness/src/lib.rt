@@ -1,10 +1,13 @@
 // Whether a state is unfit for a table and a values area: number 9.
 ghost use mathlib.Core.Path.{_≡_};
-ghost use Prim.Native.Nat.{_≤_};
-ghost use lib.ListN.{length};
+ghost use Prim.Native.Nat.{_≤_, _<_};
+ghost use lib.ListN.{length, drop};
+ghost use Rattle.datainfo.specs.Layout.{datainfoAt};
 ghost use Rattle.table.specs.Layout.{tableOf};
+ghost use Rattle.table.specs.Search.{parameters};
 ghost use Rattle.report.specs.Judge.{tableNumber};
-ghost use Rattle.state.specs.Fit.{isUnfit};
+ghost use Rattle.state.specs.Fit.{isUnfit, settingsUnfit};
+ghost use Rattle.fitness.specs.Unfit.{TellsUnfit};
 use fit::fit::is_stored;
 use search::cursor::NextParameter;
 use search::cursor::first_cursor;
@@ -15,7 +18,10 @@ use state::State;
 use state::client::clients_unfit;
 
 // "a stored length is over 256; a stored value is not in stored form or doesn't fit its datainfo; a stored time is above the limit"
-fn setting_unfit(table: &[u8], values: &[u8], settings: Settings, k: usize, info: usize) -> bool {
+fn setting_unfit(table: &[u8], values: &[u8], settings: Settings, k: usize, info: usize) -> bool
+    requires { ⌜ (info ≤ length (now table)) × ((k < 64) × (16384 ≤ length (now values))) ⌝ }
+    ensures { λ r. ⌜ TellsUnfit settings (now (values .entry)) k (datainfoAt (drop info (now (table .entry)))) r ⌝ }
+{
     let size = settings.length[k] as usize;
     if size > 256 {
         return true;
@@ -31,8 +37,11 @@ fn setting_unfit(table: &[u8], values: &[u8], settings: Settings, k: usize, info
     !is_stored(table, info, &values[at..end])
 }
 
-// "Places past the last parameter are not looked at."
-fn settings_unfit(table: &[u8], values: &[u8], settings: Settings) -> bool {
+// "Places past the last parameter are not looked at." An accepted table has at most 64 accessibles.
+fn settings_unfit(table: &[u8], values: &[u8], settings: Settings) -> bool
+    requires { ⌜ (tableNumber (now table) ≡ 0) × (16384 ≤ length (now values)) ⌝ }
+    ensures { λ r. ⌜ r ≡ settingsUnfit settings (now (values .entry)) 0 (parameters (tableOf (now (table .entry)))) ⌝ }
+{
     let mut k = 0;
     let mut cursor = first_cursor(table);
     while k < 64 {

@@ -49,7 +49,7 @@ Comes w c (carried m rs r) = Kept w m (rs ++ (final c r ∷ []))
 -- ## Lines, on an accepted table, at a sound node
 
 module _ (w : Table) (a : Accepted w) (n : Node) (s : Sound w n) where
-  fine : (k : ℕ) (p : Placed Parameter) → getElem? (parameters w) k ≡ some p → (v : Value) → ValueHeld (p .it) v
+  pub fine : (k : ℕ) (p : Placed Parameter) → getElem? (parameters w) k ≡ some p → (v : Value) → ValueHeld (p .it) v
       → Fine (reportOf p v)
   fine k p e v h =
       record {

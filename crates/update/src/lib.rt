@@ -1,11 +1,13 @@
 // Updates, written as outbox records: of one parameter to all clients that have its module active, and of all parameters of some modules to
 // one client.
-ghost use Prim.Native.Nat.{_+_, _≤_, _<_};
+ghost use Prim.Native.Nat.{_+_, _-_, _≤_, _<_};
+ghost use mathlib.Core.Bool.{cond};
+ghost use mathlib.Core.List.{[], _∷_};
+ghost use mathlib.Core.Path.{_≡_};
 ghost use lib.ListN.{length};
 ghost use Rattle.ascii.specs.Writer.{Puts};
 ghost use Rattle.message.specs.Said.{reportOf};
-ghost use Rattle.outbox.specs.Outbox.{encodeAll};
-ghost use mathlib.Core.Path.{_≡_};
+ghost use Rattle.outbox.specs.Outbox.{encodeAll, update};
 ghost use Rattle.table.specs.At.{bytesOf, Inside};
 ghost use Rattle.table.specs.Layout.{tableOf};
 ghost use Rattle.table.specs.Search.{parameters};
@@ -13,6 +15,7 @@ ghost use Rattle.plain.specs.Node.{clientNumbers, updatesTo, updatesOf};
 ghost use Rattle.state.specs.View.{clientAt, view};
 ghost use Rattle.outcome.specs.Ready.{Ready};
 ghost use Rattle.update.specs.Scope.{wanted};
+ghost use Rattle.update.specs.Shown.{shownReport, Shows};
 use outbox::write::put_update;
 use search::cursor::Cursor;
 use search::cursor::NextParameter;
@@ -22,7 +25,6 @@ use state::Clients;
 use state::Settings;
 use state::State;
 use state::client::is_active;
-use state::setting::shown;
 use table::layout::ParameterAt;
 use table::layout::Part;
 
@@ -30,6 +32,27 @@ use table::layout::Part;
 pub enum Scope {
     All,
     Module(usize),
+}
+
+// The update to one client, if it is open and has the module active.
+fn put_update_to(
+    out: &mut [u8],
+    at: usize,
+    clients: Clients,
+    c: usize,
+    home: usize,
+    module: &[u8],
+    accessible: &[u8],
+    value: &[u8],
+    time: u64,
+) -> usize
+    requires { ⌜ (c < 8) × ((home < 16) × ((at + length (encodeAll (updatesTo (clientAt clients) home (reportOf (now «module») (now accessible) (now value) time) (c ∷ []))) ≤ length (now out)) × (length (now «module») + length (now accessible) + length (now value) ≤ 1024))) ⌝ }
+    ensures { λ r. ⌜ Puts (now (out .entry)) at (encodeAll (updatesTo (clientAt clients) home (reportOf (now («module» .entry)) (now (accessible .entry)) (now (value .entry)) time) (c ∷ []))) (now (out .exit)) r ⌝ }
+{
+    if is_active(clients, c, home) {
+        return put_update(out, at, c as u8, module, accessible, value, time);
+    }
+    at
 }
 
 // "an update to each open client with M active, lowest client number first": of a parameter of the module of number `home`
@@ -49,9 +72,7 @@ pub fn put_updates_to(
     let mut end = at;
     let mut c = 0;
     while c < 8 {
-        if is_active(clients, c, home) {
-            end = put_update(out, end, c as u8, module, accessible, value, time);
-        }
+        end = put_update_to(out, end, clients, c, home, module, accessible, value, time);
         c += 1;
     }
     end
@@ -66,7 +87,8 @@ fn wants(scope: Scope, i: usize) -> bool
     }
 }
 
-// The update of one parameter to a client, with the value shown.
+// The update of one parameter to a client, with the value shown, if the scope has its module. If its stored length is 0, the value shown is "the
+// part of the table that holds its initial value, otherwise the part of the values area that holds the stored one, no copy".
 fn put_shown(
     table: &[u8],
     values: &[u8],
@@ -74,17 +96,32 @@ fn put_shown(
     at: usize,
     settings: Settings,
     client: u8,
+    scope: Scope,
     k: usize,
     p: ParameterAt,
-    home: Cursor,
-) -> usize {
+    next: Cursor,
+) -> usize
+    requires { ⌜ Shows (now table) settings (now values) (now out) at client scope k p next ⌝ }
+    ensures { λ r. ⌜ Puts (now (out .entry)) at (encodeAll (cond (wanted scope (next .modules - 1)) (update client (shownReport (now (table .entry)) settings (now (values .entry)) k p next) ∷ []) [])) (now (out .exit)) r ⌝ }
+{
+    let home = next.modules - 1;
+    if !wants(scope, home) {
+        return at;
+    }
     let size = settings.length[k] as usize;
     let time = settings.time[k];
-    let initial = p.initial;
-    let value = shown(table, values, size, initial, k);
-    let module = bytes_of(table, home.name);
-    let name = bytes_of(table, p.name);
-    put_update(out, at, client, module, name, value, time)
+    let home_name = next.name;
+    let module = bytes_of(table, home_name);
+    let own_name = p.name;
+    let name = bytes_of(table, own_name);
+    if size == 0 {
+        let initial = p.initial;
+        let value = bytes_of(table, initial);
+        return put_update(out, at, client, module, name, value, time);
+    }
+    let first = 256 * k;
+    let last = first + size;
+    put_update(out, at, client, module, name, &values[first..last], time)
 }
 
 // "an update for each parameter of those modules, table order", to one client, from the front of the outbox on
@@ -107,10 +144,7 @@ pub fn put_updates_of(
         let NextParameter::At(p, next) = next_parameter(table, cursor) else {
             return end;
         };
-        let home = next.modules - 1;
-        if wants(scope, home) {
-            end = put_shown(table, values, out, end, settings, client, k, p, next);
-        }
+        end = put_shown(table, values, out, end, settings, client, scope, k, p, next);
         cursor = next;
         k += 1;
     }
