@@ -1,11 +1,10 @@
 // `activate` and `deactivate`: "no or empty specifier means all modules".
 ghost use mathlib.Core.Path.{_≡_};
-ghost use mathlib.Core.Bool.{true, false};
+ghost use mathlib.Core.Bool.{false};
 ghost use mathlib.Core.Option.{none, some};
 ghost use mathlib.Core.List.{List};
 ghost use Prim.Native.Nat.{ℕ, _≤_};
 ghost use lib.ListN.{length};
-ghost use Rattle.ascii.specs.Names.{isName};
 ghost use Rattle.table.specs.Layout.{tableOf};
 ghost use Rattle.message.specs.Request as Request;
 ghost use Rattle.state.specs.Fit.{pastLast};
@@ -38,10 +37,10 @@ pub fn activate_all(
 {
     let clients = state.clients;
     let mask = clients.active[client as usize];
-    let next = with_bits(mask, module_count(table));
+    let all = with_bits(mask, module_count(table));
     let told = put_updates_of(table, values, out, state, client, Scope::All);
     let end = put_final_switched(out, told, client, Switched::Active);
-    Outcome::Active(next, end)
+    Outcome::Active(all, end)
 }
 
 pub fn activate(
@@ -60,10 +59,10 @@ pub fn activate(
     };
     let clients = state.clients;
     let mask = clients.active[client as usize];
-    let next = with_bit(mask, i);
+    let more = with_bit(mask, i);
     let told = put_updates_of(table, values, out, state, client, Scope::Module(i));
     let end = put_final_switched_name(out, told, client, Switched::Active, module);
-    Outcome::Active(next, end)
+    Outcome::Active(more, end)
 }
 
 pub fn deactivate_all(out: &mut [u8], client: u8) -> Outcome
@@ -81,7 +80,7 @@ pub fn deactivate(table: &[u8], out: &mut [u8], client: u8, mask: u16, module: &
     let FoundModule::At(i, _) = find_module(table, module) else {
         return Outcome::Refused(Class::NoSuchModule);
     };
-    let next = without_bit(mask, i);
+    let fewer = without_bit(mask, i);
     let end = put_final_switched_name(out, 0, client, Switched::Inactive, module);
-    Outcome::Active(next, end)
+    Outcome::Active(fewer, end)
 }
