@@ -88,6 +88,12 @@ parameters-count [] = omega arith
 parameters-count (parameter p ∷ l) = omega (arith, parameters-count l)
 parameters-count (command c ∷ l) = omega (arith, parameters-count l)
 
+commands-count : (l : List Accessible) → length (commandsOf l) ≤ length l
+unfolding commandsOf
+commands-count [] = omega arith
+commands-count (parameter p ∷ l) = omega (arith, commands-count l)
+commands-count (command c ∷ l) = omega (arith, commands-count l)
+
 parameters-good : (n : ℕ) (name : List ℕ) → isName name ≡ true → (l : List Accessible) → Each GoodAccessible l
     → Each (λ (a : Parameter). GoodParameter (record { home = n; moduleName = name; it = a })) (parametersOf l)
 unfolding parametersOf accessibleName initialGood
@@ -110,6 +116,7 @@ pub record Accepted (w : Table) : Type 0 where
   pub allParameters : Each GoodParameter (parameters w)
   pub allCommands : Each GoodCommand (commands w)
   pub few : length (parameters w) ≤ 64
+  pub fewCommands : length (commands w) ≤ 64
   pub short : length (report w) ≤ 32000
 
 good-module : (m : Module) → isName (m .name) ≡ true → moduleNamesGood m ≡ true → all initialGood (m .accessibles) ≡ true
@@ -156,6 +163,7 @@ accepted-tree w e =
       allParameters = placed parametersOf GoodParameter parameters-good 0 (w .modules) ms;
       allCommands = placed commandsOf GoodCommand commands-good 0 (w .modules) ms;
       few = omega (arith, placed-count parametersOf parameters-count 0 (w .modules), leb-true (accessibleCount (w .modules)) 64 (c .1));
+      fewCommands = omega (arith, placed-count commandsOf commands-count 0 (w .modules), leb-true (accessibleCount (w .modules)) 64 (c .1));
       short = ltb-false 32000 (length (report w)) h6;
     }
 

@@ -130,14 +130,14 @@ module _ (w : Table) (a : Accepted w) (n : Node) (s : Sound w n) where
     comes-inScope f g (some m) e =
         comes-found NoSuchModule (findModule w m) (λ x. f (λ i. eqb i (x .0)) (some m)) λ x q. g (λ i. eqb i (x .0)) (some m) e
 
-    comes-reads : (k : ℕ × Placed Parameter) → getElem? (parameters w) (k .0) ≡ some (k .1) → Comes w c (reads w n c t k)
+    pub comes-reads : (k : ℕ × Placed Parameter) → getElem? (parameters w) (k .0) ≡ some (k .1) → Comes w c (reads w n c t k)
     unfolding reads
     comes-reads k e =
         let v = n .values (k .0) in
         only (reply (reportOf (k .1) v)) 415
         (says-reply (reportOf (k .1) v) (fine (k .0) (k .1) e v (s .values (k .0) (k .1) e))) (omega arith)
 
-    comes-changes : (v : List ℕ) (k : ℕ × Placed Parameter) → getElem? (parameters w) (k .0) ≡ some (k .1)
+    pub comes-changes : (v : List ℕ) (k : ℕ × Placed Parameter) → getElem? (parameters w) (k .0) ≡ some (k .1)
         → Comes w c (changes w n c t v k)
     unfolding changes sets body
     comes-changes v k e =
