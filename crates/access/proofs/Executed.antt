@@ -38,7 +38,7 @@ use Rattle.access.proofs.Arguments.{declared-is}
 use Rattle.access.proofs.Orders.{form-is}
 use Rattle.access.proofs.Finding.{CommandKnown}
 
-past-module : {A : Type 0} (e : Error.Class) (o : Option A) (x : Outcome) → isSome o ≡ true → found e o (λ _. x) ≡ x
+pub past-module : {A : Type 0} (e : Error.Class) (o : Option A) (x : Outcome) → isSome o ≡ true → found e o (λ _. x) ≡ x
 unfolding found
 past-module e none x h = absurd (false≢true h)
 past-module e (some a) x h = refl
