@@ -21,13 +21,14 @@ use Rattle.search.specs.declared.cursor.NextParameter as P
 use Rattle.search.specs.Left.{Fits, InTable, FirstCursor, NextParameterIs}
 use Rattle.search.proofs.Finds.{Counted, counted-parameters, number-is, number-on}
 use Rattle.report.specs.Judge.{tableNumber}
+use Rattle.sound.proofs.Accepted.{accepted, accepted-whole}
 use Rattle.state.specs.declared.Settings.{Settings}
 use Rattle.state.specs.declared.State.{State}
 use Rattle.state.specs.View.{storedText}
 use Rattle.state.specs.Fit.{settingUnfit, settingsUnfit, isUnfit}
 use Rattle.state.specs.Becomes.{Judged}
 use Rattle.fitness.specs.Unfit.{TellsUnfit}
-use Rattle.fitness.proofs.Whole.{accepted-whole, few-modules, drop-there, past-64}
+use Rattle.fitness.proofs.Whole.{drop-there, past-64}
 
 -- ## One setting
 
@@ -117,4 +118,4 @@ module _ (table values : List ℕ) (s : State) (b : Bool) (h : b ≡ settingsUnf
   clients-make e a m i r j = rw (← h, e, ← (i (tableOf table) (accepted-whole table a))) (j .is)
 
 pub few-counted : (table : List ℕ) → tableNumber table ≡ 0 → (m : ℕ) → (InTable table λ t. m ≡ length (t .modules)) → m ≤ 16
-few-counted table a m i = let e = i (tableOf table) (accepted-whole table a) in let f = few-modules table a in omega arith
+few-counted table a m i = let e = i (tableOf table) (accepted-whole table a) in let f = accepted table a .fewModules in omega arith

@@ -80,13 +80,6 @@ module _ (table name : List ℕ) (a : tableNumber table ≡ 0) (r : F.FoundModul
             (each-at GoodModule (tableOf table .modules) (w .allModules) i (f .it) there .0);
       }
 
--- how many modules there are
-pub count-few : (table : List ℕ) → tableNumber table ≡ 0 → (k : ℕ) → InTable table (λ t. k ≡ length (t .modules)) → k ≤ 16
-count-few table a k f =
-    let e = f (tableOf table) (accepted-whole table a) in
-    let h = accepted table a .fewModules in
-    omega arith
-
 -- ## Room
 
 pub inactive-room : (d : List ℕ) (c : ℕ) (m : Option (List ℕ)) → Named m → 32768 ≤ length d → RoomFor d 0 (final c (inactive m))

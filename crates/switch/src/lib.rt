@@ -25,6 +25,8 @@ use state::bits::without_bit;
 use update::Scope;
 use update::put_updates_of;
 
+// "`activate` sends an update for each parameter of those modules, table order, then `active` or `active M`": all modules. What was active
+// before stays so.
 pub fn activate_all(
     table: &[u8],
     values: &[u8],
@@ -43,6 +45,7 @@ pub fn activate_all(
     Outcome::Active(all, end)
 }
 
+// The same for the module of a name, which has to be there.
 pub fn activate(
     table: &[u8],
     values: &[u8],
@@ -65,6 +68,7 @@ pub fn activate(
     Outcome::Active(more, end)
 }
 
+// "`deactivate` gives `inactive` or `inactive M`": no module is active then.
 pub fn deactivate_all(out: &mut [u8], client: u8) -> Outcome
     requires { ⌜ 32768 ≤ length (now out) ⌝ }
     ensures { λ r. ⌜ ((table : List ℕ) (t : ℕ) → ComesAtAny table (now (out .entry)) client t r (now (out .exit)) (Request.deactivate none)) ⌝ }
@@ -73,6 +77,7 @@ pub fn deactivate_all(out: &mut [u8], client: u8) -> Outcome
     Outcome::Active(0, end)
 }
 
+// The same for the module of a name; `mask` has the client's active modules, and the others stay active.
 pub fn deactivate(table: &[u8], out: &mut [u8], client: u8, mask: u16, module: &[u8]) -> Outcome
     requires { ⌜ Lent (now table) (now out) client × (pastLast mask (length (tableOf (now table) .modules)) ≡ false) ⌝ }
     ensures { λ r. ⌜ ((t : ℕ) → ComesWith mask (now (table .entry)) (now (out .entry)) client t r (now (out .exit)) (Request.deactivate (some (now («module» .entry))))) ⌝ }

@@ -30,7 +30,7 @@ use Rattle.report.specs.Judge.{tableNumber}
 use Rattle.plain.specs.Node as Node
 use Rattle.plain.specs.Node.{Value, updatesOf}
 use Rattle.sound.specs.Theorems.{Sound}
-use Rattle.sound.proofs.Accepted.{accepted}
+use Rattle.sound.proofs.Accepted.{accepted, accepted-whole}
 use Rattle.sound.proofs.Records.{Fine, name-short, written-of}
 use Rattle.sound.proofs.Steps.{fine}
 use Rattle.state.specs.declared.Settings.{Settings}
@@ -40,7 +40,7 @@ use Rattle.state.specs.Fit.{settingsUnfit, isUnfit}
 use Rattle.state.proofs.Flags.{neither}
 use Rattle.state.proofs.Settled.{shows-stored, each-fit, fit-parts}
 use Rattle.state.proofs.Stands.{was-read, value-held}
-use Rattle.fitness.proofs.Whole.{accepted-whole, drop-there, past-64}
+use Rattle.fitness.proofs.Whole.{drop-there, past-64}
 use Rattle.outcome.specs.Ready.{Ready}
 use Rattle.update.specs.declared.Scope.{Scope}
 use Rattle.update.specs.Scope.{wanted}

@@ -3,7 +3,8 @@ use denote.Ref.{now}
 use mathlib.Core.Bool.{true}
 use mathlib.Core.Option.{none}
 use borrow.Author.Needs.{needs}
-use Rattle.switch.proofs.Switches.{clients-sized, count-few, active-room, activated-all}
+use Rattle.fitness.proofs.Unfits.{few-counted}
+use Rattle.switch.proofs.Switches.{clients-sized, active-room, activated-all}
 use Rattle.switch.proofs.activate_all.Statement.{statement}
 use Rattle.switch.proofs.activate_all.Tie as tie
 
@@ -17,7 +18,7 @@ module-count-requires : tie.Need-module-count-requires
 module-count-requires c κs = search needs
 
 with-bits-requires : tie.Need-with-bits-requires
-with-bits-requires c κs = count-few (now (c .before .before .before .before .before .before .args .table)) (c .before .before .before .before .before .before .pre .lent .accepted) _ (c .module-count .ensures)
+with-bits-requires c κs = few-counted (now (c .before .before .before .before .before .before .args .table)) (c .before .before .before .before .before .before .pre .lent .accepted) _ (c .module-count .ensures)
 
 put-updates-of-requires : tie.Need-put-updates-of-requires
 put-updates-of-requires c κs = c .before .before .before .before .before .before .before .before .pre
