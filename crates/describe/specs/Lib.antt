@@ -1,0 +1,3 @@
+pub mod Emitted
+pub mod Texts
+pub mod Room

@@ -1,0 +1,250 @@
+// The structure report. Where the table can't be read, what is written does not matter: such a table has no report.
+use crate::info::emit_datainfo;
+use crate::write::emit;
+use crate::write::emit_comma;
+use crate::write::emit_key;
+use crate::write::emit_string;
+use ascii::Next;
+use table::layout::Accessible;
+use table::layout::CommandAt;
+use table::layout::Heading;
+use table::layout::ParameterAt;
+use table::layout::Part;
+use table::layout::Texts;
+use table::layout::accessible_at;
+use table::layout::accessible_end;
+use table::layout::heading_at;
+use table::layout::is_accessible;
+use table::layout::is_module;
+use table::layout::module_end;
+use table::layout::texts_at;
+ghost use mathlib.Core.Path.{_≡_};
+ghost use mathlib.Core.Bool.{cond};
+ghost use mathlib.Core.List.{_++_};
+ghost use mathlib.Core.Option.{none, some};
+ghost use Prim.Native.Nat.{_≤_};
+ghost use lib.ListN.{length, drop};
+ghost use Rattle.ascii.specs.Text.{bytes};
+ghost use Rattle.ascii.specs.Writer.{Puts};
+ghost use Rattle.json.specs.Json.{quoted};
+ghost use Rattle.datainfo.specs.Layout.{datainfoIn};
+ghost use Rattle.table.specs.Table.{Table, parameter, command};
+ghost use Rattle.table.specs.Layout.{argumentAt, moduleAt, wholeTable};
+ghost use Rattle.table.specs.At.{bytesOf, Inside, accessibleAt, accessiblesFrom, modulesFrom, parameterOf, commandOf};
+ghost use Rattle.report.specs.Report.{report};
+ghost use Rattle.describe.specs.Emitted.{capped, Emits, told, Says};
+ghost use Rattle.describe.specs.Texts.{readonlyText, argumentText, accessibleText, accessiblesText, noteText, moduleText, modulesText, textsText};
+ghost use Rattle.describe.specs.Room.{RoomFor};
+
+// A part of the table as a key.
+fn emit_part_key(out: &mut [u8], at: usize, s: &[u8], p: Part) -> usize
+    requires { ⌜ Inside (now s) p ⌝ }
+    ensures { λ r. ⌜ Emits (now (out .entry)) at (quoted (bytesOf (now (s .entry)) p) ++ bytes ":") (now (out .exit)) r ⌝ }
+{
+    let from = p.from;
+    let to = p.to;
+    emit_key(out, at, &s[from..to])
+}
+
+// A part of the table as a string.
+fn emit_part(out: &mut [u8], at: usize, s: &[u8], p: Part) -> usize
+    requires { ⌜ Inside (now s) p ⌝ }
+    ensures { λ r. ⌜ Emits (now (out .entry)) at (quoted (bytesOf (now (s .entry)) p)) (now (out .exit)) r ⌝ }
+{
+    let from = p.from;
+    let to = p.to;
+    emit_string(out, at, &s[from..to])
+}
+
+// The same with what stands before it.
+fn emit_text(out: &mut [u8], at: usize, label: &[u8], s: &[u8], p: Part) -> usize
+    requires { ⌜ Inside (now s) p ⌝ }
+    ensures { λ r. ⌜ Emits (now (out .entry)) at (now (label .entry) ++ quoted (bytesOf (now (s .entry)) p)) (now (out .exit)) r ⌝ }
+{
+    let a = emit(out, at, label);
+    emit_part(out, a, s, p)
+}
+
+// The name of a module or an accessible, and its description after what stands before that.
+fn emit_named(
+    out: &mut [u8],
+    at: usize,
+    label: &[u8],
+    s: &[u8],
+    name: Part,
+    description: Part,
+) -> usize
+    requires { ⌜ Inside (now s) name × Inside (now s) description ⌝ }
+    ensures { λ r. ⌜ Emits (now (out .entry)) at (quoted (bytesOf (now (s .entry)) name) ++ bytes ":" ++ (now (label .entry) ++ quoted (bytesOf (now (s .entry)) description))) (now (out .exit)) r ⌝ }
+{
+    let a = emit_part_key(out, at, s, name);
+    emit_text(out, a, label, s, description)
+}
+
+// Whether a parameter is read only, up to its datainfo.
+fn emit_readonly(out: &mut [u8], at: usize, readonly: bool) -> usize
+    ensures { λ r. ⌜ Emits (now (out .entry)) at (readonlyText readonly) (now (out .exit)) r ⌝ }
+{
+    if readonly {
+        return emit(out, at, b",\"readonly\":true,\"datainfo\":");
+    }
+    emit(out, at, b",\"readonly\":false,\"datainfo\":")
+}
+
+fn emit_parameter(out: &mut [u8], at: usize, s: &[u8], q: ParameterAt) -> usize
+    requires { ⌜ (Inside (now s) (q .name) × Inside (now s) (q .description)) × (q .info ≤ length (now s)) ⌝ }
+    ensures { λ r. ⌜ Says (told (λ d. accessibleText (parameter (parameterOf (now (s .entry)) q d))) (datainfoIn 4 (drop (q .info) (now (s .entry))))) (now (out .entry)) at (now (out .exit)) r ⌝ }
+{
+    let name = q.name;
+    let description = q.description;
+    let info = q.info;
+    let a = emit_named(out, at, b"{\"description\":", s, name, description);
+    let b = emit_readonly(out, a, q.readonly);
+    let c = emit_datainfo(out, b, s, info, 4);
+    emit(out, c, b"}")
+}
+
+// A command's argument, if it has one.
+fn emit_argument(out: &mut [u8], at: usize, s: &[u8], i: usize, has: bool) -> usize
+    requires { ⌜ i ≤ length (now s) ⌝ }
+    ensures { λ r. ⌜ Says (told argumentText (argumentAt has (drop i (now (s .entry))))) (now (out .entry)) at (now (out .exit)) r ⌝ }
+{
+    if has {
+        let a = emit(out, at, b",\"argument\":");
+        return emit_datainfo(out, a, s, i, 4);
+    }
+    at
+}
+
+fn emit_command(out: &mut [u8], at: usize, s: &[u8], q: CommandAt) -> usize
+    requires { ⌜ (Inside (now s) (q .name) × Inside (now s) (q .description)) × (q .info ≤ length (now s)) ⌝ }
+    ensures { λ r. ⌜ Says (told (λ a. accessibleText (command (commandOf (now (s .entry)) q a))) (argumentAt (q .argument) (drop (q .info) (now (s .entry))))) (now (out .entry)) at (now (out .exit)) r ⌝ }
+{
+    let name = q.name;
+    let description = q.description;
+    let info = q.info;
+    let a = emit_named(out, at, b"{\"description\":", s, name, description);
+    let b = emit(out, a, b",\"datainfo\":{\"type\":\"command\"");
+    let c = emit_argument(out, b, s, info, q.argument);
+    emit(out, c, b"}}")
+}
+
+fn emit_accessible(out: &mut [u8], at: usize, s: &[u8], i: usize) -> usize
+    requires { ⌜ i ≤ length (now s) ⌝ }
+    ensures { λ r. ⌜ Says (told accessibleText (accessibleAt (length (now (s .entry))) (drop i (now (s .entry))))) (now (out .entry)) at (now (out .exit)) r ⌝ }
+{
+    match accessible_at(s, i) {
+        Accessible::Parameter(q) => emit_parameter(out, at, s, q),
+        Accessible::Command(q) => emit_command(out, at, s, q),
+        Accessible::Bad => at,
+    }
+}
+
+// The accessibles that follow, with commas between them.
+fn emit_accessibles(out: &mut [u8], at: usize, s: &[u8], i: usize) -> usize
+    requires { ⌜ i ≤ length (now s) ⌝ }
+    ensures { λ r. ⌜ Says (told accessiblesText (accessiblesFrom (now (s .entry)) i)) (now (out .entry)) at (now (out .exit)) r ⌝ }
+{
+    let mut p = at;
+    let mut j = i;
+    let mut first = true;
+    while is_accessible(s, j) {
+        let Next::At(e) = accessible_end(s, j) else {
+            return p;
+        };
+        let c = emit_comma(out, p, first);
+        p = emit_accessible(out, c, s, j);
+        first = false;
+        j = e;
+    }
+    p
+}
+
+// A module's note, if it has one, up to its accessibles.
+fn emit_note(out: &mut [u8], at: usize, s: &[u8], noted: bool, note: Part) -> usize
+    requires { ⌜ Inside (now s) note ⌝ }
+    ensures { λ r. ⌜ Emits (now (out .entry)) at (noteText (cond noted (some (bytesOf (now (s .entry)) note)) none) ++ bytes ",\"accessibles\":{") (now (out .exit)) r ⌝ }
+{
+    if noted {
+        let a = emit_text(out, at, b",\"_note\":", s, note);
+        return emit(out, a, b",\"accessibles\":{");
+    }
+    emit(out, at, b",\"accessibles\":{")
+}
+
+fn emit_module(out: &mut [u8], at: usize, s: &[u8], i: usize) -> usize
+    requires { ⌜ i ≤ length (now s) ⌝ }
+    ensures { λ r. ⌜ Says (told moduleText (moduleAt (length (now (s .entry))) (drop i (now (s .entry))))) (now (out .entry)) at (now (out .exit)) r ⌝ }
+{
+    let Heading::Read(m) = heading_at(s, i) else {
+        return at;
+    };
+    let name = m.name;
+    let description = m.description;
+    let note = m.note;
+    let next = m.next;
+    let label = b"{\"interface_classes\":[],\"description\":";
+    let a = emit_named(out, at, label, s, name, description);
+    let b = emit_note(out, a, s, m.noted, note);
+    let c = emit_accessibles(out, b, s, next);
+    emit(out, c, b"}}")
+}
+
+// The modules that follow, with commas between them.
+fn emit_modules(out: &mut [u8], at: usize, s: &[u8], i: usize) -> usize
+    requires { ⌜ i ≤ length (now s) ⌝ }
+    ensures { λ r. ⌜ Says (told modulesText (modulesFrom (now (s .entry)) i)) (now (out .entry)) at (now (out .exit)) r ⌝ }
+{
+    let mut p = at;
+    let mut j = i;
+    let mut first = true;
+    while is_module(s, j) {
+        let Next::At(e) = module_end(s, j) else {
+            return p;
+        };
+        let c = emit_comma(out, p, first);
+        p = emit_module(out, c, s, j);
+        first = false;
+        j = e;
+    }
+    p
+}
+
+// What stands after the modules.
+fn emit_texts(out: &mut [u8], at: usize, s: &[u8], id: Part, description: Part) -> usize
+    requires { ⌜ Inside (now s) id × Inside (now s) description ⌝ }
+    ensures { λ r. ⌜ Emits (now (out .entry)) at (textsText (bytesOf (now (s .entry)) id) (bytesOf (now (s .entry)) description)) (now (out .exit)) r ⌝ }
+{
+    let a = emit_text(out, at, b"},\"equipment_id\":", s, id);
+    let b = emit_text(out, a, b",\"description\":", s, description);
+    emit(out, b, b"}")
+}
+
+// The report at a position of a lent buffer: written if it has room, and measured in any case.
+fn emit_report(out: &mut [u8], at: usize, s: &[u8]) -> usize
+    ensures { λ r. ⌜ ((t : Table) → wholeTable (now (s .entry)) ≡ some t → Emits (now (out .entry)) at (report t) (now (out .exit)) r) ⌝ }
+{
+    let Texts::At(id, description) = texts_at(s, 0, b'N', b'D') else {
+        return at;
+    };
+    let next = description.to;
+    let a = emit(out, at, b"{\"modules\":{");
+    let b = emit_modules(out, a, s, next);
+    emit_texts(out, b, s, id, description)
+}
+
+// How long the report of the table s is. What is answered about bytes that are no table is left free.
+pub fn report_length(s: &[u8]) -> usize
+    ensures { λ r. ⌜ ((t : Table) → wholeTable (now (s .entry)) ≡ some t → r ≡ capped (length (report t))) ⌝ }
+{
+    let mut nothing: [u8; 0] = [];
+    emit_report(&mut nothing, 0, s)
+}
+
+// The report of the table s, written at a position of a lent buffer that has room for it; the position after it is answered.
+pub fn put_report(out: &mut [u8], at: usize, s: &[u8]) -> usize
+    requires { ⌜ RoomFor (now s) at (now out) ⌝ }
+    ensures { λ r. ⌜ ((t : Table) → wholeTable (now (s .entry)) ≡ some t → Puts (now (out .entry)) at (report t) (now (out .exit)) r) ⌝ }
+{
+    emit_report(out, at, s)
+}
