@@ -1,11 +1,10 @@
 -- The ways out of a request to change a parameter. Assumes nothing.
 use Prim.Native.Nat.{ℕ, _≤_}
-use mathlib.Core.Path.{_≡_, refl, sym, ap, subst, _∙_}
-use mathlib.Core.Bool.{Bool, true, false, not, cond}
-use mathlib.Core.List.{List, [], _∷_, _++_}
-use mathlib.Core.Option.{Option, none, some}
-use lib.ListN.{length, drop}
-use borrow.Author.Tests.{not-true, not-false}
+use mathlib.Core.Path.{_≡_, refl, sym, subst, _∙_}
+use mathlib.Core.Bool.{true, false, cond}
+use mathlib.Core.List.{List, _∷_}
+use mathlib.Core.Option.{none}
+use lib.ListN.{drop}
 use Rattle.ascii.specs.Bytes.{isSome}
 use Rattle.ascii.specs.Numbers.{latest}
 use Rattle.datainfo.specs.Layout.{datainfoAt}
@@ -23,11 +22,10 @@ use Rattle.message.specs.Reply.{changed}
 use Rattle.message.specs.Said.{classOf, reportOf}
 use Rattle.message.specs.declared.say.Class.{Class}
 use Rattle.message.specs.declared.say.Class.the-variants as K
-use Rattle.outbox.specs.Outbox.{Record, orderChange}
-use Rattle.plain.specs.Node as Node
-use Rattle.plain.specs.Node.{clientNumbers, updatesTo, withValue}
+use Rattle.outbox.specs.Outbox.{orderChange}
+use Rattle.plain.specs.Node.{clientNumbers, updatesTo}
 use Rattle.plain.specs.Answer as Plain
-use Rattle.plain.specs.Answer.{refused, carried, found, letIn, sets, changes, outcome}
+use Rattle.plain.specs.Answer.{refused, found, letIn, sets, changes, outcome}
 use Rattle.sound.proofs.Values.{stored}
 use Rattle.state.specs.declared.State.{State}
 use Rattle.state.specs.View.{clientAt, view}
@@ -35,7 +33,7 @@ use Rattle.outcome.specs.Ready.{Ready}
 use Rattle.outcome.specs.Area.{withSetting}
 use Rattle.outcome.specs.Outcome.{Comes}
 use Rattle.outcome.specs.declared.Outcome.{Outcome}
-use Rattle.outcome.specs.declared.Outcome.the-variants.{Refused, Stored}
+use Rattle.outcome.specs.declared.Outcome.the-variants.{Refused}
 use Rattle.access.specs.Set.{setRecords, Settable, Accepts, IsSet}
 use Rattle.access.proofs.Finding.{ParameterKnown}
 use Rattle.access.proofs.Executed.{past-module}

@@ -1,39 +1,35 @@
 -- The ways out of a command's request. Assumes nothing.
 use Prim.Native.Nat.{ℕ, _≤_}
-use mathlib.Core.Path.{_≡_, refl, sym, ap, _∙_}
-use mathlib.Core.Bool.{Bool, true, false, false≢true}
-use mathlib.Core.List.{List, [], _∷_, _++_}
+use mathlib.Core.Path.{_≡_, refl, _∙_}
+use mathlib.Core.Bool.{true, false, false≢true}
+use mathlib.Core.List.{List, [], _∷_}
 use mathlib.Core.Option.{Option, none, some}
-use lib.ListN.{length, drop}
+use lib.ListN.{drop}
 use Rattle.ascii.specs.Bytes.{isSome}
 use Rattle.ascii.specs.Text.{bytes}
 use Rattle.ascii.specs.Numbers.{latest}
 use Rattle.ascii.specs.Writer.{Puts}
-use Rattle.datainfo.specs.Datainfo.{Datainfo}
-use Rattle.fit.specs.Fit as Fit
 use Rattle.fit.specs.Fit.{isFit, severity}
 use Rattle.fit.specs.Verdict.{meaning}
 use Rattle.fit.specs.declared.Verdict.{Verdict}
-use Rattle.fit.specs.declared.Verdict.the-variants.{Fits, RangeError, WrongType, BadJson}
-use Rattle.table.specs.Table.{Table, Module, Command}
+use Rattle.fit.specs.declared.Verdict.the-variants.{Fits}
 use Rattle.table.specs.Layout.{argumentAt, tableOf}
-use Rattle.table.specs.Search.{Placed, findModule, findCommand}
+use Rattle.table.specs.Search.{findModule, findCommand}
 use Rattle.table.specs.declared.layout.CommandAt.{CommandAt}
-use Rattle.table.proofs.Accessibles.{in-some}
 use Rattle.message.specs.Error as Error
 use Rattle.message.specs.Request.{execute}
 use Rattle.message.specs.Reply.{done}
 use Rattle.message.specs.Said.{classOf, reportOf}
 use Rattle.message.specs.declared.say.Class.{Class}
 use Rattle.message.specs.declared.say.Class.the-variants as K
-use Rattle.outbox.specs.Outbox.{Record, final, orderCommand, encodeAll}
+use Rattle.outbox.specs.Outbox.{orderCommand, encodeAll}
 use Rattle.plain.specs.Node.{Node}
-use Rattle.plain.specs.Answer.{Outcome, refused, carried, found, letIn, argumentVerdict, argumentForm, does, outcome}
+use Rattle.plain.specs.Answer.{Outcome, refused, carried, found, letIn, argumentVerdict, does, outcome}
 use Rattle.outcome.specs.Ready.{Lent}
 use Rattle.outcome.specs.Area.{withSetting}
 use Rattle.outcome.specs.Outcome.{ComesAtAny}
 use Rattle.outcome.specs.declared.Outcome.the-variants.{Refused, Sent}
-use Rattle.access.specs.Argument.{JudgesArgument, LetIn, formOf, Ordered, Reported, orderRecords}
+use Rattle.access.specs.Argument.{JudgesArgument, formOf, Ordered, Reported, orderRecords}
 use Rattle.access.proofs.Arguments.{declared-is}
 use Rattle.access.proofs.Orders.{form-is}
 use Rattle.access.proofs.Finding.{CommandKnown}

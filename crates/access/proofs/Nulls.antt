@@ -11,7 +11,7 @@ use Rattle.ascii.specs.Bytes.{_>>=_, isSome, head, tail, after}
 use Rattle.ascii.specs.Reader.{ByteAt, Left}
 use Rattle.ascii.specs.Text.{bytes}
 use Rattle.decimal.specs.Token as Token
-use Rattle.json.specs.Json.{Json, null, boolean, number, string, array, object, Items, Members, no-items, no-members, skip, upTo, inside, giving, stringEnd, scalar, spaced, items, arrayEnd, members, objectEnd, bare, value, text}
+use Rattle.json.specs.Json.{Json, null, number, array, object, Items, Members, no-items, no-members, skip, giving, stringEnd, scalar, spaced, items, arrayEnd, members, objectEnd, bare, value, text}
 use Rattle.fit.specs.Fit.{Verdict, fits, wrongType, badJSON}
 use Rattle.plain.specs.Answer.{nullVerdict, argumentVerdict}
 

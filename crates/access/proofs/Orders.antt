@@ -1,10 +1,10 @@
 -- The order to carry out a command, and the reply after it: what is written, and that it has room. Assumes nothing.
-use Prim.Native.Nat.{ℕ, _+_, _-_, _≤_, _<_}
+use Prim.Native.Nat.{ℕ, _+_, _-_, _≤_}
 use native.Mathlib.Nat.{add-zero, zero-add}
 use native.Mathlib.Omega.{arith}
-use mathlib.Core.Path.{_≡_, refl, sym, ap, subst, _∙_}
+use mathlib.Core.Path.{_≡_, refl, ap, subst, _∙_}
 use mathlib.Core.Bool.{Bool, true, false, not, false≢true}
-use mathlib.Core.List.{List, [], _∷_, _++_, append-nil}
+use mathlib.Core.List.{List, [], _∷_, append-nil}
 use mathlib.Core.Option.{Option, none, some}
 use lib.ListN.{length, take, drop, length-append}
 use lib.Seq.{sets}
@@ -16,8 +16,8 @@ use Rattle.ascii.specs.Writer.{Puts}
 use Rattle.json.specs.Json.{Json, text, compact}
 use Rattle.json.specs.Compacted.{Compacted}
 use Rattle.datainfo.specs.Datainfo.{Datainfo}
-use Rattle.fit.specs.Fit.{badJSON, severity, verdictOf, verdict, storedOf, storedForm, isFit}
-use Rattle.message.specs.Reply.{Report, done}
+use Rattle.fit.specs.Fit.{severity, verdictOf, verdict, storedOf, storedForm, isFit}
+use Rattle.message.specs.Reply.{done}
 use Rattle.message.specs.Said.{reportOf}
 use Rattle.outbox.specs.Outbox.{Record, final, orderCommand, mark, body, encode, encodeAll}
 use Rattle.outbox.specs.Written.{RoomFor}

@@ -1,7 +1,7 @@
 -- A parameter is set: what is written and where, and that it has room. Assumes nothing.
 use Prim.Native.Nat.{ℕ, _+_, _*_, _-_, _≤_, _<_}
 use native.Mathlib.Omega.{arith}
-use mathlib.Core.Path.{_≡_, refl, sym, ap, subst, _∙_}
+use mathlib.Core.Path.{_≡_, ap}
 use mathlib.Core.List.{List, [], _∷_, _++_}
 use lib.ListN.{length, take, drop}
 use Rattle.ascii.specs.Writer.{Puts}
@@ -18,7 +18,6 @@ use Rattle.sound.proofs.Records.{Fine, Written, name-short, says-changed, writt
 use Rattle.sound.proofs.Room.{room-after, puts-after, puts-none}
 use Rattle.state.specs.declared.Clients.{Clients}
 use Rattle.state.specs.View.{clientAt, withStored}
-use Rattle.outcome.specs.declared.Outcome.{Outcome}
 use Rattle.outcome.specs.declared.Outcome.the-variants.{Stored}
 use Rattle.access.specs.Set.{setRecords, Settable, Accepts, IsSet}
 use Rattle.access.proofs.Orders.{put-stored, stands}

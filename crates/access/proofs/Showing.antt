@@ -1,12 +1,11 @@
 -- A parameter's value is reported as it is shown. Assumes nothing.
-use Prim.Native.Nat.{ℕ, _+_, _*_, _-_, _≤_}
+use Prim.Native.Nat.{ℕ, _+_, _*_, _-_}
 use native.Mathlib.Omega.{arith}
-use mathlib.Core.Path.{_≡_, refl, sym, ap, subst, _∙_}
-use mathlib.Core.Bool.{cond, true, false}
-use mathlib.Core.List.{List, [], _∷_, _++_}
-use mathlib.Core.Option.{none, some}
-use lib.Dec.{eqb}
-use lib.ListN.{length, getD, take, drop, getElem?}
+use mathlib.Core.Path.{_≡_, refl, ap, _∙_}
+use mathlib.Core.Bool.{true, false}
+use mathlib.Core.List.{List, []}
+use mathlib.Core.Option.{none}
+use lib.ListN.{length, getD, take, drop}
 use Rattle.ascii.specs.Bytes.{isSome}
 use Rattle.ascii.specs.Writer.{Puts}
 use Rattle.message.specs.Error as Error
@@ -14,15 +13,13 @@ use Rattle.message.specs.Request.{read}
 use Rattle.message.specs.Reply.{Report, reply}
 use Rattle.message.specs.Said.{reportOf}
 use Rattle.message.specs.declared.say.Class.the-variants as K
-use Rattle.outbox.specs.Outbox.{Record, final, encode, encodeAll}
+use Rattle.outbox.specs.Outbox.{Record, final, encode}
 use Rattle.outbox.specs.Written.{RoomFor}
 use Rattle.table.specs.declared.layout.Part.{Part}
 use Rattle.table.specs.declared.layout.ParameterAt.{ParameterAt}
-use Rattle.table.specs.At.{bytesOf}
 use Rattle.table.specs.Layout.{tableOf}
 use Rattle.table.specs.Search.{parameters, findModule, findParameter}
 use Rattle.plain.specs.Node as Node
-use Rattle.plain.specs.Node.{Value}
 use Rattle.plain.specs.Answer.{found, reads, outcome}
 use Rattle.sound.specs.Theorems.{Sound}
 use Rattle.sound.proofs.Accepted.{accepted}

@@ -1,5 +1,6 @@
 // `read`, `change` and `do`: what is asked of one accessible of a module.
 mod command;
+mod setting;
 
 ghost use Prim.Native.Nat.{ℕ, _≤_};
 ghost use Rattle.ascii.specs.Numbers.{latest};
@@ -11,7 +12,9 @@ ghost use Rattle.outcome.specs.Outcome.{Comes, ComesAtAny};
 ghost use Rattle.access.specs.Shown.{Shows, shownReply};
 use crate::command::argument_verdict;
 use crate::command::order;
+use crate::setting::set;
 use fit::Verdict;
+use fit::fit::verdict;
 use message::say::Class;
 use outbox::write::Told;
 use outbox::write::put_final_report;
@@ -88,6 +91,50 @@ pub fn read(
         name,
     );
     Outcome::Sent(end)
+}
+
+pub fn change(
+    table: &[u8],
+    values: &mut [u8],
+    out: &mut [u8],
+    state: State,
+    client: u8,
+    time: u64,
+    module: &[u8],
+    name: &[u8],
+    text: &[u8],
+) -> Outcome
+    requires { ⌜ Ready (now table) state (now values) (now out) client × (time ≤ latest) ⌝ }
+    ensures { λ r. ⌜ Comes (now (table .entry)) state (now (values .entry)) (now (out .entry)) client time r (now (values .exit)) (now (out .exit)) (Request.change (now («module» .entry)) (now (name .entry)) (now (text .entry))) ⌝ }
+{
+    let FoundModule::At(_, _) = find_module(table, module) else {
+        return Outcome::Refused(Class::NoSuchModule);
+    };
+    let FoundParameter::At(k, home, p) = find_parameter(table, module, name) else {
+        return Outcome::Refused(Class::NoSuchParameter);
+    };
+    if p.readonly {
+        return Outcome::Refused(Class::ReadOnly);
+    }
+    let clients = state.clients;
+    let info = p.info;
+    match verdict(table, info, text) {
+        Verdict::Fits => set(
+            values,
+            out,
+            clients,
+            client,
+            time,
+            k,
+            home,
+            module,
+            name,
+            text,
+        ),
+        Verdict::RangeError => Outcome::Refused(Class::RangeError),
+        Verdict::WrongType => Outcome::Refused(Class::WrongType),
+        Verdict::BadJson => Outcome::Refused(Class::BadJSON),
+    }
 }
 
 pub fn execute(

@@ -1,61 +1,45 @@
+-- `access::execute` meets its contract. Assumes nothing.
 use Rattle.message.specs.declared.say.Class.the-variants as K
 use Rattle.plain.specs.Answer.{letIn}
 use mathlib.Core.Path.{refl}
-use denote.Ref.{now}
 use borrow.Author.Needs.{needs}
 use Rattle.access.proofs.Finding.{no-module, has-module, no-command, command-known}
 use Rattle.access.proofs.Executed.{execute-no-module, execute-no-command, execute-refused, execute-ordered, execute-sent}
 use Rattle.access.proofs.execute.Statement.{statement}
 use Rattle.access.proofs.execute.Tie as tie
-use Rattle.access.proofs.execute.Reads as reads
-use Rattle.access.proofs.execute.Lts as lts
-use Rattle.access.proofs.command.argument_verdict.Reads as argument-verdict-reads
-use Rattle.access.proofs.command.order.Reads as order-reads
-use Rattle.search.proofs.find.find_command.Reads as find-command-reads
-use Rattle.search.proofs.find.find_module.Reads as find-module-reads
 
--- src/lib.rt:31:33
 find-module-requires : tie.Need-find-module-requires
 find-module-requires c κs = search needs
 
 enum-told : tie.Need-enum-told
 enum-told c = search needs
 
--- src/lib.rt:32:33
 enum-told-2 : tie.Need-enum-told-2
 enum-told-2 c = search needs
 
--- src/lib.rt:32:9
 returns : tie.Need-returns
 returns c = execute-no-module _ _ _ _ _ _ _ (search no-module)
 
--- src/lib.rt:34:37
 find-command-requires : tie.Need-find-command-requires
 find-command-requires c κs = search needs
 
--- src/lib.rt:34:26
 enum-known-k : tie.Need-enum-known-k
 enum-known-k c = search needs
 
--- src/lib.rt:35:33
 enum-told-3 : tie.Need-enum-told-3
 enum-told-3 c = search needs
 
--- src/lib.rt:35:9
 returns-2 : tie.Need-returns-2
 returns-2 c = execute-no-command _ _ _ _ _ _ _ (search has-module) (search no-command)
 
--- src/lib.rt:39:11
 argument-verdict-requires : tie.Need-argument-verdict-requires
 argument-verdict-requires c κs =
     command-known _ (c .before .before .before .before .before .before .before .before .before .before .before .before .pre .0 .accepted) _ _ _
     (c .before .before .before .find-command .ensures) _ _ _ (c .before .k .given .1) .within
 
--- src/lib.rt:40:46
 enum-told-4 : tie.Need-enum-told-4
 enum-told-4 c = search needs
 
--- src/lib.rt:40:40
 order-requires : tie.Need-order-requires
 order-requires c κs =
     let known = command-known _ (c .before .before .before .before .before .before .before .before .before .before .before .before .before .before .before .before .pre .0 .accepted) _ _ _
@@ -64,23 +48,18 @@ order-requires c κs =
     (c .before .before .before .before .before .before .before .before .enum-told .given .1)) _ _ known _ (c .before .before .before .argument-verdict .ensures) (c .before .enum-told4 .given .1)
     (c .before .before .before .before .before .before .before .before .before .before .before .before .before .before .before .before .pre .0) (c .before .before .before .before .before .before .before .before .before .before .before .before .before .before .before .before .pre .1)
 
--- src/lib.rt:41:49
 enum-told-5 : tie.Need-enum-told-5
 enum-told-5 c = search needs
 
--- src/lib.rt:42:48
 enum-told-6 : tie.Need-enum-told-6
 enum-told-6 c = search needs
 
--- src/lib.rt:43:46
 enum-told-7 : tie.Need-enum-told-7
 enum-told-7 c = search needs
 
--- src/lib.rt:19:1
 same-length : tie.Need-same-length
 same-length c = search needs
 
--- src/lib.rt:19:1
 returns-3 : tie.Need-returns-3
 returns-3 c =
     let known = command-known _ (c .before .before .before .before .before .before .before .before .before .before .before .before .before .before .before .before .before .before .before .pre .0 .accepted) _ _ _
@@ -89,7 +68,6 @@ returns-3 c =
     (c .before .before .before .before .before .before .before .before .before .before .before .enum-told .given .1)) _ _ known _ (c .before .before .before .before .before .before .argument-verdict .ensures) (c .before .before .before .before .enum-told4 .given .1)
     _ _ (c .before .before .order .ensures)
 
--- src/lib.rt:19:1
 returns-4 : tie.Need-returns-4
 unfolding letIn
 returns-4 c =
@@ -98,7 +76,6 @@ returns-4 c =
     execute-refused _ _ _ _ _ _ _ (has-module _ (c .before .before .before .before .before .before .before .before .before .before .before .before .before .before .before .pre .0 .accepted) _ _ (c .before .before .before .before .before .before .before .before .before .find-module .ensures) _ _
     (c .before .before .before .before .before .before .before .enum-told .given .1)) _ _ known _ (c .before .before .argument-verdict .ensures) _ (c .enum-told5 .given .1) K.RangeError λ o. refl
 
--- src/lib.rt:19:1
 returns-5 : tie.Need-returns-5
 unfolding letIn
 returns-5 c =
@@ -107,7 +84,6 @@ returns-5 c =
     execute-refused _ _ _ _ _ _ _ (has-module _ (c .before .before .before .before .before .before .before .before .before .before .before .before .before .before .before .pre .0 .accepted) _ _ (c .before .before .before .before .before .before .before .before .before .find-module .ensures) _ _
     (c .before .before .before .before .before .before .before .enum-told .given .1)) _ _ known _ (c .before .before .argument-verdict .ensures) _ (c .enum-told6 .given .1) K.WrongType λ o. refl
 
--- src/lib.rt:19:1
 returns-6 : tie.Need-returns-6
 unfolding letIn
 returns-6 c =

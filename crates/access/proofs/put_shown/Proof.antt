@@ -1,84 +1,63 @@
+-- `access::put_shown` meets its contract. Assumes nothing.
 use Rattle.access.proofs.Showing.{initial-room, initial-put, stored-room, stored-put}
 use borrow.Author.Needs.{needs}
 use Rattle.access.proofs.put_shown.Statement.{statement}
 use Rattle.access.proofs.put_shown.Tie as tie
-use Rattle.access.proofs.put_shown.Reads as reads
-use Rattle.access.proofs.put_shown.Lts as lts
-use Rattle.outbox.proofs.write.put_final_report.Reads as put-final-report-reads
 
--- src/lib.rt:45:16
 mul-size : tie.Need-mul-size
 mul-size c = search needs
 
--- src/lib.rt:45:16
 element-copy-out-size : tie.Need-element-copy-out-size
 element-copy-out-size c = search needs
 
--- src/lib.rt:45:16
 cast-size : tie.Need-cast-size
 cast-size c = search needs
 
--- src/lib.rt:46:16
 mul-time : tie.Need-mul-time
 mul-time c = search needs
 
--- src/lib.rt:46:16
 element-copy-out-time : tie.Need-element-copy-out-time
 element-copy-out-time c = search needs
 
--- src/lib.rt:50:21
 sub-value : tie.Need-sub-value
 sub-value c = search needs
 
--- src/lib.rt:50:21
 part-value-start : tie.Need-part-value-start
 part-value-start c = search needs
 
--- src/lib.rt:50:21
 part-value-end : tie.Need-part-value-end
 part-value-end c = search needs
 
--- src/lib.rt:51:9
 put-final-report-requires : tie.Need-put-final-report-requires
 put-final-report-requires c κs = search initial-room
 
--- src/lib.rt:51:9
 same-length : tie.Need-same-length
 same-length c = search needs
 
--- src/lib.rt:51:9
 returns : tie.Need-returns
 returns c = search initial-put
 
--- src/lib.rt:53:17
 mul-first : tie.Need-mul-first
 mul-first c = search needs
 
--- src/lib.rt:54:16
 add-last : tie.Need-add-last
 add-last c = search needs
 
--- src/lib.rt:55:17
 sub-value-2 : tie.Need-sub-value-2
 sub-value-2 c = search needs
 
--- src/lib.rt:55:17
 part-value-start-2 : tie.Need-part-value-start-2
 part-value-start-2 c = search needs
 
--- src/lib.rt:55:17
 part-value-end-2 : tie.Need-part-value-end-2
 part-value-end-2 c = search needs
 
--- src/lib.rt:56:5
 put-final-report-requires-2 : tie.Need-put-final-report-requires-2
 put-final-report-requires-2 c κs = search stored-room
 
--- src/lib.rt:31:1
 same-length-2 : tie.Need-same-length-2
 same-length-2 c = search needs
 
--- src/lib.rt:31:1
 returns-2 : tie.Need-returns-2
 returns-2 c = search stored-put
 

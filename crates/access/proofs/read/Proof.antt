@@ -1,46 +1,34 @@
+-- `access::read` meets its contract. Assumes nothing.
 use Rattle.access.proofs.Finding.{no-module, has-module, no-parameter, parameter-known}
 use Rattle.access.proofs.Showing.{read-no-module, read-no-parameter, read-shows, read-sent}
 use borrow.Author.Needs.{needs}
 use Rattle.access.proofs.read.Statement.{statement}
 use Rattle.access.proofs.read.Tie as tie
-use Rattle.access.proofs.read.Reads as reads
-use Rattle.access.proofs.read.Lts as lts
-use Rattle.access.proofs.put_shown.Reads as put-shown-reads
-use Rattle.search.proofs.find.find_module.Reads as find-module-reads
-use Rattle.search.proofs.find.find_parameter.Reads as find-parameter-reads
 
--- src/lib.rt:71:33
 find-module-requires : tie.Need-find-module-requires
 find-module-requires c κs = search needs
 
 enum-told : tie.Need-enum-told
 enum-told c = search needs
 
--- src/lib.rt:72:33
 enum-told-2 : tie.Need-enum-told-2
 enum-told-2 c = search needs
 
--- src/lib.rt:72:9
 returns : tie.Need-returns
 returns c = λ t. read-no-module _ _ _ _ _ t _ _ (search no-module)
 
--- src/lib.rt:74:39
 find-parameter-requires : tie.Need-find-parameter-requires
 find-parameter-requires c κs = search needs
 
--- src/lib.rt:74:28
 enum-known-k : tie.Need-enum-known-k
 enum-known-k c = search needs
 
--- src/lib.rt:75:33
 enum-told-3 : tie.Need-enum-told-3
 enum-told-3 c = search needs
 
--- src/lib.rt:75:9
 returns-2 : tie.Need-returns-2
 returns-2 c = λ t. read-no-parameter _ _ _ _ _ t _ _ (search has-module) (search no-parameter)
 
--- src/lib.rt:79:9
 put-shown-requires : tie.Need-put-shown-requires
 put-shown-requires c κs =
     let start = c .before .before .before .before .before .before .before .before .before .before .before .before .before .before .before in
@@ -48,11 +36,9 @@ put-shown-requires c κs =
     (c .before .before .before .before .before .before .find-parameter .ensures) _ _ _ (c .before .before .before .before .k .given .1) in
     read-shows _ (start .args .state) _ _ _ (start .pre) _ _ _ _ _ known
 
--- src/lib.rt:59:1
 same-length : tie.Need-same-length
 same-length c = search needs
 
--- src/lib.rt:59:1
 returns-3 : tie.Need-returns-3
 returns-3 c =
     let start = c .before .before .before .before .before .before .before .before .before .before .before .before .before .before .before .before .before .before in
