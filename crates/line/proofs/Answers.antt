@@ -7,19 +7,26 @@ use mathlib.Core.List.{List, [], _∷_, _++_, append-nil}
 use mathlib.Core.Option.{some}
 use lib.ListN.{length, getElem?}
 use Rattle.ascii.specs.Numbers.{latest}
-use Rattle.ascii.specs.Bytes.{any}
+use Rattle.ascii.specs.Bytes.{any, takeWhile, dropWhile, tail, same}
 use Rattle.ascii.specs.Writer.{Puts}
-use Rattle.message.specs.Line.{Parts}
+use Rattle.ascii.specs.Text.{bytes}
+use Rattle.message.specs.Line.{Parts, whole, content, beforeSpace, afterSpace, partsOf}
+use Rattle.message.specs.Request.{request}
+use Rattle.message.specs.Parsed.{part, Parted, meaning, Asks}
 use Rattle.message.specs.Said.{classOf}
 use Rattle.message.specs.Reply.{error}
 use Rattle.message.specs.declared.say.Class.{Class}
+use Rattle.message.specs.declared.say.Class.the-variants.{ProtocolError}
+use Rattle.message.specs.declared.line.Part.{Part}
+use Rattle.message.specs.declared.line.Request.{Request}
+use Rattle.message.proofs.Requests.{requested}
 use Rattle.table.specs.Table.{Table}
 use Rattle.table.specs.Layout.{tableOf}
 use Rattle.table.specs.Search.{parameters}
 use Rattle.outbox.specs.Outbox.{Record, final, encode, encodeAll}
 use Rattle.plain.specs.Node.{Node, clientNumbers}
 use Rattle.plain.specs.Answer as Plain
-use Rattle.plain.specs.Answer.{refused, carried, conclude}
+use Rattle.plain.specs.Answer.{refused, carried, outcome, conclude, answerParts}
 use Rattle.sound.proofs.Accepted.{accepted}
 use Rattle.sound.proofs.Values.{short-stored}
 use Rattle.state.specs.declared.Clients.{Clients}
@@ -30,15 +37,16 @@ use Rattle.state.specs.Fit.{settingsUnfit, clientUnfit, isUnfit}
 use Rattle.state.proofs.Flags.{neither, nor}
 use Rattle.state.proofs.Kept.{still-fit}
 use Rattle.state.proofs.Settled as Settled
-use Rattle.state.proofs.Settled.{stored-fit}
+use Rattle.state.proofs.Settled.{some-stored, stored-fit}
+use Rattle.state.proofs.Views.{placed, client-view, value-view}
 use Rattle.outcome.specs.Area.{withSetting}
-use Rattle.outcome.specs.Outcome.{Carries, Refuses, Sends, Activates, Stores, OutcomeIs, Answers}
+use Rattle.outcome.specs.Outcome.{Carries, Refuses, Sends, Activates, Stores, OutcomeIs, Comes, Answers}
 use Rattle.outcome.specs.Ready.{Lent, Ready}
 use Rattle.outcome.specs.declared.Outcome.{Outcome}
 use Rattle.outcome.specs.declared.Outcome.the-variants.{Refused, Sent, Active, Stored}
 use Rattle.outcome.specs.declared.Answered.{Answered}
-use Rattle.line.specs.Concluded.{Denies, Keeps, Passes, Switches, Sets, Concludes}
-use Rattle.line.proofs.Standing.{some-stored, placed, client-view, value-view}
+use Rattle.line.specs.Concluded.{Concludable, Denies, Keeps, Passes, Switches, Sets, Concludes}
+use Rattle.line.proofs.Carried.{part-short, error-room}
 
 -- one record, written at the front
 encoded-one : (r : Record) → encode r ≡ encodeAll (r ∷ [])
@@ -53,7 +61,7 @@ parts-view table values r a b = ap₂ (λ (f : Clients) (g : Settings). view tab
 
 -- ## On an accepted table, handed a fit state of which client c is open
 
-module _ (table : List ℕ) (s : State) (values before : List ℕ) (c t : ℕ) (given : Ready table s values before c) (p : Parts) where
+module _ (table : List ℕ) (s : State) (values before : List ℕ) (c t : ℕ) (given : Ready table s values before c) where
   abbrev w : Table
   w = tableOf table
 
@@ -69,12 +77,12 @@ module _ (table : List ℕ) (s : State) (values before : List ℕ) (c t : ℕ) (
   clients-fit = neither (settingsUnfit (s .settings) values 0 (parameters w)) _ (given .fit) .1
 
   -- an error: the state, the values area and what stood in the outbox before stay
-  pub error-answered :
-      (after : List ℕ) (r : Answered) (e : Class) → r .state ≡ s
+  error-answered :
+      (p : Parts) (after : List ℕ) (r : Answered) (e : Class) → r .state ≡ s
       → Puts before 0 (encode (final c (error (p .action) (p .specifier) (classOf e)))) after (r .written)
       → Answers table values before r values after (conclude w n c t p (refused (classOf e)))
   unfolding conclude withSetting
-  error-answered after r e same puts =
+  error-answered p after r e same puts =
       record {
         node = rw same;
         fit = rw same (given .fit);
@@ -82,7 +90,7 @@ module _ (table : List ℕ) (s : State) (values before : List ℕ) (c t : ℕ) (
         area = refl;
       }
 
-  module _ (mid stored : List ℕ) (o : Plain.Outcome) (after : List ℕ) (r : Answered) where
+  module _ (p : Parts) (mid stored : List ℕ) (o : Plain.Outcome) (after : List ℕ) (r : Answered) where
     -- what was carried out: its records were written before
     carried-answered :
         (next : Node) (written : ℕ) → Carries w n c t before mid values stored o next written → Keeps mid after s c t r written
@@ -102,7 +110,7 @@ module _ (table : List ℕ) (s : State) (values before : List ℕ) (c t : ℕ) (
         → Answers table values before r stored after (conclude w n c t p o)
     refused-answered e x k =
         rw (x .is, x .area)
-        (error-answered after r e (k .state) (subst (λ (l : List ℕ). Puts l 0 (encode (final c (error (p .action) (p .specifier) (classOf e)))) after (r .written)) (x .quiet) (k .puts)))
+        (error-answered p after r e (k .state) (subst (λ (l : List ℕ). Puts l 0 (encode (final c (error (p .action) (p .specifier) (classOf e)))) after (r .written)) (x .quiet) (k .puts)))
 
     sent-answered : (written : ℕ) → Sends w n c t before mid values stored o written → Passes mid after s c t r written
         → Answers table values before r stored after (conclude w n c t p o)
@@ -134,10 +142,44 @@ module _ (table : List ℕ) (s : State) (values before : List ℕ) (c t : ℕ) (
         (rw (x .area, settings, y .clients)
         (nor (stored-fit (s .settings) z values (given .area) k low (x .text) long short t (parameters w) settings-fit (x .parameter) (x .there) (x .fits) h) clients-fit))
 
-    pub answered : Settled.Sized (s .settings) → t ≤ latest
+    answered : Settled.Sized (s .settings) → t ≤ latest
         → (came : Outcome) → OutcomeIs w n c t before mid values stored came o → Concludes mid after s c t r (p .action) (p .specifier) came
         → Answers table values before r stored after (conclude w n c t p o)
     answered z h (Refused e) x k = refused-answered e x k
     answered z h (Sent written) x k = sent-answered written x k
     answered z h (Active mask written) x k = active-answered mask written x k
     answered z h (Stored k size written) x y = stored-answered z h k size written x y
+
+  -- ## A whole line
+
+  -- a line without content
+  pub bad-answered :
+      (xs : List ℕ) → content (whole xs) ≡ [] → (after : List ℕ) (r : Answered) → r .state ≡ s
+      → Puts before 0 (encode (final c (error [] [] (classOf ProtocolError)))) after (r .written)
+      → Answers table values before r values after (answerParts w n c t (partsOf (content (whole xs))))
+  unfolding answerParts partsOf beforeSpace afterSpace takeWhile dropWhile tail request same bytes outcome
+  bad-answered xs e after r same puts = rw e (error-answered (record { action = []; specifier = []; payload = [] }) after r ProtocolError same puts)
+
+  module _ (xs : List ℕ) (short : length xs ≤ 1024) (a p d : Part) (h : Parted xs a p d) where
+    -- room for an error; a parameter's number and a stored length
+    pub concludable :
+        (mid stored : List ℕ) (o : Plain.Outcome) (came : Outcome) → OutcomeIs w n c t before mid values stored came o
+        → Concludable mid c (part xs a) (part xs p) came
+    concludable mid stored o (Refused e) x =
+        rw (x .quiet) (error-room before c (given .lent .room) (part xs a) (part xs p) (classOf e) (part-short xs a (h .action-in) short) (part-short xs p (h .specifier-in) short))
+    concludable mid stored o (Sent written) x = tt
+    concludable mid stored o (Active mask written) x = tt
+    concludable mid stored o (Stored k size written) x =
+        (omega (arith, placed (parameters w) k (x .parameter) (x .there), accepted table (given .lent .accepted) .few), rw (x .long) (short-stored (x .parameter .it .datainfo) (x .text) (x .fits)))
+
+    pub line-answered :
+        (asked : Request) → Asks xs a p asked → Settled.Sized (s .settings) → t ≤ latest
+        → (mid stored after : List ℕ) (came : Outcome) (r : Answered)
+        → Comes table s values before c t came stored mid (meaning xs (part xs p) (part xs d) asked)
+        → Concludes mid after s c t r (part xs a) (part xs p) came
+        → Answers table values before r stored after (answerParts w n c t (partsOf (content (whole xs))))
+    unfolding answerParts
+    line-answered asked k z l mid stored after came r x y =
+        answered (partsOf (content (whole xs))) mid stored (outcome w n c t (request (partsOf (content (whole xs))))) after r z l came
+        (rw (requested xs a p d asked h k) at x)
+        (rw (h .action-is, h .specifier-is) at y)

@@ -1,3 +1,4 @@
 pub mod Conclusions
-pub mod Standing
+pub mod Carried
+pub mod Described
 pub mod Answers
