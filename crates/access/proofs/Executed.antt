@@ -91,9 +91,13 @@ module _ (s out : List ℕ) (c t : ℕ) (m a xs : List ℕ) where
       unfolding letIn orderRecords withSetting
       execute-sent z after written p n values =
           record {
-            records = orderCommand c k (formOf (q .argument) xs) ∷ [];
-            reply = done (reportOf m a (bytes "null") t);
-            is = let-in n ∙ rw z;
-            puts = p;
-            area = refl;
+            carries =
+                record {
+                  records = orderCommand c k (formOf (q .argument) xs) ∷ [];
+                  reply = done (reportOf m a (bytes "null") t);
+                  is = let-in n ∙ rw z;
+                  puts = p;
+                  area = refl;
+                };
+            unstored = refl;
           }

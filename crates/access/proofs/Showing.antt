@@ -128,9 +128,13 @@ module _ (s : List ℕ) (st : State) (values out : List ℕ) (c : ℕ) (g : Read
   unfolding outcome found reads withSetting
   read-sent e after written x t =
       record {
-        records = [];
-        reply = reply own;
-        is = past-module Error.NoSuchModule (findModule (tableOf s) m) _ e ∙ rw (p .is);
-        puts = puts-after [] (final c (reply own)) out out 0 (puts-none out) after written (rw own-is x);
-        area = refl;
+        carries =
+            record {
+              records = [];
+              reply = reply own;
+              is = past-module Error.NoSuchModule (findModule (tableOf s) m) _ e ∙ rw (p .is);
+              puts = puts-after [] (final c (reply own)) out out 0 (puts-none out) after written (rw own-is x);
+              area = refl;
+            };
+        unstored = refl;
       }

@@ -1,19 +1,16 @@
 -- Laws of the datainfos that are written, one for each way through a function. Assumes nothing.
 use Prim.Native.Nat.{ℕ, zero, suc, _^_, _<_}
 use mathlib.Core.Path.{_≡_, refl, sym, ap, _∙_}
-use mathlib.Core.Bool.{Bool, true, false, cond}
-use mathlib.Core.List.{List, [], _∷_, _++_, append-assoc}
-use mathlib.Core.Option.{Option, none, some}
-use lib.ListN.{length, drop}
+use mathlib.Core.List.{List, [], _++_, append-assoc}
+use lib.ListN.{drop}
 use lib.IntN.{ℤ, pos, negsuc}
 use lib.Signed.{mag}
 use mir.Syntax.{w8, w64}
 use mir.Val.{SFits, hbits, toZ, ofZ}
 use mir.Facts.{toZ-ofZ}
 use native.Mathlib.Omega.{arith}
-use borrow.Author.Tests.{eq-eqb, ne-eqb}
+use borrow.Author.Tests.{ne-eqb}
 use Rattle.ascii.specs.Text.{bytes}
-use Rattle.ascii.specs.Bytes.{_>>=_}
 use Rattle.ascii.specs.Numbers.{decimal, integer, unsigned, signed}
 use Rattle.ascii.specs.Read.{ReadsUnsigned, ReadsSigned}
 use Rattle.ascii.specs.declared.Unsigned as U
@@ -24,10 +21,10 @@ use Rattle.datainfo.specs.declared.rules.Limit as L
 use Rattle.datainfo.specs.Kept.{ReadsLimit}
 use Rattle.datainfo.specs.Datainfo as Datainfo
 use Rattle.datainfo.specs.Datainfo.{Datainfo}
-use Rattle.datainfo.specs.Layout.{limit, doubleAt, intAt, stringAt, arrayAt, typed, datainfoIn}
+use Rattle.datainfo.specs.Layout.{limit, doubleAt, intAt, stringAt, arrayAt, datainfoIn}
 use Rattle.report.specs.Report.{decimalText, datainfoValue}
 use Rattle.describe.specs.Emitted.{Emits, told, Says}
-use Rattle.describe.specs.Texts.{datainfoText, arrayLimits, opening, closing, memberText, listText}
+use Rattle.describe.specs.Texts.{datainfoText, arrayLimits, opening, closing}
 use Rattle.describe.proofs.Pieces.{both, after, handed}
 use Rattle.describe.proofs.Says.{says-nothing, says-text, mapped}
 

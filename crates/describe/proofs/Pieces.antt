@@ -5,7 +5,6 @@ use mathlib.Core.Path.{_≡_, refl, sym, _∙_}
 use mathlib.Core.Bool.{Bool, true, false}
 use mathlib.Core.List.{List, [], _∷_, _++_}
 use lib.ListN.{length, length-append}
-use lib.Seq.{sets}
 use lib.Dec.{leb}
 use lib.IntN.{ℤ}
 use lib.Signed.{mag}
@@ -91,9 +90,6 @@ string-text d e f g text at p q r x y z = both (both x y) z
 pub key-text : (d e f text : List ℕ) (at p q : ℕ) → Emits d at text e p → Emits e p (58 ∷ []) f q → Emits d at (text ++ bytes ":") f q
 unfolding bytes
 key-text d e f text at p q x y = both x y
-
-pub string-of : (d e text part : List ℕ) (at p : ℕ) → text ≡ part → Emits d at (quoted text) e p → Emits d at (quoted part) e p
-string-of d e text part at p z x = rw z at x
 
 pub key-of : (d e key name : List ℕ) (at p : ℕ) → key ≡ name → Emits d at (quoted key ++ bytes ":") e p → Emits d at (quoted name ++ bytes ":") e p
 key-of d e key name at p z x = rw z at x

@@ -1,5 +1,5 @@
 -- Laws of the accessibles and modules that are written, and of the whole report, one for each way through a function. Assumes nothing.
-use Prim.Native.Nat.{ℕ, _+_, _-_, _≤_, _<_}
+use Prim.Native.Nat.{ℕ, _+_, _-_, _≤_}
 use native.Mathlib.Omega.{arith}
 use mathlib.Core.Path.{_≡_, refl, sym, ap, _∙_}
 use mathlib.Core.Bool.{Bool, true, false, cond}
@@ -17,7 +17,7 @@ use Rattle.datainfo.specs.Datainfo.{Datainfo}
 use Rattle.datainfo.specs.Layout.{datainfoIn}
 use Rattle.table.specs.Table as Table
 use Rattle.table.specs.Layout.{begins, argumentAt, accessiblesAt, moduleAt, modulesAt, wholeTable}
-use Rattle.table.specs.At.{bytesOf, Inside, accessibleBegins, accessibleAt, accessiblesFrom, modulesFrom, parameterOf, commandOf, moduleOf, ParameterIs, CommandIs, AccessibleIs, HeadingIs, headingAt, textsAt, TextsAt}
+use Rattle.table.specs.At.{bytesOf, Inside, accessibleBegins, accessibleAt, accessiblesFrom, modulesFrom, parameterOf, commandOf, moduleOf, AccessibleIs, HeadingIs, headingAt, textsAt, TextsAt}
 use Rattle.table.specs.declared.layout.Part.{Part}
 use Rattle.table.specs.declared.layout.ParameterAt.{ParameterAt}
 use Rattle.table.specs.declared.layout.CommandAt.{CommandAt}
@@ -34,7 +34,7 @@ use Rattle.describe.specs.Emitted.{capped, Emits, told, Says}
 use Rattle.describe.specs.Room.{RoomFor}
 use Rattle.describe.specs.Texts.{datainfoText, comma, readonlyText, argumentText, accessibleText, accessiblesText, noteText, moduleText, modulesText, textsText}
 use Rattle.describe.proofs.Pieces.{both, after, nothing}
-use Rattle.describe.proofs.Says.{never, says-nothing, says-text, mapped, retold, told-same, rest-told, Leads, parts-none, parts-more}
+use Rattle.describe.proofs.Says.{says-nothing, says-text, mapped, retold, told-same, rest-told, Leads, parts-none, parts-more}
 use Rattle.describe.proofs.Lists.{listed, listed-first, listed-member, list-step}
 
 -- ## Pieces

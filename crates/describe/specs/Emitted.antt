@@ -12,7 +12,7 @@ abbrev pub capped : ℕ → ℕ
 capped n = n - (n - 18446744073709551615)
 
 -- the buffer held `before` and holds `after`: a text was written at a position, if it has room, and `end` is the position after the text
--- in any case
+-- in any case; what a buffer without room for the text holds is left free
 pub record Emits (before : List ℕ) (at : ℕ) (text : List ℕ) (after : List ℕ) (end : ℕ) : Type 0 where
   pub ends : end ≡ capped (at + length text)
   pub size : length after ≡ length before

@@ -1,5 +1,6 @@
-// The datainfos of the structure report. Where a datainfo can't be read, what is written does not matter: a table that can't be read
-// has no report. Each function has the position in the buffer, and the position in the table of the first byte that it reads.
+// The datainfos of the structure report. The writer calls itself on datainfos inside a datainfo, with the remaining levels as the falling
+// number. Where a datainfo can't be read, what is written does not matter: a table that can't be read has no report. Each function has
+// the position in the buffer, and the position in the table of the first byte that it reads.
 use crate::write::emit;
 use crate::write::emit_comma;
 use crate::write::emit_integer;
@@ -17,7 +18,6 @@ use datainfo::layout::wide;
 use datainfo::rules::Limit;
 use datainfo::rules::limit_at;
 use datainfo::rules::name_at;
-ghost use mathlib.Core.Path.{_≡_};
 ghost use mathlib.Core.List.{_++_};
 ghost use Prim.Native.Nat.{_≤_};
 ghost use lib.ListN.{length, drop};

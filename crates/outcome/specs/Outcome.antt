@@ -42,9 +42,15 @@ module _ (w : Table) (n : Node) (c t : ℕ) (before after values stored : List �
     pub quiet : after ≡ before
     pub area : stored ≡ values
 
+  -- the request o is answered, and alters nothing
+  pub record Sends (o : Plain.Outcome) (written : ℕ) : Type 0 where
+    pub carries : Carries o n written
+    pub unstored : stored ≡ values
+
   -- client c's active modules become those of a mask, of which none is past the last
   pub record Activates (o : Plain.Outcome) (mask written : ℕ) : Type 0 where
     pub carries : Carries o (withClient n c (activated (bit mask) (n .clients c))) written
+    pub unstored : stored ≡ values
     pub low : pastLast mask (length (w .modules)) ≡ false
 
   -- the parameter of number p has a value of so many bytes that fits it
@@ -60,7 +66,7 @@ module _ (w : Table) (n : Node) (c t : ℕ) (before after values stored : List �
   -- the code's outcome r stands for the plain node's outcome o
   abbrev pub OutcomeIs : Outcome → Plain.Outcome → Type 0
   OutcomeIs (Refused e) o = Refuses o (refused (classOf e))
-  OutcomeIs (Sent written) o = Carries o n written
+  OutcomeIs (Sent written) o = Sends o written
   OutcomeIs (Active mask written) o = Activates o mask written
   OutcomeIs (Stored p size written) o = Stores o p size written
 

@@ -20,7 +20,7 @@ use Rattle.state.specs.Becomes.{Becomes}
 use Rattle.state.proofs.Settled.{Sized, withSetting, stored-view}
 
 -- an element that is there has a number below the length
-placed : {A : Type 0} (l : List A) (p : ℕ) (x : A) → getElem? l p ≡ some x → p < length l
+pub placed : {A : Type 0} (l : List A) (p : ℕ) (x : A) → getElem? l p ≡ some x → p < length l
 placed [] p x e = let z : _≡_ {A = ℕ} 0 1 = cc in absurd (omega arith)
 placed (y ∷ l) zero x e = omega arith
 placed (y ∷ l) (suc p) x e = let h = placed l p x e in omega arith

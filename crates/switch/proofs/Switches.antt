@@ -156,6 +156,7 @@ module _ (w : Table) (n : Node) (c t : ℕ) (before after values : List ℕ) whe
               puts = p;
               area = sym q;
             };
+        unstored = refl;
         low = past-last mask (length (w .modules)) λ j l. h j ∙ k j l;
       }
 

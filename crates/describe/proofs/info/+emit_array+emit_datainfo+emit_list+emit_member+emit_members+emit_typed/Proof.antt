@@ -48,12 +48,8 @@ use Rattle.describe.proofs.info.emit_opening.Reads as emit-opening-read
 use Rattle.describe.proofs.info.name_end.Reads as name-end-reads
 use Rattle.describe.proofs.write.emit.Reads as emit-reads
 use Rattle.describe.proofs.write.emit_comma.Reads as emit-comma-reads
-use Rattle.describe.proofs.info.+emit_array+emit_datainfo+emit_list+emit_member+emit_members+emit_typed.{
-  statement,
-}
-use Rattle.describe.proofs.info.+emit_array+emit_datainfo+emit_list+emit_member+emit_members+emit_typed.Tie.{
-  close,
-}
+use Rattle.describe.proofs.info.+emit_array+emit_datainfo+emit_list+emit_member+emit_members+emit_typed.{statement}
+use Rattle.describe.proofs.info.+emit_array+emit_datainfo+emit_list+emit_member+emit_members+emit_typed.Tie.{close}
 
 abbrev μ-emit-array : Measures 2 emit-array-kinds.ps ℕ
 μ-emit-array κs a = 5 * a .1 .1 .1 .1 .0 + 1
