@@ -24,7 +24,10 @@ module _ (table values : List ℕ) (o : ℕ) (s : State) (t : ℕ) where
   unfolding lentNumber
   lent-table e h = e ∙ sym (lowest-first (tableNumber table) _ (λ z. h (e ∙ z)))
 
-  module _ (ok : tableNumber table ≡ 0) where
+  module _ {k : ℕ} (says : k ≡ tableNumber table) (zeroth : k ≡ 0) where
+    ok : tableNumber table ≡ 0
+    ok = sym says ∙ zeroth
+
     pub lent-outbox : o < 32768 → 7 ≡ lentNumber table values o s t
     unfolding lentNumber lowest
     lent-outbox h = rw (ok, lt-ltb o 32768 h) refl
@@ -35,11 +38,14 @@ module _ (table values : List ℕ) (o : ℕ) (s : State) (t : ℕ) where
       lent-area h = rw (ok, le-ltb o 32768 room, lt-ltb (length values) 16384 h) refl
 
       module _ (area : 16384 ≤ length values) where
-        pub lent-unfit : isUnfit (tableOf table) s values ≡ true → 9 ≡ lentNumber table values o s t
+        pub lent-unfit : {b : Bool} → b ≡ isUnfit (tableOf table) s values → b ≡ true → 9 ≡ lentNumber table values o s t
         unfolding lentNumber lowest
-        lent-unfit h = rw (ok, le-ltb o 32768 room, le-ltb (length values) 16384 area, h) refl
+        lent-unfit e h = rw (ok, le-ltb o 32768 room, le-ltb (length values) 16384 area, sym e ∙ h) refl
 
-        module _ (fit : isUnfit (tableOf table) s values ≡ false) where
+        module _ {b : Bool} (judged : b ≡ isUnfit (tableOf table) s values) (not-so : b ≡ false) where
+          fit : isUnfit (tableOf table) s values ≡ false
+          fit = sym judged ∙ not-so
+
           pub lent-late : latest < t → 10 ≡ lentNumber table values o s t
           unfolding lentNumber lowest
           lent-late h = rw (ok, le-ltb o 32768 room, le-ltb (length values) 16384 area, fit, lt-ltb latest t h) refl
