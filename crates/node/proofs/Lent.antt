@@ -1,11 +1,9 @@
 -- The number of what every call judges, one law for each way through the code. Assumes nothing.
 use Prim.Native.Nat.{ℕ, zero, suc, _≤_, _<_}
-use native.Mathlib.Omega.{arith}
 use borrow.Author.Tests.{lt-ltb, le-ltb}
 use mathlib.Core.Bool.{Bool, true, false}
-use mathlib.Core.List.{List, [], _∷_}
+use mathlib.Core.List.{List, _∷_}
 use mathlib.Core.Path.{_≡_, refl, sym, _∙_}
-use lib.Dec.{ltb}
 use lib.ListN.{length}
 use Rattle.ascii.specs.Numbers.{latest}
 use Rattle.table.specs.Layout.{tableOf}
@@ -14,7 +12,8 @@ use Rattle.state.specs.declared.State.{State}
 use Rattle.state.specs.Fit.{isUnfit}
 use Rattle.promise.specs.Lent.{lentNumber}
 
-lowest-first : (k : ℕ) (ks : List ℕ) → (k ≡ 0 → ⊥) → lowest (k ∷ ks) ≡ k
+-- a fault stands before those after it
+pub lowest-first : (k : ℕ) (ks : List ℕ) → (k ≡ 0 → ⊥) → lowest (k ∷ ks) ≡ k
 unfolding lowest
 lowest-first zero ks h = absurd (h refl)
 lowest-first (suc k) ks h = refl

@@ -1,1 +1,4 @@
 pub mod Lent
+pub mod Refused
+pub mod Opens
+pub mod Begun
