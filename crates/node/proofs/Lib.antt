@@ -1,4 +1,6 @@
-pub mod Lent
-pub mod Refused
-pub mod Opens
 pub mod Begun
+pub mod Feeds
+pub mod Lent
+pub mod Opens
+pub mod Refused
+pub mod Taken

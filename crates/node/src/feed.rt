@@ -1,5 +1,6 @@
 // Line feeds.
 ghost use mathlib.Core.Path.{_≡_};
+ghost use Prim.Native.Nat.{_+_, _<_};
 ghost use lib.ListN.{length};
 ghost use Rattle.plain.specs.Calls.{beforeFeed};
 
@@ -15,4 +16,12 @@ pub fn feed_at(bytes: &[u8]) -> usize
         i += 1;
     }
     i
+}
+
+// The position after a line feed.
+pub fn past_feed(bytes: &[u8], at: usize) -> usize
+    requires { ⌜ at < length (now bytes) ⌝ }
+    ensures { λ r. ⌜ r ≡ at + 1 ⌝ }
+{
+    at + 1
 }

@@ -1,5 +1,6 @@
 // The five calls of a node. Each judges all that it is lent and answers a number, 0 for accepted; a refusal alters nothing.
 pub mod clients;
+pub mod feed;
 pub mod judge;
-pub mod readings;
+pub mod pieces;
 pub mod start;

@@ -1,5 +1,6 @@
 // A piece of a client's bytes.
 use crate::feed::feed_at;
+use crate::feed::past_feed;
 use crate::judge::lent_number;
 use crate::judge::quiet;
 use line::answer_line;
@@ -80,12 +81,13 @@ fn take_piece(
             state: held,
         };
     }
+    let used = past_feed(bytes, n);
     let answered = answer_held(table, values, outbox, held, client, time);
     let written = answered.written;
     let next = answered.state;
     Done {
         number: 0,
-        used: n + 1,
+        used,
         written,
         state: next,
     }

@@ -42,7 +42,7 @@ module _ (w : Table) (s : State) (values : List ℕ) where
 
 -- ## Line feeds
 
-no-feed-before : (bs : List ℕ) → any (λ b. eqb b 10) (beforeFeed bs) ≡ false
+pub no-feed-before : (bs : List ℕ) → any (λ b. eqb b 10) (beforeFeed bs) ≡ false
 unfolding beforeFeed any
 no-feed-before [] = refl
 no-feed-before (b ∷ bs) = go (eqb b 10) refl (no-feed-before bs)
@@ -62,7 +62,7 @@ take-before (b ∷ bs) = go (eqb b 10) (take-before bs)
     go true h = refl
     go false h = ap (λ (x : List ℕ). b ∷ x) h
 
-before-long : (bs : List ℕ) → length (beforeFeed bs) + cond (hasFeed bs) 1 0 ≤ length bs
+pub before-long : (bs : List ℕ) → length (beforeFeed bs) + cond (hasFeed bs) 1 0 ≤ length bs
 unfolding beforeFeed hasFeed
 before-long [] = omega arith
 before-long (b ∷ bs) = go (eqb b 10) (before-long bs)
