@@ -14,8 +14,8 @@ use Rattle.outcome.specs.declared.Answered.{Answered}
 use Rattle.line.specs.Concluded.{Concludable, Denies, Passes, Switches, Sets, Concludes}
 
 module _ (out : List ℕ) (c : ℕ) (action specifier : List ℕ) (came : Outcome) where
-  pub error-room : (e : Class) → came ≡ Refused e → Concludable out c action specifier came → RoomFor out 0 (final c (error action specifier (classOf e)))
-  error-room e h k = subst (Concludable out c action specifier) h k
+  pub may-deny : (e : Class) → came ≡ Refused e → Concludable out c action specifier came → RoomFor out 0 (final c (error action specifier (classOf e)))
+  may-deny e h k = subst (Concludable out c action specifier) h k
 
   pub may-store : (k size written : ℕ) → came ≡ Stored k size written → Concludable out c action specifier came → (k < 64) × (size ≤ 256)
   may-store k size written h i = subst (Concludable out c action specifier) h i

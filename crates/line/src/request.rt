@@ -1,5 +1,5 @@
 // A request carried out, by its action.
-ghost use Prim.Native.Nat.{ℕ, _≤_, _<_};
+ghost use Prim.Native.Nat.{ℕ, _≤_};
 ghost use mathlib.Core.Path.{_≡_};
 ghost use mathlib.Core.Bool.{false};
 ghost use mathlib.Core.Option.{some};
@@ -9,7 +9,7 @@ ghost use Rattle.ascii.specs.Numbers.{latest};
 ghost use Rattle.table.specs.Layout.{tableOf};
 ghost use Rattle.message.specs.Request as R;
 ghost use Rattle.message.specs.Request.{orNull};
-ghost use Rattle.message.specs.Parsed.{part, Within, Inside, meaning};
+ghost use Rattle.message.specs.Parsed.{part, Within, meaning};
 ghost use Rattle.state.specs.Fit.{pastLast};
 ghost use Rattle.outcome.specs.Ready.{Lent, Ready};
 ghost use Rattle.outcome.specs.Outcome.{Comes, ComesAtAny, ComesWith};
