@@ -45,7 +45,7 @@ use Rattle.outcome.specs.declared.Outcome.{Outcome}
 use Rattle.outcome.specs.declared.Outcome.the-variants.{Refused, Sent, Active, Stored}
 use Rattle.outcome.specs.declared.Answered.{Answered}
 use Rattle.line.specs.Concluded.{Concludable, Denies, Keeps, Passes, Switches, Sets, Concludes}
-use Rattle.line.proofs.Carried.{part-short, error-room}
+use Rattle.line.proofs.Carried.{part-short}
 
 -- one record, written at the front
 encoded-one : (r : Record) → encode r ≡ encodeAll (r ∷ [])
@@ -163,9 +163,13 @@ module _ (table : List ℕ) (s : State) (values before : List ℕ) (c t : ℕ) (
     -- room for an error; a parameter's number and a stored length
     pub concludable :
         (mid stored : List ℕ) (o : Plain.Outcome) (came : Outcome) → OutcomeIs w n c t before mid values stored came o
-        → Concludable mid c (part xs a) (part xs p) came
+        → Concludable mid (part xs a) (part xs p) came
     concludable mid stored o (Refused e) x =
-        rw (x .quiet) (error-room before c (given .lent .room) (part xs a) (part xs p) (classOf e) (part-short xs a (h .action-in) short) (part-short xs p (h .specifier-in) short))
+        record {
+          room = rw (x .quiet) (given .lent .room);
+          action-short = part-short xs a (h .action-in) short;
+          specifier-short = part-short xs p (h .specifier-in) short;
+        }
     concludable mid stored o (Sent written) x = tt
     concludable mid stored o (Active mask written) x = tt
     concludable mid stored o (Stored k size written) x =
