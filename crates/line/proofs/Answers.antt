@@ -1,11 +1,10 @@
 -- Laws of a line that is answered: from what a request comes to, and what follows from it, to what the plain node answers. Assumes nothing.
 use Prim.Native.Nat.{ℕ, _≤_, _<_}
 use native.Mathlib.Omega.{arith}
-use mathlib.Core.Path.{_≡_, refl, sym, ap, ap₂, subst, _∙_}
-use mathlib.Core.Bool.{Bool, true, false, _||_}
-use mathlib.Core.List.{List, [], _∷_, _++_, append-nil}
-use mathlib.Core.Option.{some}
-use lib.ListN.{length, getElem?}
+use mathlib.Core.Path.{_≡_, refl, sym, ap₂, subst, _∙_}
+use mathlib.Core.Bool.{false}
+use mathlib.Core.List.{List, [], _∷_, append-nil}
+use lib.ListN.{length}
 use Rattle.ascii.specs.Numbers.{latest}
 use Rattle.ascii.specs.Bytes.{any, takeWhile, dropWhile, tail, same}
 use Rattle.ascii.specs.Writer.{Puts}
@@ -41,12 +40,12 @@ use Rattle.state.proofs.Settled.{some-stored, stored-fit}
 use Rattle.state.proofs.Views.{placed, client-view, value-view}
 use Rattle.outcome.specs.Area.{withSetting}
 use Rattle.outcome.specs.Outcome.{Carries, Refuses, Sends, Activates, Stores, OutcomeIs, Comes, Answers}
-use Rattle.outcome.specs.Ready.{Lent, Ready}
+use Rattle.outcome.specs.Ready.{Ready}
 use Rattle.outcome.specs.declared.Outcome.{Outcome}
 use Rattle.outcome.specs.declared.Outcome.the-variants.{Refused, Sent, Active, Stored}
 use Rattle.outcome.specs.declared.Answered.{Answered}
 use Rattle.line.specs.Concluded.{Concludable, Denies, Keeps, Passes, Switches, Sets, Concludes}
-use Rattle.line.proofs.Carried.{part-short, error-room}
+use Rattle.line.proofs.Carried.{part-short}
 
 -- one record, written at the front
 encoded-one : (r : Record) → encode r ≡ encodeAll (r ∷ [])
@@ -164,9 +163,13 @@ module _ (table : List ℕ) (s : State) (values before : List ℕ) (c t : ℕ) (
     -- room for an error; a parameter's number and a stored length
     pub concludable :
         (mid stored : List ℕ) (o : Plain.Outcome) (came : Outcome) → OutcomeIs w n c t before mid values stored came o
-        → Concludable mid c (part xs a) (part xs p) came
+        → Concludable mid (part xs a) (part xs p) came
     concludable mid stored o (Refused e) x =
-        rw (x .quiet) (error-room before c (given .lent .room) (part xs a) (part xs p) (classOf e) (part-short xs a (h .action-in) short) (part-short xs p (h .specifier-in) short))
+        record {
+          room = rw (x .quiet) (given .lent .room);
+          action-short = part-short xs a (h .action-in) short;
+          specifier-short = part-short xs p (h .specifier-in) short;
+        }
     concludable mid stored o (Sent written) x = tt
     concludable mid stored o (Active mask written) x = tt
     concludable mid stored o (Stored k size written) x =

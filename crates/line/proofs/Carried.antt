@@ -1,17 +1,16 @@
 -- Laws of requests that are carried out: replies of one record, data that is missing, and a client's active modules. Assumes nothing.
-use Prim.Native.Nat.{ℕ, _+_, _≤_, _<_}
+use Prim.Native.Nat.{ℕ, _+_, _≤_}
 use native.Mathlib.Omega.{arith}
-use mathlib.Core.Path.{_≡_, refl, sym, ap, _∙_}
-use mathlib.Core.Bool.{Bool, true, false, cond}
-use mathlib.Core.List.{List, [], _∷_, _++_}
-use mathlib.Core.Option.{some}
-use lib.ListN.{length, getD, take, drop, length-append, length-take}
+use mathlib.Core.Path.{_≡_, refl, sym, _∙_}
+use mathlib.Core.Bool.{Bool, true, false}
+use mathlib.Core.List.{List, []}
+use lib.ListN.{length, getD, length-append, length-take}
 use Rattle.ascii.specs.Numbers.{twoBytes, latest}
 use Rattle.ascii.specs.Text.{bytes}
 use Rattle.ascii.specs.Bytes.{all, isSpace}
 use Rattle.ascii.specs.Writer.{Puts}
 use Rattle.message.specs.Error.{Class}
-use Rattle.message.specs.Reply.{Reply, identification, pong, error, replyLine, dataReport}
+use Rattle.message.specs.Reply.{Reply, identification, pong, error, replyLine}
 use Rattle.message.specs.Request as R
 use Rattle.message.specs.Request.{orNull}
 use Rattle.message.specs.Parsed.{part, Within}
@@ -19,7 +18,7 @@ use Rattle.message.specs.declared.line.Part.{Part}
 use Rattle.message.proofs.Said.{data-length, pong-length, error-length, error-short}
 use Rattle.table.specs.Table.{Table}
 use Rattle.table.specs.Layout.{tableOf}
-use Rattle.outbox.specs.Outbox.{Record, final, mark, client, body, encode, encodeAll}
+use Rattle.outbox.specs.Outbox.{final, mark, client, body, encode}
 use Rattle.outbox.specs.Written.{RoomFor}
 use Rattle.plain.specs.Node.{Node, isActive}
 use Rattle.plain.specs.Answer as Plain
@@ -27,14 +26,14 @@ use Rattle.plain.specs.Answer.{carried, outcome}
 use Rattle.sound.proofs.Records.{seconds-short}
 use Rattle.sound.proofs.Room.{puts-after, puts-none}
 use Rattle.state.specs.declared.State.{State}
-use Rattle.state.specs.View.{isSet, bit, clientAt, view}
-use Rattle.state.specs.Fit.{clientUnfit, pastLast, isUnfit, settingsUnfit}
+use Rattle.state.specs.View.{bit, clientAt, view}
+use Rattle.state.specs.Fit.{pastLast, isUnfit, settingsUnfit}
 use Rattle.state.proofs.Flags.{neither}
 use Rattle.state.proofs.Kept.{each-fit}
 use Rattle.state.proofs.Cells.{fit-at}
 use Rattle.outcome.specs.Area.{withSetting}
 use Rattle.outcome.specs.Outcome.{Sends, ComesAtAny}
-use Rattle.outcome.specs.Ready.{Lent, Ready}
+use Rattle.outcome.specs.Ready.{Ready}
 use Rattle.outcome.specs.declared.Outcome.the-variants.{Sent}
 
 -- ## Room for one reply

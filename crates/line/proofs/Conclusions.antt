@@ -2,23 +2,19 @@
 use Prim.Native.Nat.{ℕ, _≤_, _<_}
 use mathlib.Core.Path.{_≡_, sym, subst}
 use mathlib.Core.List.{List}
-use Rattle.message.specs.Reply.{error}
-use Rattle.message.specs.Said.{classOf}
 use Rattle.message.specs.declared.say.Class.{Class}
-use Rattle.outbox.specs.Outbox.{final}
-use Rattle.outbox.specs.Written.{RoomFor}
 use Rattle.state.specs.declared.State.{State}
 use Rattle.outcome.specs.declared.Outcome.{Outcome}
 use Rattle.outcome.specs.declared.Outcome.the-variants.{Refused, Sent, Active, Stored}
 use Rattle.outcome.specs.declared.Answered.{Answered}
-use Rattle.line.specs.Concluded.{Concludable, Denies, Passes, Switches, Sets, Concludes}
+use Rattle.line.specs.Concluded.{Deniable, Concludable, Denies, Passes, Switches, Sets, Concludes}
 
-module _ (out : List ℕ) (c : ℕ) (action specifier : List ℕ) (came : Outcome) where
-  pub error-room : (e : Class) → came ≡ Refused e → Concludable out c action specifier came → RoomFor out 0 (final c (error action specifier (classOf e)))
-  error-room e h k = subst (Concludable out c action specifier) h k
+module _ (out action specifier : List ℕ) (came : Outcome) where
+  pub may-deny : (e : Class) → came ≡ Refused e → Concludable out action specifier came → Deniable out action specifier
+  may-deny e h k = subst (Concludable out action specifier) h k
 
-  pub may-store : (k size written : ℕ) → came ≡ Stored k size written → Concludable out c action specifier came → (k < 64) × (size ≤ 256)
-  may-store k size written h i = subst (Concludable out c action specifier) h i
+  pub may-store : (k size written : ℕ) → came ≡ Stored k size written → Concludable out action specifier came → (k < 64) × (size ≤ 256)
+  may-store k size written h i = subst (Concludable out action specifier) h i
 
 module _ {before after : List ℕ} {s : State} {c t : ℕ} {r : Answered} (action specifier : List ℕ) (came : Outcome) where
   pub denies : {e : Class} → came ≡ Refused e → Denies before after s c t r action specifier e → Concludes before after s c t r action specifier came

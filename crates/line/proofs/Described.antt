@@ -1,7 +1,7 @@
 -- Laws of `describe`: its record is written in three steps, the start, the report and the line feed. Assumes nothing.
 use Prim.Native.Nat.{ℕ, _+_, _-_, _≤_, _<_}
 use native.Mathlib.Omega.{arith}
-use mathlib.Core.Path.{_≡_, refl, sym, subst, _∙_}
+use mathlib.Core.Path.{_≡_, refl, subst}
 use mathlib.Core.List.{List, [], _∷_, _++_}
 use mathlib.Core.Option.{some}
 use lib.ListN.{length, length-append}
@@ -16,7 +16,6 @@ use Rattle.describe.specs.Emitted.{capped}
 use Rattle.describe.specs.Room.{RoomFor}
 use Rattle.message.specs.Reply.{describing}
 use Rattle.message.specs.Request as R
-use Rattle.outbox.specs.Outbox.{final, encode}
 use Rattle.outbox.specs.Written.{describingStart}
 use Rattle.outbox.proofs.Written.{describing-encoded}
 use Rattle.plain.specs.Answer.{outcome}

@@ -3,13 +3,12 @@
 use Prim.Native.Nat.{ℕ, _≤_, _<_}
 use mathlib.Core.Path.{_≡_}
 use mathlib.Core.List.{List}
-use lib.ListN.{set}
+use lib.ListN.{length, set}
 use Rattle.ascii.specs.Writer.{Puts}
 use Rattle.message.specs.Reply.{error}
 use Rattle.message.specs.Said.{classOf}
 use Rattle.message.specs.declared.say.Class.{Class}
 use Rattle.outbox.specs.Outbox.{final, encode}
-use Rattle.outbox.specs.Written.{RoomFor}
 use Rattle.plain.specs.Node.{activated}
 use Rattle.state.specs.declared.State.{State}
 use Rattle.state.specs.View.{bit, clientAt}
@@ -18,12 +17,18 @@ use Rattle.outcome.specs.declared.Outcome.{Outcome}
 use Rattle.outcome.specs.declared.Outcome.the-variants.{Refused, Sent, Active, Stored}
 use Rattle.outcome.specs.declared.Answered.{Answered}
 
--- what an outcome asks for: room for the error line; the number of a parameter, and a length that a stored value may have
-abbrev pub Concludable : List ℕ → ℕ → List ℕ → List ℕ → Outcome → Type 0
-Concludable out c action specifier (Refused e) = RoomFor out 0 (final c (error action specifier (classOf e)))
-Concludable out c action specifier (Sent written) = Unit
-Concludable out c action specifier (Active mask written) = Unit
-Concludable out c action specifier (Stored k size written) = (k < 64) × (size ≤ 256)
+-- an outbox that has room for an error line, and an action and a specifier of a line
+pub record Deniable (out action specifier : List ℕ) : Type 0 where
+  pub room : 32768 ≤ length out
+  pub action-short : length action ≤ 1024
+  pub specifier-short : length specifier ≤ 1024
+
+-- what an outcome asks for: an error, that it can be answered; a stored value, a parameter's number and a length that it may have
+abbrev pub Concludable : List ℕ → List ℕ → List ℕ → Outcome → Type 0
+Concludable out action specifier (Refused e) = Deniable out action specifier
+Concludable out action specifier (Sent written) = Unit
+Concludable out action specifier (Active mask written) = Unit
+Concludable out action specifier (Stored k size written) = (k < 64) × (size ≤ 256)
 
 -- Handed the state s, for client c at the time t: the outbox held `before` and holds `after`, and the answer is r.
 module _ (before after : List ℕ) (s : State) (c t : ℕ) (r : Answered) where

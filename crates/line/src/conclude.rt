@@ -31,7 +31,7 @@ pub fn conclude(
     specifier: &[u8],
     came: Outcome,
 ) -> Answered
-    requires { ⌜ (client < 8) × (Concludable (now out) client (now action) (now specifier) came) ⌝ }
+    requires { ⌜ (client < 8) × (Concludable (now out) (now action) (now specifier) came) ⌝ }
     ensures { λ r. ⌜ Concludes (now (out .entry)) (now (out .exit)) state client time r (now (action .entry)) (now (specifier .entry)) came ⌝ }
 {
     let clients = state.clients;

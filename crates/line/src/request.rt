@@ -1,5 +1,5 @@
 // A request carried out, by its action.
-ghost use Prim.Native.Nat.{ℕ, _≤_, _<_};
+ghost use Prim.Native.Nat.{ℕ, _≤_};
 ghost use mathlib.Core.Path.{_≡_};
 ghost use mathlib.Core.Bool.{false};
 ghost use mathlib.Core.Option.{some};
@@ -9,7 +9,7 @@ ghost use Rattle.ascii.specs.Numbers.{latest};
 ghost use Rattle.table.specs.Layout.{tableOf};
 ghost use Rattle.message.specs.Request as R;
 ghost use Rattle.message.specs.Request.{orNull};
-ghost use Rattle.message.specs.Parsed.{part, Within, Inside, meaning};
+ghost use Rattle.message.specs.Parsed.{part, Within, meaning};
 ghost use Rattle.state.specs.Fit.{pastLast};
 ghost use Rattle.outcome.specs.Ready.{Lent, Ready};
 ghost use Rattle.outcome.specs.Outcome.{Comes, ComesAtAny, ComesWith};
@@ -39,7 +39,7 @@ fn identify(out: &mut [u8], client: u8) -> Outcome
     Outcome::Sent(put_final_identification(out, 0, client))
 }
 
-// "`pong TOKEN [null,{"t":now}]`"
+// "`pong T [null,{"t":now}]`; no token leaves two spaces.": the token is the specifier
 fn ping(out: &mut [u8], client: u8, time: u64, token: &[u8]) -> Outcome
     requires { ⌜ (32768 ≤ length (now out)) × ((time ≤ latest) × (length (now token) ≤ 1024)) ⌝ }
     ensures { λ r. ⌜ ((table : List ℕ) → ComesAtAny table (now (out .entry)) client time r (now (out .exit)) (R.ping (now (token .entry)))) ⌝ }
@@ -64,6 +64,7 @@ fn deactivate_part(
     deactivate(table, out, client, mask, bytes_of(line, m))
 }
 
+// `read`, of the module and the parameter whose names two parts of the line hold.
 fn read_part(
     table: &[u8],
     values: &[u8],
@@ -82,7 +83,7 @@ fn read_part(
     read(table, values, out, state, client, module, name)
 }
 
-// "Missing or all-space data is `null`"
+// `change`. "Missing or all-space data is `null`"
 fn change_part(
     table: &[u8],
     values: &mut [u8],
@@ -117,6 +118,7 @@ fn change_part(
     change(table, values, out, state, client, time, module, name, text)
 }
 
+// `do`, with the same rule for its data.
 fn execute_part(
     table: &[u8],
     out: &mut [u8],

@@ -46,25 +46,25 @@ request-of-requires : tie.Need-request-of-requires
 request-of-requires c κs =
     let at = c .before .before .before .before .before .before .before .before in
     let h = subst (Parses (at .args .line .now)) (c .before .action .given .1) (c .before .before .before .part-line .ensures) in
-    (h .action-in, h .specifier-in)
+    (search h, search h)
 
 outcome-requires : tie.Need-outcome-requires
 outcome-requires c κs =
     let at = c .before .before .before .before .before .before .before .before .before .before .before in
     let h = subst (Parses (at .args .line .now)) (c .before .before .before .before .action .given .1) (c .before .before .before .before .before .before .part-line .ensures) in
-    (at .pre .0, (at .pre .1 .0, record { short = at .pre .1 .1; specifier-in = h .specifier-in; payload-in = h .payload-in; inside = c .before .before .request-of .ensures .inside }))
+    (at .pre .0, (at .pre .1 .0, record { short = at .pre .1 .1; specifier-in = h .specifier-in; payload-in = h .payload-in; inside = search (c .before .before .request-of .ensures) }))
 
 bytes-of-requires : tie.Need-bytes-of-requires
 bytes-of-requires c κs =
     let at = c .before .before .before .before .before .before .before .before .before .before .before .before .before .before .before .before .before in
     let h = subst (Parses (at .args .line .now)) (c .before .before .before .before .before .before .before .before .before .before .action .given .1) (c .before .before .before .before .before .before .before .before .before .before .before .before .part-line .ensures) in
-    h .action-in
+    search h
 
 bytes-of-requires-2 : tie.Need-bytes-of-requires-2
 bytes-of-requires-2 c κs =
     let at = c .before .before .before .before .before .before .before .before .before .before .before .before .before .before .before .before .before .before in
     let h = subst (Parses (at .args .line .now)) (c .before .before .before .before .before .before .before .before .before .before .before .action .given .1) (c .before .before .before .before .before .before .before .before .before .before .before .before .before .part-line .ensures) in
-    h .specifier-in
+    search h
 
 conclude-requires : tie.Need-conclude-requires
 conclude-requires c κs =

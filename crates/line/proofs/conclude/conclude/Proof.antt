@@ -1,6 +1,7 @@
 -- `line::conclude::conclude` meets its contract. Assumes nothing.
 use mathlib.Core.Path.{refl}
-use Rattle.line.proofs.Conclusions.{error-room, may-store, denies, passes, switches, stores}
+use Rattle.line.proofs.Carried.{error-room}
+use Rattle.line.proofs.Conclusions.{may-deny, may-store, denies, passes, switches, stores}
 use borrow.Author.Needs.{needs}
 use Rattle.line.proofs.conclude.conclude.Statement.{statement}
 use Rattle.line.proofs.conclude.conclude.Tie as tie
@@ -11,7 +12,8 @@ enum-known-came c = search needs
 put-final-error-requires : tie.Need-put-final-error-requires
 put-final-error-requires c κs =
     let at = c .before .before .before .before .before .before .before .before .before in
-    error-room (at .args .out .now) (at .args .client) (at .args .action .now) (at .args .specifier .now) (at .args .came) _ (c .before .before .came .given .1) (at .pre .1)
+    let d = may-deny (at .args .out .now) (at .args .action .now) (at .args .specifier .now) (at .args .came) _ (c .before .before .came .given .1) (at .pre .1) in
+    error-room (at .args .out .now) (at .args .client) (d .room) _ _ _ (search d) (search d)
 
 enum-known-came-2 : tie.Need-enum-known-came-2
 enum-known-came-2 c = search needs
@@ -28,7 +30,7 @@ enum-known-came-4 c = search needs
 stored-requires : tie.Need-stored-requires
 stored-requires c κs =
     let at = c .before .before .before .before .before .before .before .before in
-    may-store (at .args .out .now) (at .args .client) (at .args .action .now) (at .args .specifier .now) (at .args .came) _ _ _ (c .before .came4 .given .1) (at .pre .1)
+    may-store (at .args .out .now) (at .args .action .now) (at .args .specifier .now) (at .args .came) _ _ _ (c .before .came4 .given .1) (at .pre .1)
 
 same-length : tie.Need-same-length
 same-length c = search needs
