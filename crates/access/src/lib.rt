@@ -113,7 +113,8 @@ pub fn change(
     let FoundParameter::At(k, home, p) = find_parameter(table, module, name) else {
         return Outcome::Refused(Class::NoSuchParameter);
     };
-    if p.readonly {
+    let readonly = p.readonly;
+    if readonly {
         return Outcome::Refused(Class::ReadOnly);
     }
     let clients = state.clients;
