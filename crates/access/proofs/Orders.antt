@@ -71,9 +71,10 @@ form-short true xs l = go (l .argument) (l .is) (l .fits)
 -- ## The order
 
 module _ (out : List ℕ) (k : ℕ) (b : Bool) (xs : List ℕ) (o : Ordered out k b xs) (c : ℕ) where
-  pub order-room : (bs : List ℕ) → length bs ≤ 256 → RoomFor out 0 (orderCommand c k bs)
+  -- whatever the numbers
+  pub order-room : (i j : ℕ) (bs : List ℕ) → length bs ≤ 256 → RoomFor out 0 (orderCommand i j bs)
   unfolding encode mark body bytes twoBytes
-  order-room bs h = let r = o .room in record { fits = simp length-append (omega arith); short = omega arith }
+  order-room i j bs h = let r = o .room in record { fits = simp length-append (omega arith); short = omega arith }
 
   pub order-none : not b ≡ true → (after : List ℕ) (r : ℕ) → Puts out 0 (encode (orderCommand c k [])) after r
       → Puts out 0 (encode (orderCommand c k (formOf b xs))) after r
@@ -96,8 +97,8 @@ module _ (out : List ℕ) (k : ℕ) (b : Bool) (xs : List ℕ) (o : Ordered out 
     pub order-slice : r ≡ length (take r after)
     order-slice = written-form .ends ∙ rw (zero-add, form)
 
-    pub order-room-form : RoomFor out 0 (orderCommand c k (take r after))
-    order-room-form = order-room (take r after) (rw form (form-short b xs (o .argument)))
+    pub order-room-form : (i j : ℕ) → RoomFor out 0 (orderCommand i j (take r after))
+    order-room-form i j = order-room i j (take r after) (rw form (form-short b xs (o .argument)))
 
     pub order-some : (last : List ℕ) (q : ℕ) → Puts out 0 (encode (orderCommand c k (take r after))) last q
         → Puts out 0 (encode (orderCommand c k (formOf b xs))) last q

@@ -40,23 +40,24 @@ module _ (out : List ℕ) (k h : ℕ) (m a : List ℕ) (t : ℕ) (g : Settable o
   fine-report : Fine report
   fine-report = record { names = (g .module-name, g .name); small = n; inTime = g .inTime }
 
-  order-short : Written (order ∷ []) 262
+  order-short : (i j : ℕ) → Written (orderChange i j v ∷ []) 262
   unfolding body
-  order-short = written-one order 262 tt (omega arith)
+  order-short i j = written-one (orderChange i j v) 262 tt (omega arith)
 
   updates-short : Written updates 3360
   updates-short = written-to (clientAt s) h report fine-report clientNumbers
 
   all-short : Written ((order ∷ updates) ++ (reply ∷ [])) 4043
   all-short =
-      written-append (order ∷ updates) (reply ∷ []) 3622 421 (written-append (order ∷ []) updates 262 3360 order-short updates-short)
+      written-append (order ∷ updates) (reply ∷ []) 3622 421 (written-append (order ∷ []) updates 262 3360 (order-short c k) updates-short)
       (written-final c (changed report) 415 (says-changed report fine-report))
 
-  pub order-room : RoomFor out 0 order
-  order-room =
+  -- whatever the numbers
+  pub order-room : (i j : ℕ) → RoomFor out 0 (orderChange i j v)
+  order-room i j =
       let r = g .room in
-      let w = order-short .short in
-      room-after [] order out out 0 (puts-none out) (omega arith) (omega arith)
+      let w = order-short i j .short in
+      room-after [] (orderChange i j v) out out 0 (puts-none out) (omega arith) (omega arith)
 
   module _ (e : List ℕ) (p : ℕ) (x : Puts out 0 (encode order) e p) where
     ordered : Puts out 0 (encodeAll (order ∷ [])) e p
@@ -67,7 +68,7 @@ module _ (out : List ℕ) (k h : ℕ) (m a : List ℕ) (t : ℕ) (g : Settable o
         let r = g .room in
         let l = puts-length ordered in
         let z = ordered .ends in
-        let w = order-short .short in
+        let w = order-short c k .short in
         let u = updates-short .short in
         (g .homeLow, (omega arith, omega (arith, name-short m (g .module-name), name-short a (g .name))))
 
@@ -76,8 +77,14 @@ module _ (out : List ℕ) (k h : ℕ) (m a : List ℕ) (t : ℕ) (g : Settable o
       unfolding encodeAll
       told = puts-both x y
 
-      pub reply-room : RoomFor f q reply
-      reply-room = let r = g .room in let w = all-short .short in room-after (order ∷ updates) reply out f q told (omega arith) (omega arith)
+      -- at the end of the updates or before it
+      pub reply-room : (i : ℕ) → i ≤ q → RoomFor f i reply
+      reply-room i l =
+          let r = g .room in
+          let w = all-short .short in
+          let at = room-after (order ∷ updates) reply out f q told (omega arith) (omega arith) in
+          let room = at .fits in
+          record { fits = omega arith; short = at .short }
 
       pub set-put : (d : List ℕ) (i : ℕ) → Puts f q (encode reply) d i → Puts out 0 (encodeAll (setRecords s c k h report)) d i
       unfolding setRecords

@@ -59,6 +59,7 @@ fn put_shown(
     put_final_report(out, 0, client, Told::Reply, module, name, value, time)
 }
 
+// The value that a parameter shows, with its stored time, at the front of the outbox; or an error, and the outbox is as it was.
 pub fn read(
     table: &[u8],
     values: &[u8],
@@ -93,6 +94,8 @@ pub fn read(
     Outcome::Sent(end)
 }
 
+// A parameter's value is set; or an error, and outbox and values area are as they were. "Order: .., NoSuchModule, NoSuchParameter .., ReadOnly,
+// BadJSON, WrongType, RangeError."
 pub fn change(
     table: &[u8],
     values: &mut [u8],
@@ -113,7 +116,8 @@ pub fn change(
     let FoundParameter::At(k, home, p) = find_parameter(table, module, name) else {
         return Outcome::Refused(Class::NoSuchParameter);
     };
-    if p.readonly {
+    let readonly = p.readonly;
+    if readonly {
         return Outcome::Refused(Class::ReadOnly);
     }
     let clients = state.clients;
@@ -137,6 +141,7 @@ pub fn change(
     }
 }
 
+// A command is carried out: the driver's order and the reply are at the front of the outbox; or an error, and the outbox is as it was.
 pub fn execute(
     table: &[u8],
     out: &mut [u8],

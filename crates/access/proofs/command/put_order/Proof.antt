@@ -13,7 +13,8 @@ slice-aggregate-put-order-command : tie.Need-slice-aggregate-put-order-command
 slice-aggregate-put-order-command c = search needs
 
 put-order-command-requires : tie.Need-put-order-command-requires
-put-order-command-requires c κs = order-room _ _ _ _ (c .before .before .before .before .before .pre) _ [] (omega arith)
+put-order-command-requires c κs =
+    order-room _ _ _ _ (c .before .before .before .before .before .pre) 0 _ _ [] (omega arith)
 
 same-length : tie.Need-same-length
 same-length c = search needs
