@@ -2,7 +2,5 @@ pub mod Lent
 pub mod Refused
 pub mod Opens
 pub mod Begun
-pub mod Forms
-pub mod Homes
 pub mod Takes
 pub mod Reading

@@ -1,19 +1,17 @@
 -- A reading that fits is taken in: what is stored and sent, and that it has room. Assumes nothing.
-use Prim.Native.Nat.{ℕ, zero, suc, _+_, _*_, _-_, _≤_, _<_}
-use native.Mathlib.Nat.{add-zero, zero-add}
+use Prim.Native.Nat.{ℕ, _+_, _*_, _-_, _≤_, _<_}
+use native.Mathlib.Nat.{zero-add}
 use native.Mathlib.Omega.{arith}
 use borrow.Author.Needs.{length-unmapped}
-use mathlib.Core.Bool.{Bool, true, false, not, false≢true}
-use mathlib.Core.List.{List, [], _∷_, map}
-use mathlib.Core.Option.{Option, none, some}
-use mathlib.Core.Path.{_≡_, refl, sym, ap, subst, _∙_}
+use mathlib.Core.Bool.{true, false}
+use mathlib.Core.List.{List, map}
+use mathlib.Core.Option.{some}
+use mathlib.Core.Path.{_≡_, refl, sym, ap, _∙_}
 use lib.ListN.{length, set, take, drop, getElem?}
-use lib.Seq.{sets}
-use Rattle.ascii.specs.Bytes.{any, isSome}
-use Rattle.ascii.specs.Numbers.{latest}
+use Rattle.ascii.specs.Bytes.{any}
 use Rattle.ascii.specs.Writer.{Puts}
 use Rattle.json.specs.Compacted.{Compacted}
-use Rattle.fit.specs.Fit.{verdict, isFit, isStored, storedForm}
+use Rattle.fit.specs.Fit.{isStored, storedForm}
 use Rattle.table.specs.Table.{Parameter, Table}
 use Rattle.table.specs.Layout.{tableOf}
 use Rattle.table.specs.Search.{Placed, parameters}
@@ -22,30 +20,28 @@ use Rattle.table.specs.declared.layout.ParameterAt.{ParameterAt}
 use Rattle.message.specs.Reply.{Report}
 use Rattle.message.specs.Said.{reportOf}
 use Rattle.outbox.specs.Outbox.{Record, encodeAll}
-use Rattle.report.specs.Judge.{fault, lowest}
+use Rattle.report.specs.Judge.{lowest}
 use Rattle.search.specs.declared.cursor.Cursor.{Cursor}
 use Rattle.search.specs.Left.{placed}
 use Rattle.plain.specs.Node.{clientNumbers, updatesTo, withValue}
 use Rattle.plain.specs.Calls.{Reading, Effect, callNumber, readingVerdict, readingEffect, effect}
 use Rattle.sound.proofs.Lists.{each-at}
-use Rattle.sound.proofs.Accepted.{Accepted, GoodParameter, accepted, accepted-whole}
+use Rattle.sound.proofs.Accepted.{GoodParameter, accepted, accepted-whole}
+use Rattle.sound.proofs.Homes.{parameter-home}
 use Rattle.sound.proofs.Values.{stored, stored-short}
-use Rattle.sound.proofs.Records.{Fine, Written, name-short, written-to}
+use Rattle.sound.proofs.Records.{Fine, name-short, written-to}
 use Rattle.state.specs.declared.Settings.{Settings}
 use Rattle.state.specs.declared.State.{State}
 use Rattle.state.specs.View.{clientAt, view, withStored, outboxAfter, written}
 use Rattle.state.specs.Fit.{clientUnfit, settingsUnfit, isUnfit}
+use Rattle.state.proofs.Forms.{stands, put-stored}
 use Rattle.state.proofs.Settled.{Sized, withSetting, some-stored, stored-fit}
 use Rattle.state.proofs.Views.{value-view}
-use Rattle.promise.specs.declared.Done.{Done}
-use Rattle.promise.specs.Lent.{lentNumber}
 use Rattle.promise.specs.Promise.{Kept, areaOf}
 use Rattle.promise.proofs.Numbers.{Good, good, reading-number}
-use Rattle.promise.proofs.Answers.{Leaves, accepts}
+use Rattle.promise.proofs.Answers.{accepts}
 use Rattle.promise.proofs.Clients.{fit-parts}
 use Rattle.node.specs.Taken.{Fitting}
-use Rattle.node.proofs.Forms.{stands, put-stored}
-use Rattle.node.proofs.Homes.{parameter-home}
 
 module _ (table : List ℕ) (s : State) (values outbox : List ℕ) (k t : ℕ) (bs : List ℕ) (q : ParameterAt) (e : Cursor) (g : Fitting table s values outbox k t bs q e) where
   abbrev w : Table

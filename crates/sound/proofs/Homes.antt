@@ -1,9 +1,9 @@
--- The numbers of parameters and of their modules. Assumes nothing.
-use Prim.Native.Nat.{ℕ, zero, suc, _+_, _≤_, _<_}
+-- The module that a parameter has. Assumes nothing.
+use Prim.Native.Nat.{ℕ, zero, suc, _+_, _<_}
 use native.Mathlib.Omega.{arith}
 use mathlib.Core.List.{List, [], _∷_, _++_, map}
-use mathlib.Core.Option.{Option, none, some}
-use mathlib.Core.Path.{_≡_, refl, ap}
+use mathlib.Core.Option.{some}
+use mathlib.Core.Path.{_≡_, ap}
 use lib.ListN.{length, getElem?}
 use Rattle.table.specs.Table.{Accessible, Parameter, Module, Table}
 use Rattle.table.specs.Search.{Placed, parametersOf, placedFrom, parameters}
@@ -30,9 +30,3 @@ module _ {A : Type 0} (of : List Accessible → List A) where
 pub parameter-home : (w : Table) (k : ℕ) (p : Placed Parameter) → getElem? (parameters w) k ≡ some p → p .home < length (w .modules)
 unfolding parameters
 parameter-home w k p e = omega (arith, home-low parametersOf (w .modules) 0 k p e)
-
--- past the last element there is none
-pub past-none : {A : Type 0} (l : List A) (i : ℕ) → length l ≤ i → getElem? l i ≡ none
-past-none [] i h = refl
-past-none (x ∷ l) zero h = absurd (omega arith)
-past-none (x ∷ l) (suc i) h = past-none l i (omega arith)
