@@ -11,6 +11,9 @@ ghost use lib.ListN.{length};
 ghost use Rattle.plain.specs.Calls.{Open, Close};
 ghost use Rattle.promise.specs.Promise.{Kept};
 
+// A client has a "number 0 to 7".
+const LAST_CLIENT: u64 = 7;
+
 // "Open begins with an empty line and nothing active".
 #[no_mangle]
 pub extern "C" fn jihfasul_open(
@@ -26,7 +29,7 @@ pub extern "C" fn jihfasul_open(
     if number != 0 {
         return quiet(number, state);
     }
-    if client > 7 {
+    if client > LAST_CLIENT {
         return quiet(11, state);
     }
     let c = client as usize;
@@ -60,7 +63,7 @@ pub extern "C" fn jihfasul_close(
     if number != 0 {
         return quiet(number, state);
     }
-    if client > 7 {
+    if client > LAST_CLIENT {
         return quiet(11, state);
     }
     let c = client as usize;

@@ -1,4 +1,6 @@
 -- `node::clients::jihfasul_open` meets its contract. Assumes nothing.
+use Prim.Native.Nat.{_<_}
+use native.Mathlib.Omega.{arith}
 use borrow.Author.Needs.{needs}
 use Rattle.node.proofs.clients.jihfasul_open.Statement.{statement}
 use Rattle.node.proofs.clients.jihfasul_open.Tie as tie
@@ -17,7 +19,9 @@ quiet-requires-2 : tie.Need-quiet-requires-2
 quiet-requires-2 c κs = search needs
 
 returns-2 : tie.Need-returns-2
-returns-2 c = search open-high
+returns-2 c =
+    let high : 7 < c .before .before .before .before .before .before .args .client = omega arith in
+    search open-high
 
 is-open-requires : tie.Need-is-open-requires
 is-open-requires c κs = search needs
