@@ -37,7 +37,8 @@ use Rattle.state.proofs.Flags.{neither, nor}
 use Rattle.state.proofs.Kept.{still-fit}
 use Rattle.state.proofs.Settled as Settled
 use Rattle.state.proofs.Settled.{some-stored, stored-fit}
-use Rattle.state.proofs.Views.{placed, client-view, value-view}
+use Rattle.sound.proofs.Lists.{there-low}
+use Rattle.state.proofs.Views.{client-view, value-view}
 use Rattle.outcome.specs.Area.{withSetting}
 use Rattle.outcome.specs.Outcome.{Carries, Refuses, Sends, Activates, Stores, OutcomeIs, Comes, Answers}
 use Rattle.outcome.specs.Ready.{Ready}
@@ -131,7 +132,7 @@ module _ (table : List ℕ) (s : State) (values before : List ℕ) (c t : ℕ) (
     unfolding isUnfit
     stored-answered z h k size written x y =
         let d = x .parameter .it .datainfo in
-        let low : k < 64 = omega (arith, placed (parameters w) k (x .parameter) (x .there), accepted table (given .lent .accepted) .few) in
+        let low : k < 64 = omega (arith, there-low (parameters w) k (x .parameter) (x .there), accepted table (given .lent .accepted) .few) in
         let short = short-stored d (x .text) (x .fits) in
         let long = some-stored d (x .text) (x .fits) in
         let settings : r .state .settings ≡ Settled.withSetting (s .settings) k (length (x .text)) t = rw (← (x .long)) (y .settings) in
@@ -173,7 +174,7 @@ module _ (table : List ℕ) (s : State) (values before : List ℕ) (c t : ℕ) (
     concludable mid stored o (Sent written) x = tt
     concludable mid stored o (Active mask written) x = tt
     concludable mid stored o (Stored k size written) x =
-        (omega (arith, placed (parameters w) k (x .parameter) (x .there), accepted table (given .lent .accepted) .few), rw (x .long) (short-stored (x .parameter .it .datainfo) (x .text) (x .fits)))
+        (omega (arith, there-low (parameters w) k (x .parameter) (x .there), accepted table (given .lent .accepted) .few), rw (x .long) (short-stored (x .parameter .it .datainfo) (x .text) (x .fits)))
 
     pub line-answered :
         (asked : Request) → Asks xs a p asked → Settled.Sized (s .settings) → t ≤ latest

@@ -3,4 +3,5 @@ pub mod clients;
 pub mod feed;
 pub mod judge;
 pub mod pieces;
+pub mod readings;
 pub mod start;

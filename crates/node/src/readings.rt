@@ -16,6 +16,7 @@ use update::put_updates_to;
 ghost use lib.ListN.{length};
 ghost use Rattle.plain.specs.Calls.{Reading};
 ghost use Rattle.promise.specs.Promise.{Kept};
+ghost use Rattle.node.specs.Taken.{Fitting};
 
 // "An accepted reading stores the value and sends the updates only."
 fn take_reading(
@@ -28,7 +29,10 @@ fn take_reading(
     bytes: &[u8],
     p: ParameterAt,
     home: Cursor,
-) -> Done {
+) -> Done
+    requires { ⌜ Fitting (now table) state (now values) (now outbox) k time (now bytes) p home ⌝ }
+    ensures { λ r. ⌜ Kept (now (table .entry)) (Reading k (now (bytes .entry)) time (length (now (values .entry))) (length (now (outbox .entry)))) state (now (values .entry)) (now (outbox .entry)) r (now (values .exit)) (now (outbox .exit)) ⌝ }
+{
     let clients = state.clients;
     let at = 256 * k;
     let end = put_compact(values, at, bytes);

@@ -1,5 +1,6 @@
 pub mod Lists
 pub mod Accepted
+pub mod Homes
 pub mod Values
 pub mod Records
 pub mod Room

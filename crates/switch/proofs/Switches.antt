@@ -1,12 +1,12 @@
 -- Laws of requests that alter a client's active modules: the modules that are found, the bits of masks, and the records. Assumes nothing.
-use Prim.Native.Nat.{ℕ, zero, suc, _≤_, _<_}
+use Prim.Native.Nat.{ℕ, suc, _≤_, _<_}
 use native.Mathlib.Omega.{arith}
 use mathlib.Core.Path.{_≡_, refl, sym, ap, subst, fun-ext, _∙_}
 use mathlib.Core.Bool.{Bool, true, false, cond, not, _&&_, _||_}
 use mathlib.Core.List.{List, [], _∷_, _++_, map}
 use mathlib.Core.Option.{Option, none, some}
 use lib.Dec.{eqb, ltb}
-use lib.ListN.{length, getD, getElem?}
+use lib.ListN.{length, getD}
 use borrow.Author.Tests.{eqb-true, lt-ltb, le-ltb}
 use borrow.Author.Needs.{length-unmapped}
 use Rattle.ascii.specs.Names.{isName}
@@ -28,7 +28,7 @@ use Rattle.outbox.specs.Theorems.{Named}
 use Rattle.plain.specs.Node.{Client, closed, connected, Value, Node, withClient, isActive, activated, reportOf, updatesOf}
 use Rattle.plain.specs.Answer.{refused, carried, found, activates, deactivates, inScope, outcome}
 use Rattle.sound.specs.Theorems.{ClientHeld, Sound}
-use Rattle.sound.proofs.Lists.{each-at}
+use Rattle.sound.proofs.Lists.{each-at, there-low}
 use Rattle.sound.proofs.Accepted.{GoodModule, accepted, accepted-whole}
 use Rattle.sound.proofs.Records.{says-inactive, written-final}
 use Rattle.sound.proofs.Room.{puts-none, puts-after, room-after}
@@ -45,11 +45,6 @@ use Rattle.outcome.specs.Outcome.{Activates, Refuses}
 use Rattle.outcome.specs.Ready.{Ready}
 
 -- ## A module that is found
-
-there-low : {A : Type 0} (l : List A) (i : ℕ) (x : A) → getElem? l i ≡ some x → i < length l
-there-low [] i x e = let z : _≡_ {A = ℕ} 0 1 = cc in absurd (omega arith)
-there-low (y ∷ l) zero x e = omega arith
-there-low (y ∷ l) (suc i) x e = let h = there-low l i x e in omega arith
 
 -- the module of a name in an accepted table has the number i
 pub record ModuleFound (table name : List ℕ) (i : ℕ) : Type 0 where
