@@ -18,7 +18,8 @@ ghost use Rattle.plain.specs.Calls.{Reading};
 ghost use Rattle.promise.specs.Promise.{Kept};
 ghost use Rattle.node.specs.Taken.{Fitting};
 
-// "An accepted reading stores the value and sends the updates only."
+// "An accepted reading stores the value and sends the updates only.": parameter k, of which p has the positions; `home` is the cursor after
+// it, in its module.
 fn take_reading(
     table: &[u8],
     values: &mut [u8],
@@ -58,6 +59,8 @@ fn take_reading(
     }
 }
 
+// "a driver's value for a parameter, numbered from 0 in table order over parameters only". A table has 64 at most. Number 14: "no such
+// parameter number"; 15: "reading refused by the value rules".
 #[no_mangle]
 pub extern "C" fn jihfasul_reading(
     table: &[u8],
