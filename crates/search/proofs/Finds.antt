@@ -11,7 +11,7 @@ use lib.Dec.{eqb}
 use borrow.Author.Tests.{eqb-true, not-true, not-false}
 use Rattle.ascii.specs.Bytes.{same}
 use Rattle.table.specs.Table as Table
-use Rattle.table.specs.Search.{Placed, parametersOf, commandsOf, parameters, commands, firstFrom, first, findParameter, findCommand}
+use Rattle.table.specs.Search.{Placed, parametersOf, commandsOf, parameters, commands, firstFrom, first, findModule, findParameter, findCommand}
 use Rattle.table.specs.declared.layout.ParameterAt.{ParameterAt}
 use Rattle.table.specs.declared.layout.CommandAt.{CommandAt}
 use Rattle.table.specs.At.{bytesOf, Inside, parameterOf, commandOf}
@@ -22,7 +22,7 @@ use Rattle.search.specs.declared.cursor.NextParameter as P
 use Rattle.search.specs.declared.cursor.NextCommand as C
 use Rattle.search.specs.Left.{placed, leftFrom, Fits, After, FirstIs, Begins, Ended, InTable, FirstCursor, NextParameterIs, NextCommandIs}
 use Rattle.search.proofs.Walks.{walk-less}
-use Rattle.search.specs.Found.{ParameterFound, CommandFound, ParameterNumbered}
+use Rattle.search.specs.Found.{isCalled, ParameterFound, CommandFound, ParameterNumbered}
 
 -- ## Lists
 
@@ -107,6 +107,16 @@ parameterName p = p .name
 
 abbrev commandName : Table.Command → List ℕ
 commandName p = p .name
+
+-- a module that is found stands at its number, and has the name
+module _ (t : Table.Table) (m : List ℕ) (k : ℕ × Table.Module) (e : findModule t m ≡ some k) where
+  pub module-there : getElem? (t .modules) (k .0) ≡ some (k .1)
+  unfolding findModule
+  module-there = first-there (isCalled m) (t .modules) k e
+
+  pub module-named : k .1 .name ≡ m
+  unfolding findModule
+  module-named = sym (same-is m (k .1 .name) (first-passes (isCalled m) (t .modules) k e))
 
 -- a parameter that is found stands at its number, and has both names
 module _ (t : Table.Table) (m a : List ℕ) (k : ℕ × Placed Table.Parameter) (e : findParameter t m a ≡ some k) where

@@ -1,7 +1,7 @@
 -- What an accepted call says of its table and its time, and what an accepted table says of its parameters and commands.
 -- Assumes nothing.
 use Prim.Native.Nat.{ℕ, zero, suc, _≤_}
-use mathlib.Core.Bool.{Bool, true, false, not, _&&_}
+use mathlib.Core.Bool.{Bool, true, false, cond, not, _&&_}
 use mathlib.Core.List.{List, [], _∷_, map}
 use mathlib.Core.Option.{Option, none, some}
 use mathlib.Core.Path.{_≡_, refl}
@@ -15,7 +15,7 @@ use Rattle.ascii.specs.Numbers.{latest}
 use Rattle.datainfo.specs.Rules.{isBetween, goodNames}
 use Rattle.fit.specs.Fit.{isStored}
 use Rattle.table.specs.Table.{Parameter, Command, Accessible, parameter, command, Module, Table}
-use Rattle.table.specs.Layout.{readTable, orEmpty, tableOf}
+use Rattle.table.specs.Layout.{wholeTable, readTable, orEmpty, tableOf}
 use Rattle.table.specs.Rules.{accessibleName, accessibleCount, countsGood, noteGood, accessibleNamesGood, moduleNamesGood, namesGood, initialGood, initialsGood}
 use Rattle.table.specs.Search.{Placed, parametersOf, commandsOf, placedFrom, parameters, commands}
 use Rattle.report.specs.Report.{report}
@@ -52,7 +52,7 @@ GoodNames m a = (isName m ≡ true) × (isName a ≡ true)
 abbrev GoodAccessible : Accessible → Type 0
 GoodAccessible a = (isName (accessibleName a) ≡ true) × (initialGood a ≡ true)
 
-abbrev GoodModule : Module → Type 0
+abbrev pub GoodModule : Module → Type 0
 GoodModule m = (isName (m .name) ≡ true) × Each GoodAccessible (m .accessibles)
 
 abbrev pub GoodParameter : Placed Parameter → Type 0
@@ -88,6 +88,12 @@ parameters-count [] = omega arith
 parameters-count (parameter p ∷ l) = omega (arith, parameters-count l)
 parameters-count (command c ∷ l) = omega (arith, parameters-count l)
 
+commands-count : (l : List Accessible) → length (commandsOf l) ≤ length l
+unfolding commandsOf
+commands-count [] = omega arith
+commands-count (parameter p ∷ l) = omega (arith, commands-count l)
+commands-count (command c ∷ l) = omega (arith, commands-count l)
+
 parameters-good : (n : ℕ) (name : List ℕ) → isName name ≡ true → (l : List Accessible) → Each GoodAccessible l
     → Each (λ (a : Parameter). GoodParameter (record { home = n; moduleName = name; it = a })) (parametersOf l)
 unfolding parametersOf accessibleName initialGood
@@ -105,9 +111,12 @@ commands-good n name e (command c ∷ l) h = ((e, h .0 .0), commands-good n name
 -- ## Accepted tables
 
 pub record Accepted (w : Table) : Type 0 where
+  pub allModules : Each GoodModule (w .modules)
+  pub fewModules : length (w .modules) ≤ 16
   pub allParameters : Each GoodParameter (parameters w)
   pub allCommands : Each GoodCommand (commands w)
   pub few : length (parameters w) ≤ 64
+  pub fewCommands : length (commands w) ≤ 64
   pub short : length (report w) ≤ 32000
 
 good-module : (m : Module) → isName (m .name) ≡ true → moduleNamesGood m ≡ true → all initialGood (m .accessibles) ≡ true
@@ -133,7 +142,7 @@ good-modules (m ∷ ms) e f g =
     (good-module m (a .0) (b .0) (c .0), good-modules ms (a .1) (b .1) (c .1))
 
 accepted-tree : (w : Table) → treeNumber w ≡ 0 → Accepted w
-unfolding treeNumber countsGood namesGood goodNames initialsGood parameters commands
+unfolding treeNumber countsGood namesGood goodNames initialsGood parameters commands isBetween
 accepted-tree w e =
     let none-of = lowest-none _ e in
     let h2 = not-false (countsGood w) (no-fault 1 (not (countsGood w)) (none-of 0)) in
@@ -147,10 +156,14 @@ accepted-tree w e =
     let b = both texts (all isName names && unique names) (a .0) in
     let d = both (all isName names) (unique names) (b .1) in
     let ms = good-modules (w .modules) (d .0) (a .1) h5 in
+    let between = both (leb 1 (length (w .modules))) (leb (length (w .modules)) 16) (c .0) in
     record {
+      allModules = ms;
+      fewModules = leb-true (length (w .modules)) 16 (between .1);
       allParameters = placed parametersOf GoodParameter parameters-good 0 (w .modules) ms;
       allCommands = placed commandsOf GoodCommand commands-good 0 (w .modules) ms;
       few = omega (arith, placed-count parametersOf parameters-count 0 (w .modules), leb-true (accessibleCount (w .modules)) 64 (c .1));
+      fewCommands = omega (arith, placed-count commandsOf commands-count 0 (w .modules), leb-true (accessibleCount (w .modules)) 64 (c .1));
       short = ltb-false 32000 (length (report w)) h6;
     }
 
@@ -161,3 +174,13 @@ accepted table e = go (readTable table) e
     go : (o : Option Table) → numberOf o ≡ 0 → Accepted (orEmpty o)
     go none e = absurd (omega arith)
     go (some w) e = accepted-tree w e
+
+-- an accepted table can be read
+pub accepted-whole : (table : List ℕ) → tableNumber table ≡ 0 → wholeTable table ≡ some (tableOf table)
+unfolding tableNumber tableOf numberOf orEmpty readTable
+accepted-whole table e = go (leb (length table) 16384) (wholeTable table) e
+  where
+    go : (b : Bool) (o : Option Table) → numberOf (cond b o none) ≡ 0 → o ≡ some (orEmpty (cond b o none))
+    go true none e = absurd (omega arith)
+    go true (some w) e = refl
+    go false o e = absurd (omega arith)

@@ -1,7 +1,9 @@
 pub mod Lists
 pub mod Accepted
+pub mod Homes
 pub mod Values
 pub mod Records
+pub mod Room
 pub mod Lines
 pub mod Held
 pub mod Steps

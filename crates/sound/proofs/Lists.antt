@@ -1,11 +1,11 @@
 -- What holds of each element of a list, and what tests and searches that pass say of it. Assumes nothing.
-use Prim.Native.Nat.{ℕ, zero, suc, _+_}
+use Prim.Native.Nat.{ℕ, zero, suc, _+_, _≤_, _<_}
 use mathlib.Core.Bool.{Bool, true, false, cond, _&&_, and-eq-true-iff}
 use mathlib.Core.List.{List, [], _∷_, _++_, map}
-use mathlib.Core.Option.{some}
+use mathlib.Core.Option.{none, some}
 use mathlib.Core.Path.{_≡_, refl, ap, subst}
 use native.Mathlib.Omega.{arith}
-use lib.ListN.{getElem?}
+use lib.ListN.{length, getElem?}
 use Rattle.ascii.specs.Bytes.{all, takeWhile}
 use Rattle.table.specs.Search.{firstFrom, first}
 
@@ -27,6 +27,17 @@ module _ {A : Type 0} where
   each-at P [] h k x e = let z : _≡_ {A = ℕ} 0 1 = cc in absurd (omega arith)
   each-at P (y ∷ l) h zero x e = subst P (cc) (h .0)
   each-at P (y ∷ l) h (suc k) x e = each-at P l (h .1) k x e
+
+  -- an element that is there has a number below the length, and past the last there is none
+  pub there-low : (l : List A) (k : ℕ) (x : A) → getElem? l k ≡ some x → k < length l
+  there-low [] k x e = let z : _≡_ {A = ℕ} 0 1 = cc in absurd (omega arith)
+  there-low (y ∷ l) zero x e = omega arith
+  there-low (y ∷ l) (suc k) x e = let h = there-low l k x e in omega arith
+
+  pub past-none : (l : List A) (k : ℕ) → length l ≤ k → getElem? l k ≡ none
+  past-none [] k h = refl
+  past-none (x ∷ l) zero h = absurd (omega arith)
+  past-none (x ∷ l) (suc k) h = past-none l k (omega arith)
 
   pub each-append : (P : A → Type 0) (l m : List A) → Each P l → Each P m → Each P (l ++ m)
   each-append P [] m h k = k

@@ -42,14 +42,14 @@ pub record Kept (w : Table) (n : Node) (rs : List Record) : Type 0 where
   pub written : Written rs 32019
 
 -- what is left and written where a request comes to this; an error is for `concluded`
-abbrev Comes : Table → ℕ → Outcome → Type 0
+abbrev pub Comes : Table → ℕ → Outcome → Type 0
 Comes w c (refused e) = Unit {0}
 Comes w c (carried m rs r) = Kept w m (rs ++ (final c r ∷ []))
 
 -- ## Lines, on an accepted table, at a sound node
 
 module _ (w : Table) (a : Accepted w) (n : Node) (s : Sound w n) where
-  fine : (k : ℕ) (p : Placed Parameter) → getElem? (parameters w) k ≡ some p → (v : Value) → ValueHeld (p .it) v
+  pub fine : (k : ℕ) (p : Placed Parameter) → getElem? (parameters w) k ≡ some p → (v : Value) → ValueHeld (p .it) v
       → Fine (reportOf p v)
   fine k p e v h =
       record {
@@ -107,7 +107,7 @@ module _ (w : Table) (a : Accepted w) (n : Node) (s : Sound w n) where
     comes-letIn wrongType o g = tt
     comes-letIn badJSON o g = tt
 
-    comes-activates : (wanted : ℕ → Bool) (m : Option (List ℕ)) → Named m → Comes w c (activates w n c t wanted m)
+    pub comes-activates : (wanted : ℕ → Bool) (m : Option (List ℕ)) → Named m → Comes w c (activates w n c t wanted m)
     unfolding activates
     comes-activates wanted m e =
         let there : (j : ℕ) (p : Placed Parameter) → getElem? (parameters w) j ≡ some p → Fine (reportOf p (n .values (0 + j))) =
@@ -116,7 +116,7 @@ module _ (w : Table) (a : Accepted w) (n : Node) (s : Sound w n) where
         (with-client w n c _ low (more-active w (n .clients c) wanted (s .clients c)) s)
         (written-of c wanted (n .values) 0 (parameters w) there) (says-active m e) (omega (arith, a .few))
 
-    comes-deactivates : (wanted : ℕ → Bool) (m : Option (List ℕ)) → Named m → Comes w c (deactivates w n c t wanted m)
+    pub comes-deactivates : (wanted : ℕ → Bool) (m : Option (List ℕ)) → Named m → Comes w c (deactivates w n c t wanted m)
     unfolding deactivates
     comes-deactivates wanted m e =
         comes _ [] (inactive m) 0 72
@@ -130,14 +130,14 @@ module _ (w : Table) (a : Accepted w) (n : Node) (s : Sound w n) where
     comes-inScope f g (some m) e =
         comes-found NoSuchModule (findModule w m) (λ x. f (λ i. eqb i (x .0)) (some m)) λ x q. g (λ i. eqb i (x .0)) (some m) e
 
-    comes-reads : (k : ℕ × Placed Parameter) → getElem? (parameters w) (k .0) ≡ some (k .1) → Comes w c (reads w n c t k)
+    pub comes-reads : (k : ℕ × Placed Parameter) → getElem? (parameters w) (k .0) ≡ some (k .1) → Comes w c (reads w n c t k)
     unfolding reads
     comes-reads k e =
         let v = n .values (k .0) in
         only (reply (reportOf (k .1) v)) 415
         (says-reply (reportOf (k .1) v) (fine (k .0) (k .1) e v (s .values (k .0) (k .1) e))) (omega arith)
 
-    comes-changes : (v : List ℕ) (k : ℕ × Placed Parameter) → getElem? (parameters w) (k .0) ≡ some (k .1)
+    pub comes-changes : (v : List ℕ) (k : ℕ × Placed Parameter) → getElem? (parameters w) (k .0) ≡ some (k .1)
         → Comes w c (changes w n c t v k)
     unfolding changes sets body
     comes-changes v k e =

@@ -31,7 +31,7 @@ use Rattle.state.proofs.Cells as Cells
 use Rattle.state.proofs.Settled as Settled
 use Rattle.state.proofs.Kept.{each-fit}
 
-was-read : (table : List ℕ) → tableNumber table ≡ 0 → readTable table ≡ some (tableOf table)
+pub was-read : (table : List ℕ) → tableNumber table ≡ 0 → readTable table ≡ some (tableOf table)
 unfolding tableNumber tableOf numberOf orEmpty
 was-read table e = go (readTable table) e
   where
@@ -81,7 +81,7 @@ module _ (w : Table) (s : Clients) (z : Sized s) (fit : any (clientUnfit (length
 -- ## Values
 
 module _ (table : List ℕ) (e : tableNumber table ≡ 0) (s : State) (values : List ℕ) (fit : settingsUnfit (s .settings) values 0 (parameters (tableOf table)) ≡ false) where
-  value-held : (k : ℕ) (p : Placed Parameter) → getElem? (parameters (tableOf table)) k ≡ some p → ValueHeld (p .it) (valueAt table (s .settings) values k (getElem? (parameters (tableOf table)) k))
+  pub value-held : (k : ℕ) (p : Placed Parameter) → getElem? (parameters (tableOf table)) k ≡ some p → ValueHeld (p .it) (valueAt table (s .settings) values k (getElem? (parameters (tableOf table)) k))
   unfolding valueAt shown
   value-held k p h =
       rw h (go (eqb (getD (s .settings .length) k 0) 0) (f .form), f .inTime)

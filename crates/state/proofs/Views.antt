@@ -1,9 +1,8 @@
 -- Laws of the plain node that a state stands for: a change of the state is the plain node's own small change. Assumes nothing.
-use Prim.Native.Nat.{ℕ, zero, suc, _≤_, _<_}
-use native.Mathlib.Omega.{arith}
+use Prim.Native.Nat.{ℕ, _≤_, _<_}
 use mathlib.Core.Path.{_≡_, refl, ap, ap₂, fun-ext}
 use mathlib.Core.Bool.{false}
-use mathlib.Core.List.{List, [], _∷_}
+use mathlib.Core.List.{List}
 use mathlib.Core.Option.{Option, none, some}
 use lib.ListN.{length, getD, getElem?}
 use Rattle.table.specs.Table.{Parameter, Table}
@@ -11,6 +10,7 @@ use Rattle.table.specs.Layout.{readTable, orEmpty, tableOf}
 use Rattle.table.specs.Search.{Placed, parameters}
 use Rattle.table.proofs.Places.{initial-lies}
 use Rattle.plain.specs.Node.{Client, closed, Value, withClient, withValue, initially, begin}
+use Rattle.sound.proofs.Lists.{there-low}
 use Rattle.state.specs.declared.Clients.{Clients}
 use Rattle.state.specs.declared.Settings.{Settings}
 use Rattle.state.specs.declared.State.{State}
@@ -18,12 +18,6 @@ use Rattle.state.specs.View.{shown, valueAt, clientAt, view, withStored}
 use Rattle.state.specs.Fit.{settingsUnfit}
 use Rattle.state.specs.Becomes.{Becomes}
 use Rattle.state.proofs.Settled.{Sized, withSetting, stored-view}
-
--- an element that is there has a number below the length
-placed : {A : Type 0} (l : List A) (p : ℕ) (x : A) → getElem? l p ≡ some x → p < length l
-placed [] p x e = let z : _≡_ {A = ℕ} 0 1 = cc in absurd (omega arith)
-placed (y ∷ l) zero x e = omega arith
-placed (y ∷ l) (suc p) x e = let h = placed l p x e in omega arith
 
 -- one client becomes another
 pub client-view : (table : List ℕ) (s : State) (values : List ℕ) {r : Clients} {c : ℕ} {x : Client} {condition : ℕ → Type 0} → Becomes (s .clients) c x condition r
@@ -54,7 +48,7 @@ module _ (table : List ℕ) (w : Table) (read : readTable table ≡ some w) (s :
     where
       go : (o : Option (Placed Parameter)) → getElem? (parameters w) p ≡ o → valueAt table s values p o ≡ initially o t
       go none e = refl
-      go (some x) e = rw (never-set p x e (n p (placed (parameters w) p x e)), m p (placed (parameters w) p x e))
+      go (some x) e = rw (never-set p x e (n p (there-low (parameters w) p x e)), m p (there-low (parameters w) p x e))
 
 -- the node after an accepted start: no client is open, nothing is set, and all times are the start's
 pub begun-view : (table : List ℕ) (w : Table) → readTable table ≡ some w → (s : State) (values : List ℕ) (t : ℕ) → ((c : ℕ) → clientAt (s .clients) c ≡ closed)

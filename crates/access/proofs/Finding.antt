@@ -1,0 +1,165 @@
+-- Modules, parameters and commands that are found in an accepted table. Assumes nothing.
+use Prim.Native.Nat.{ℕ, zero, suc, _+_, _-_, _≤_, _<_}
+use native.Mathlib.Omega.{arith}
+use mathlib.Core.Path.{_≡_, refl, ap, subst}
+use mathlib.Core.Bool.{true}
+use mathlib.Core.List.{List, [], _∷_, _++_, map}
+use mathlib.Core.Option.{none, some}
+use lib.ListN.{length, take, drop, getElem?, length-drop}
+use lib.Seq.{length-take-le}
+use Rattle.ascii.specs.Bytes.{isSome}
+use Rattle.ascii.specs.Names.{isName}
+use Rattle.datainfo.specs.Layout.{datainfoAt}
+use Rattle.table.specs.Table.{Accessible, Parameter, Command, Module}
+use Rattle.table.specs.Layout.{argumentAt, tableOf}
+use Rattle.table.specs.Search.{Placed, parametersOf, placedFrom, parameters, commands, findModule, findParameter, findCommand}
+use Rattle.table.specs.At.{bytesOf, Inside, parameterOf, commandOf}
+use Rattle.table.specs.declared.layout.ParameterAt.{ParameterAt}
+use Rattle.table.specs.declared.layout.CommandAt.{CommandAt}
+use Rattle.table.proofs.Accessibles.{in-some}
+use Rattle.report.specs.Judge.{tableNumber}
+use Rattle.search.specs.Left.{InTable}
+use Rattle.search.specs.Found.{FindsModule, FindsParameter, ParameterFound, FindsCommand, CommandFound}
+use Rattle.search.specs.declared.find.FoundModule as F
+use Rattle.search.specs.declared.find.FoundParameter as P
+use Rattle.search.specs.declared.find.FoundCommand as C
+use Rattle.search.proofs.Finds.{parameter-there, parameter-named, command-there, command-named}
+use Rattle.sound.proofs.Lists.{each-at}
+use Rattle.sound.proofs.Accepted.{GoodParameter, GoodCommand, accepted, accepted-whole}
+
+pub there-low : {A : Type 0} (l : List A) (i : ℕ) (x : A) → getElem? l i ≡ some x → i < length l
+there-low [] i x e = let z : _≡_ {A = ℕ} 0 1 = cc in absurd (omega arith)
+there-low (y ∷ l) zero x e = omega arith
+there-low (y ∷ l) (suc i) x e = let h = there-low l i x e in omega arith
+
+-- ## Modules
+
+module _ (s : List ℕ) (a : tableNumber s ≡ 0) (m : List ℕ) (r : F.FoundModule) (f : InTable s λ t. FindsModule s r (findModule t m)) where
+  pub no-module : r ≡ F.the-variants.Nothing → findModule (tableOf s) m ≡ none
+  no-module e = (rw e at f) (tableOf s) (accepted-whole s a)
+
+  pub has-module : (n i : ℕ) → r ≡ F.the-variants.At n i → isSome (findModule (tableOf s) m) ≡ true
+  has-module n i e = ap isSome ((rw e at f) (tableOf s) (accepted-whole s a) .is)
+
+-- ## Commands
+
+-- command k of an accepted table, whose names are m and a, and of which q has the positions
+pub record CommandKnown (s m a : List ℕ) (k : ℕ) (q : CommandAt) : Type 0 where
+  pub it : Placed Command
+  pub is : findCommand (tableOf s) m a ≡ some (k, it)
+  pub low : k < 64
+  pub moduleNamed : it .moduleName ≡ m
+  pub named : it .it .name ≡ a
+  pub goodModule : isName m ≡ true
+  pub goodName : isName a ≡ true
+  pub left : List ℕ
+  pub argument : argumentAt (q .argument) (drop (q .info) s) ≡ some (it .it .argument, left)
+  pub within : q .info ≤ length s
+
+module _ (s : List ℕ) (e : tableNumber s ≡ 0) (m a : List ℕ) (r : C.FoundCommand) (f : FindsCommand s m a r) where
+  pub no-command : r ≡ C.the-variants.Nothing → findCommand (tableOf s) m a ≡ none
+  no-command z = (rw z at f) (tableOf s) (accepted-whole s e)
+
+  pub command-known : (k h : ℕ) (q : CommandAt) → r ≡ C.the-variants.At k h q → CommandKnown s m a k q
+  unfolding commandOf
+  command-known k h q z =
+      let g : CommandFound s m a k h q = rw z at f in
+      let it : Placed Command = record { home = h; moduleName = m; it = commandOf s q (g .held .argument) } in
+      let is = g .is (tableOf s) (accepted-whole s e) in
+      let there = command-there (tableOf s) m a (k, it) is in
+      let named = command-named (tableOf s) m a (k, it) is in
+      let w = accepted s e in
+      let few = w .fewCommands in
+      let names = each-at GoodCommand (commands (tableOf s)) (w .allCommands) k it there in
+      record {
+        it = it;
+        is = is;
+        low = omega (arith, there-low (commands (tableOf s)) k it there);
+        moduleNamed = refl;
+        named = named .1;
+        goodModule = names .0;
+        goodName = subst (λ (x : List ℕ). isName x ≡ true) (named .1) (names .1);
+        left = g .held .left;
+        argument = g .held .info;
+        within = g .held .infoWithin;
+      }
+
+-- ## Parameters
+
+-- the module of a parameter or a command is one of the table's
+module _ {A : Type 0} (of : List Accessible → List A) where
+  home-of : (n : ℕ) (name : List ℕ) (l : List A) (more : List (Placed A)) (b : ℕ) → n < b
+      → ((i : ℕ) (x : Placed A) → getElem? more i ≡ some x → x .home < b) → (i : ℕ) (x : Placed A)
+      → getElem? (map (λ (a : A). record { home = n; moduleName = name; it = a }) l ++ more) i ≡ some x → x .home < b
+  home-of n name [] more b h f i x e = f i x e
+  home-of n name (a ∷ l) more b h f zero x e =
+      let q : _≡_ {A = Placed A} (record { home = n; moduleName = name; it = a }) x = in-some e in
+      omega (arith, ap (λ (y : Placed A). y .home) q)
+  home-of n name (a ∷ l) more b h f (suc i) x e = home-of n name l more b h f i x e
+
+  home-low : (ms : List Module) (n i : ℕ) (x : Placed A) → getElem? (placedFrom of n ms) i ≡ some x → x .home < n + length ms
+  unfolding placedFrom
+  home-low [] n i x e = let z : _≡_ {A = ℕ} 0 1 = cc in absurd (omega arith)
+  home-low (m ∷ ms) n i x e =
+      home-of n (m .name) (of (m .accessibles)) (placedFrom of (suc n) ms) (n + suc (length ms)) (omega arith)
+      (λ j y q. omega (arith, home-low ms (suc n) j y q)) i x e
+
+-- parameter k of an accepted table, of the module of number h, whose names are m and a, and of which q has the positions
+pub record ParameterKnown (s m a : List ℕ) (k h : ℕ) (q : ParameterAt) : Type 0 where
+  pub it : Placed Parameter
+  pub is : findParameter (tableOf s) m a ≡ some (k, it)
+  pub there : getElem? (parameters (tableOf s)) k ≡ some it
+  pub low : k < 64
+  pub home : it .home ≡ h
+  pub homeLow : h < 16
+  pub moduleNamed : it .moduleName ≡ m
+  pub named : it .it .name ≡ a
+  pub goodModule : isName m ≡ true
+  pub goodName : isName a ≡ true
+  pub readonly : it .it .readonly ≡ q .readonly
+  pub left : List ℕ
+  pub info : datainfoAt (drop (q .info) s) ≡ some (it .it .datainfo, left)
+  pub within : q .info ≤ length s
+  pub inside : Inside s (q .initial)
+  pub initial : take (length (it .it .initial)) (drop (it .it .place) s) ≡ bytesOf s (q .initial)
+
+take-itself : (n : ℕ) (xs : List ℕ) → n ≤ length xs → take (length (take n xs)) xs ≡ take n xs
+take-itself n xs h = let e : length (take n xs) ≡ n = length-take-le n xs h in rw e
+
+module _ (s : List ℕ) (e : tableNumber s ≡ 0) (m a : List ℕ) (r : P.FoundParameter) (f : FindsParameter s m a r) where
+  pub no-parameter : r ≡ P.the-variants.Nothing → findParameter (tableOf s) m a ≡ none
+  no-parameter z = (rw z at f) (tableOf s) (accepted-whole s e)
+
+  pub parameter-known : (k h : ℕ) (q : ParameterAt) → r ≡ P.the-variants.At k h q → ParameterKnown s m a k h q
+  unfolding parameterOf bytesOf parameters
+  parameter-known k h q z =
+      let g : ParameterFound s m a k h q = rw z at f in
+      let it : Placed Parameter = record { home = h; moduleName = m; it = parameterOf s q (g .held .datainfo) } in
+      let is = g .is (tableOf s) (accepted-whole s e) in
+      let there = parameter-there (tableOf s) m a (k, it) is in
+      let named = parameter-named (tableOf s) m a (k, it) is in
+      let w = accepted s e in
+      let few = w .few in
+      let fewModules = w .fewModules in
+      let names = each-at GoodParameter (parameters (tableOf s)) (w .allParameters) k it there .0 in
+      let inside = g .held .initial in
+      let order = inside .order in
+      let within = inside .within in
+      record {
+        it = it;
+        is = is;
+        there = there;
+        low = omega (arith, there-low (parameters (tableOf s)) k it there);
+        home = refl;
+        homeLow = omega (arith, home-low parametersOf (tableOf s .modules) 0 k it there);
+        moduleNamed = refl;
+        named = named .1;
+        goodModule = names .0;
+        goodName = subst (λ (x : List ℕ). isName x ≡ true) (named .1) (names .1);
+        readonly = refl;
+        left = g .held .left;
+        info = g .held .info;
+        within = g .held .infoWithin;
+        inside = inside;
+        initial = take-itself (q .initial .to - q .initial .from) (drop (q .initial .from) s) (rw length-drop (omega arith));
+      }

@@ -1,0 +1,52 @@
+-- `access::setting::set` meets its contract. Assumes nothing.
+use Rattle.access.proofs.Sets.{value-settable, set-is}
+use borrow.Author.Needs.{needs}
+use Rattle.access.proofs.setting.set.Statement.{statement}
+use Rattle.access.proofs.setting.set.Tie as tie
+
+mul-at : tie.Need-mul-at
+mul-at c = search needs
+
+put-compact-requires : tie.Need-put-compact-requires
+put-compact-requires c κs = search needs
+
+sub-value : tie.Need-sub-value
+sub-value c = search needs
+
+part-value-start : tie.Need-part-value-start
+part-value-start c = search needs
+
+part-value-end : tie.Need-part-value-end
+part-value-end c = search needs
+
+put-set-requires : tie.Need-put-set-requires
+put-set-requires c κs =
+    value-settable _ _ _ _ _ _ (c .before .before .before .before .before .before .before .before .before .before .before .before .pre .0) _ _ (c .before .before .before .before .before .before .before .before .before .before .before .before .pre .1) _ _ (c .before .before .before .before .before .put-compact .ensures)
+
+sub-t18 : tie.Need-sub-t18
+sub-t18 c = search needs
+
+same-length : tie.Need-same-length
+same-length c = search needs
+
+same-length-2 : tie.Need-same-length-2
+same-length-2 c = search needs
+
+returns : tie.Need-returns
+returns c =
+    set-is _ _ _ _ _ _ (c .before .before .before .before .before .before .before .before .before .before .before .before .before .before .before .pre .0) _ _ (c .before .before .before .before .before .before .before .before .before .before .before .before .before .before .before .pre .1) _ _ (c .before .before .before .before .before .before .before .before .put-compact .ensures) _ _ _ _ (c .before .before .put-set .ensures)
+
+pub set-spec : {M : Type 1} → statement M
+set-spec =
+    tie.close
+    (tie.spec
+    mul-at
+    put-compact-requires
+    sub-value
+    part-value-start
+    part-value-end
+    put-set-requires
+    sub-t18
+    same-length
+    same-length-2
+    returns)

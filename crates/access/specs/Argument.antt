@@ -1,0 +1,49 @@
+-- What the code that carries out a command is given, and what it answers. Assumes nothing.
+use Prim.Native.Nat.{ℕ, _≤_, _<_}
+use mathlib.Core.Path.{_≡_}
+use mathlib.Core.Bool.{Bool, true, cond}
+use mathlib.Core.List.{List, [], _∷_}
+use mathlib.Core.Option.{Option, some}
+use lib.ListN.{length}
+use Rattle.ascii.specs.Text.{bytes}
+use Rattle.ascii.specs.Bytes.{isSome}
+use Rattle.ascii.specs.Names.{isName}
+use Rattle.ascii.specs.Numbers.{latest}
+use Rattle.datainfo.specs.Datainfo.{Datainfo}
+use Rattle.fit.specs.Fit.{storedForm, isFit}
+use Rattle.fit.specs.Verdict.{meaning}
+use Rattle.fit.specs.declared.Verdict.{Verdict}
+use Rattle.message.specs.Reply.{done}
+use Rattle.message.specs.Said.{reportOf}
+use Rattle.outbox.specs.Outbox.{Record, final, orderCommand}
+use Rattle.plain.specs.Answer.{argumentVerdict}
+
+-- r is the verdict on a text by the argument that o reads; where o can't be read, r is any
+pub record JudgesArgument (o : Option (Option Datainfo × List ℕ)) (xs : List ℕ) (r : Verdict) : Type 0 where
+  pub is : {a : Option Datainfo} {x : List ℕ} → o ≡ some (a, x) → meaning r ≡ argumentVerdict a xs
+
+-- a text that is let in, by the argument that is declared or where none is
+pub record LetIn (declared : Bool) (xs : List ℕ) : Type 0 where
+  pub argument : Option Datainfo
+  pub is : isSome argument ≡ declared
+  pub fits : isFit (argumentVerdict argument xs) ≡ true
+
+-- "the argument's stored form, or nothing where none is declared"
+unfoldable pub formOf : Bool → List ℕ → List ℕ
+formOf declared xs = cond declared (storedForm xs) []
+
+-- an order to carry out command k, with a text that is let in, and room for the records
+pub record Ordered (out : List ℕ) (k : ℕ) (declared : Bool) (xs : List ℕ) : Type 0 where
+  pub low : k < 64
+  pub argument : LetIn declared xs
+  pub room : 32768 ≤ length out
+
+-- a report of the command a of the module m at the time t can be written
+pub record Reported (m a : List ℕ) (t : ℕ) : Type 0 where
+  pub module-name : isName m ≡ true
+  pub name : isName a ≡ true
+  pub inTime : t ≤ latest
+
+-- "the driver's order, then `done M:C [null,{"t":now}]`"
+unfoldable pub orderRecords : ℕ → ℕ → List ℕ → List ℕ → List ℕ → ℕ → List Record
+orderRecords c k form m a t = orderCommand c k form ∷ (final c (done (reportOf m a (bytes "null") t)) ∷ [])

@@ -1,0 +1,46 @@
+-- What the code that sets a parameter is given, and what it answers. Assumes nothing.
+use Prim.Native.Nat.{ℕ, _≤_, _<_}
+use mathlib.Core.Path.{_≡_}
+use mathlib.Core.Bool.{true}
+use mathlib.Core.List.{List, [], _∷_, _++_}
+use lib.ListN.{length}
+use Rattle.ascii.specs.Names.{isName}
+use Rattle.ascii.specs.Numbers.{latest}
+use Rattle.ascii.specs.Writer.{Puts}
+use Rattle.datainfo.specs.Datainfo.{Datainfo}
+use Rattle.fit.specs.Fit.{isFit, verdict, storedForm}
+use Rattle.message.specs.Reply.{Report, changed}
+use Rattle.message.specs.Said.{reportOf}
+use Rattle.outbox.specs.Outbox.{Record, final, orderChange, encodeAll}
+use Rattle.plain.specs.Node.{clientNumbers, updatesTo}
+use Rattle.state.specs.declared.Clients.{Clients}
+use Rattle.state.specs.View.{clientAt, withStored}
+use Rattle.outcome.specs.declared.Outcome.{Outcome}
+use Rattle.outcome.specs.declared.Outcome.the-variants.{Stored}
+
+-- "the driver's order, an update to each open client with M active, .., then `changed M:P [..]`, with the stored form": parameter k of the
+-- module of number h, set by client c
+unfoldable pub setRecords : Clients → ℕ → ℕ → ℕ → Report → List Record
+setRecords s c k h r = orderChange c k (r .value) ∷ (updatesTo (clientAt s) h r clientNumbers ++ (final c (changed r) ∷ []))
+
+-- the parameter a of the module m has these numbers, reports of it can be written, and the outbox has room for the records
+pub record Settable (out : List ℕ) (k h : ℕ) (m a : List ℕ) (t : ℕ) : Type 0 where
+  pub low : k < 64
+  pub homeLow : h < 16
+  pub module-name : isName m ≡ true
+  pub name : isName a ≡ true
+  pub inTime : t ≤ latest
+  pub room : 32768 ≤ length out
+
+-- a text that fits a datainfo, and a values area
+pub record Accepts (values xs : List ℕ) : Type 0 where
+  pub datainfo : Datainfo
+  pub fits : isFit (verdict datainfo xs) ≡ true
+  pub area : 16384 ≤ length values
+
+-- r stands for a setting: the stored form is in the values area, and the records are in the outbox
+pub record IsSet (s : Clients) (c k h : ℕ) (m a xs : List ℕ) (t : ℕ) (values out : List ℕ) (r : Outcome) (stored after : List ℕ) : Type 0 where
+  pub written : ℕ
+  pub is : r ≡ Stored k (length (storedForm xs)) written
+  pub area : stored ≡ withStored values k (storedForm xs)
+  pub puts : Puts out 0 (encodeAll (setRecords s c k h (reportOf m a (storedForm xs) t))) after written

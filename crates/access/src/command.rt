@@ -1,0 +1,76 @@
+// A command's argument, and the order to carry it out.
+ghost use mathlib.Core.Path.{_≡_};
+ghost use mathlib.Core.Option.{none};
+ghost use Prim.Native.Nat.{_≤_};
+ghost use lib.ListN.{length, drop};
+ghost use Rattle.table.specs.Layout.{argumentAt};
+ghost use Rattle.fit.specs.Verdict.{meaning};
+ghost use Rattle.plain.specs.Answer.{argumentVerdict};
+ghost use Rattle.ascii.specs.Writer.{Puts};
+ghost use Rattle.outbox.specs.Outbox.{encode, encodeAll, orderCommand};
+ghost use Rattle.access.specs.Argument.{JudgesArgument, Ordered, Reported, formOf, orderRecords};
+use ascii::byte;
+use fit::Verdict;
+use fit::fit::verdict;
+use json::compact::put_compact;
+use json::read::is_text;
+use json::read::spaces_end;
+use outbox::write::Told;
+use outbox::write::put_final_report;
+use outbox::write::put_order_command;
+
+// "Without a declared argument only `null` is right, else WrongType.": `null` is the only value that begins with an `n`
+fn null_verdict(text: &[u8]) -> Verdict
+    ensures { λ r. ⌜ meaning r ≡ argumentVerdict none (now (text .entry)) ⌝ }
+{
+    if !is_text(text) {
+        return Verdict::BadJson;
+    }
+    let at = spaces_end(text, 0);
+    if byte(text, at) == b'n' {
+        return Verdict::Fits;
+    }
+    Verdict::WrongType
+}
+
+// The verdict on a text by the argument that is declared at `info`, or by none.
+pub fn argument_verdict(table: &[u8], argument: bool, info: usize, text: &[u8]) -> Verdict
+    requires { ⌜ info ≤ length (now table) ⌝ }
+    ensures { λ r. ⌜ JudgesArgument (argumentAt argument (drop info (now (table .entry)))) (now (text .entry)) r ⌝ }
+{
+    if argument {
+        return verdict(table, info, text);
+    }
+    null_verdict(text)
+}
+
+// "the argument's stored form, or nothing where none is declared"
+fn put_order(out: &mut [u8], client: u8, k: usize, argument: bool, text: &[u8]) -> usize
+    requires { ⌜ Ordered (now out) k argument (now text) ⌝ }
+    ensures { λ r. ⌜ Puts (now (out .entry)) 0 (encode (orderCommand client k (formOf argument (now (text .entry))))) (now (out .exit)) r ⌝ }
+{
+    if !argument {
+        return put_order_command(out, 0, client, k as u8, b"");
+    }
+    let mut form = [0u8; 256];
+    let size = put_compact(&mut form, 0, text);
+    put_order_command(out, 0, client, k as u8, &form[..size])
+}
+
+// "the driver's order, then `done M:C [null,{"t":now}]`"
+pub fn order(
+    out: &mut [u8],
+    client: u8,
+    time: u64,
+    k: usize,
+    argument: bool,
+    module: &[u8],
+    name: &[u8],
+    text: &[u8],
+) -> usize
+    requires { ⌜ Ordered (now out) k argument (now text) × Reported (now «module») (now name) time ⌝ }
+    ensures { λ r. ⌜ Puts (now (out .entry)) 0 (encodeAll (orderRecords client k (formOf argument (now (text .entry))) (now («module» .entry)) (now (name .entry)) time)) (now (out .exit)) r ⌝ }
+{
+    let told = put_order(out, client, k, argument, text);
+    put_final_report(out, told, client, Told::Done, module, name, b"null", time)
+}

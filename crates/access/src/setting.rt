@@ -1,0 +1,57 @@
+// A parameter is set by a client.
+ghost use Prim.Native.Nat.{_≤_};
+ghost use lib.ListN.{length};
+ghost use Rattle.ascii.specs.Writer.{Puts};
+ghost use Rattle.message.specs.Said.{reportOf};
+ghost use Rattle.outbox.specs.Outbox.{encodeAll};
+ghost use Rattle.access.specs.Set.{Settable, Accepts, IsSet, setRecords};
+use json::compact::put_compact;
+use outbox::write::Told;
+use outbox::write::put_final_report;
+use outbox::write::put_order_change;
+use outcome::Outcome;
+use state::Clients;
+use update::put_updates_to;
+
+// "the driver's order, an update to each open client with M active, .., then `changed M:P [..]`, with the stored form"
+fn put_set(
+    out: &mut [u8],
+    clients: Clients,
+    client: u8,
+    time: u64,
+    k: usize,
+    home: usize,
+    module: &[u8],
+    name: &[u8],
+    value: &[u8],
+) -> usize
+    requires { ⌜ Settable (now out) k home (now «module») (now name) time × (length (now value) ≤ 256) ⌝ }
+    ensures { λ r. ⌜ Puts (now (out .entry)) 0 (encodeAll (setRecords clients client k home (reportOf (now («module» .entry)) (now (name .entry)) (now (value .entry)) time))) (now (out .exit)) r ⌝ }
+{
+    let order = put_order_change(out, 0, client, k as u8, value);
+    let told = put_updates_to(out, order, clients, home, module, name, value, time);
+    put_final_report(out, told, client, Told::Changed, module, name, value, time)
+}
+
+// "An accepted setting writes its stored form at the front of them and no other byte.": of the parameter's bytes of the values area
+pub fn set(
+    values: &mut [u8],
+    out: &mut [u8],
+    clients: Clients,
+    client: u8,
+    time: u64,
+    k: usize,
+    home: usize,
+    module: &[u8],
+    name: &[u8],
+    text: &[u8],
+) -> Outcome
+    requires { ⌜ Settable (now out) k home (now «module») (now name) time × Accepts (now values) (now text) ⌝ }
+    ensures { λ r. ⌜ IsSet clients client k home (now («module» .entry)) (now (name .entry)) (now (text .entry)) time (now (values .entry)) (now (out .entry)) r (now (values .exit)) (now (out .exit)) ⌝ }
+{
+    let at = 256 * k;
+    let end = put_compact(values, at, text);
+    let value = &values[at..end];
+    let written = put_set(out, clients, client, time, k, home, module, name, value);
+    Outcome::Stored(k, end - at, written)
+}

@@ -1,0 +1,30 @@
+-- `fitness::is_unfit` meets its contract. Assumes nothing.
+use borrow.Author.Needs.{needs}
+use Rattle.fitness.proofs.Unfits.{settings-make, clients-make, few-counted}
+use Rattle.fitness.proofs.is_unfit.Statement.{statement}
+use Rattle.fitness.proofs.is_unfit.Tie as tie
+
+settings-unfit-requires : tie.Need-settings-unfit-requires
+settings-unfit-requires c κs = search needs
+
+returns : tie.Need-returns
+returns c = search settings-make
+
+module-count-requires : tie.Need-module-count-requires
+module-count-requires c κs = search needs
+
+clients-unfit-requires : tie.Need-clients-unfit-requires
+clients-unfit-requires c κs = search few-counted
+
+returns-2 : tie.Need-returns-2
+returns-2 c = search clients-make
+
+pub is-unfit-spec : {M : Type 1} → statement M
+is-unfit-spec =
+    tie.close
+    (tie.spec
+    settings-unfit-requires
+    returns
+    module-count-requires
+    clients-unfit-requires
+    returns-2)

@@ -1,0 +1,71 @@
+// Whether a state is unfit for a table and a values area: number 9.
+ghost use mathlib.Core.Path.{_≡_};
+ghost use Prim.Native.Nat.{_≤_, _<_};
+ghost use lib.ListN.{length, drop};
+ghost use Rattle.datainfo.specs.Layout.{datainfoAt};
+ghost use Rattle.table.specs.Layout.{tableOf};
+ghost use Rattle.table.specs.Search.{parameters};
+ghost use Rattle.report.specs.Judge.{tableNumber};
+ghost use Rattle.state.specs.Fit.{isUnfit, settingsUnfit};
+ghost use Rattle.fitness.specs.Unfit.{TellsUnfit};
+use fit::fit::is_stored;
+use search::cursor::NextParameter;
+use search::cursor::first_cursor;
+use search::cursor::next_parameter;
+use search::find::module_count;
+use state::Settings;
+use state::State;
+use state::client::clients_unfit;
+
+// "a stored length is over 256; a stored value is not in stored form or doesn't fit its datainfo; a stored time is above the limit"
+fn setting_unfit(table: &[u8], values: &[u8], settings: Settings, k: usize, info: usize) -> bool
+    requires { ⌜ (info ≤ length (now table)) × ((k < 64) × (16384 ≤ length (now values))) ⌝ }
+    ensures { λ r. ⌜ TellsUnfit settings (now (values .entry)) k (datainfoAt (drop info (now (table .entry)))) r ⌝ }
+{
+    let size = settings.length[k] as usize;
+    if size > 256 {
+        return true;
+    }
+    if settings.time[k] > 9999999999999 {
+        return true;
+    }
+    if size == 0 {
+        return false;
+    }
+    let at = 256 * k;
+    let end = at + size;
+    !is_stored(table, info, &values[at..end])
+}
+
+// "Places past the last parameter are not looked at." An accepted table has at most 64 accessibles.
+fn settings_unfit(table: &[u8], values: &[u8], settings: Settings) -> bool
+    requires { ⌜ (tableNumber (now table) ≡ 0) × (16384 ≤ length (now values)) ⌝ }
+    ensures { λ r. ⌜ r ≡ settingsUnfit settings (now (values .entry)) 0 (parameters (tableOf (now (table .entry)))) ⌝ }
+{
+    let mut k = 0;
+    let mut cursor = first_cursor(table);
+    while k < 64 {
+        let NextParameter::At(p, next) = next_parameter(table, cursor) else {
+            return false;
+        };
+        let info = p.info;
+        if setting_unfit(table, values, settings, k, info) {
+            return true;
+        }
+        cursor = next;
+        k += 1;
+    }
+    false
+}
+
+pub fn is_unfit(table: &[u8], values: &[u8], state: State) -> bool
+    requires { ⌜ (tableNumber (now table) ≡ 0) × (16384 ≤ length (now values)) ⌝ }
+    ensures { λ r. ⌜ r ≡ isUnfit (tableOf (now (table .entry))) state (now (values .entry)) ⌝ }
+{
+    let clients = state.clients;
+    let settings = state.settings;
+    if settings_unfit(table, values, settings) {
+        return true;
+    }
+    clients_unfit(clients, module_count(table))
+}

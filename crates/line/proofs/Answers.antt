@@ -1,0 +1,189 @@
+-- Laws of a line that is answered: from what a request comes to, and what follows from it, to what the plain node answers. Assumes nothing.
+use Prim.Native.Nat.{ℕ, _≤_, _<_}
+use native.Mathlib.Omega.{arith}
+use mathlib.Core.Path.{_≡_, refl, sym, ap₂, subst, _∙_}
+use mathlib.Core.Bool.{false}
+use mathlib.Core.List.{List, [], _∷_, append-nil}
+use lib.ListN.{length}
+use Rattle.ascii.specs.Numbers.{latest}
+use Rattle.ascii.specs.Bytes.{any, takeWhile, dropWhile, tail, same}
+use Rattle.ascii.specs.Writer.{Puts}
+use Rattle.ascii.specs.Text.{bytes}
+use Rattle.message.specs.Line.{Parts, whole, content, beforeSpace, afterSpace, partsOf}
+use Rattle.message.specs.Request.{request}
+use Rattle.message.specs.Parsed.{part, Parted, meaning, Asks}
+use Rattle.message.specs.Said.{classOf}
+use Rattle.message.specs.Reply.{error}
+use Rattle.message.specs.declared.say.Class.{Class}
+use Rattle.message.specs.declared.say.Class.the-variants.{ProtocolError}
+use Rattle.message.specs.declared.line.Part.{Part}
+use Rattle.message.specs.declared.line.Request.{Request}
+use Rattle.message.proofs.Requests.{requested}
+use Rattle.table.specs.Table.{Table}
+use Rattle.table.specs.Layout.{tableOf}
+use Rattle.table.specs.Search.{parameters}
+use Rattle.outbox.specs.Outbox.{Record, final, encode, encodeAll}
+use Rattle.plain.specs.Node.{Node, clientNumbers}
+use Rattle.plain.specs.Answer as Plain
+use Rattle.plain.specs.Answer.{refused, carried, outcome, conclude, answerParts}
+use Rattle.sound.proofs.Accepted.{accepted}
+use Rattle.sound.proofs.Values.{short-stored}
+use Rattle.state.specs.declared.Clients.{Clients}
+use Rattle.state.specs.declared.Settings.{Settings}
+use Rattle.state.specs.declared.State.{State}
+use Rattle.state.specs.View.{view, withStored}
+use Rattle.state.specs.Fit.{settingsUnfit, clientUnfit, isUnfit}
+use Rattle.state.proofs.Flags.{neither, nor}
+use Rattle.state.proofs.Kept.{still-fit}
+use Rattle.state.proofs.Settled as Settled
+use Rattle.state.proofs.Settled.{some-stored, stored-fit}
+use Rattle.sound.proofs.Lists.{there-low}
+use Rattle.state.proofs.Views.{client-view, value-view}
+use Rattle.outcome.specs.Area.{withSetting}
+use Rattle.outcome.specs.Outcome.{Carries, Refuses, Sends, Activates, Stores, OutcomeIs, Comes, Answers}
+use Rattle.outcome.specs.Ready.{Ready}
+use Rattle.outcome.specs.declared.Outcome.{Outcome}
+use Rattle.outcome.specs.declared.Outcome.the-variants.{Refused, Sent, Active, Stored}
+use Rattle.outcome.specs.declared.Answered.{Answered}
+use Rattle.line.specs.Concluded.{Concludable, Denies, Keeps, Passes, Switches, Sets, Concludes}
+use Rattle.line.proofs.Carried.{part-short}
+
+-- one record, written at the front
+encoded-one : (r : Record) → encode r ≡ encodeAll (r ∷ [])
+unfolding encodeAll
+encoded-one r = sym (append-nil (encode r))
+
+-- a state by its two parts
+parts-view : (table values : List ℕ) (r : State) {f : Clients} {g : Settings} → r .clients ≡ f → r .settings ≡ g
+    → view table r values ≡ view table (record { clients = f; settings = g }) values
+unfolding view
+parts-view table values r a b = ap₂ (λ (f : Clients) (g : Settings). view table (record { clients = f; settings = g }) values) a b
+
+-- ## On an accepted table, handed a fit state of which client c is open
+
+module _ (table : List ℕ) (s : State) (values before : List ℕ) (c t : ℕ) (given : Ready table s values before c) where
+  abbrev w : Table
+  w = tableOf table
+
+  abbrev n : Node
+  n = view table s values
+
+  settings-fit : settingsUnfit (s .settings) values 0 (parameters w) ≡ false
+  unfolding isUnfit
+  settings-fit = neither (settingsUnfit (s .settings) values 0 (parameters w)) _ (given .fit) .0
+
+  clients-fit : any (clientUnfit (length (w .modules)) (s .clients)) clientNumbers ≡ false
+  unfolding isUnfit
+  clients-fit = neither (settingsUnfit (s .settings) values 0 (parameters w)) _ (given .fit) .1
+
+  -- an error: the state, the values area and what stood in the outbox before stay
+  error-answered :
+      (p : Parts) (after : List ℕ) (r : Answered) (e : Class) → r .state ≡ s
+      → Puts before 0 (encode (final c (error (p .action) (p .specifier) (classOf e)))) after (r .written)
+      → Answers table values before r values after (conclude w n c t p (refused (classOf e)))
+  unfolding conclude withSetting
+  error-answered p after r e same puts =
+      record {
+        node = rw same;
+        fit = rw same (given .fit);
+        puts = subst (λ (l : List ℕ). Puts before 0 l after (r .written)) (encoded-one _) puts;
+        area = refl;
+      }
+
+  module _ (p : Parts) (mid stored : List ℕ) (o : Plain.Outcome) (after : List ℕ) (r : Answered) where
+    -- what was carried out: its records were written before
+    carried-answered :
+        (next : Node) (written : ℕ) → Carries w n c t before mid values stored o next written → Keeps mid after s c t r written
+        → view table (r .state) stored ≡ next → isUnfit w (r .state) stored ≡ false
+        → Answers table values before r stored after (conclude w n c t p o)
+    unfolding conclude
+    carried-answered next written x k node fit =
+        rw (x .is)
+        (record {
+          node = node;
+          fit = fit;
+          puts = rw (k .size, k .quiet) (x .puts);
+          area = x .area;
+        })
+
+    refused-answered : (e : Class) → Refuses w n c t before mid values stored o (refused (classOf e)) → Denies mid after s c t r (p .action) (p .specifier) e
+        → Answers table values before r stored after (conclude w n c t p o)
+    refused-answered e x k =
+        rw (x .is, x .area)
+        (error-answered p after r e (k .state) (subst (λ (l : List ℕ). Puts l 0 (encode (final c (error (p .action) (p .specifier) (classOf e)))) after (r .written)) (x .quiet) (k .puts)))
+
+    sent-answered : (written : ℕ) → Sends w n c t before mid values stored o written → Passes mid after s c t r written
+        → Answers table values before r stored after (conclude w n c t p o)
+    sent-answered written x k =
+        carried-answered n written (x .carries) (k .keeps) (rw (k .state, x .unstored)) (rw (k .state, x .unstored) (given .fit))
+
+    active-answered : (mask written : ℕ) → Activates w n c t before mid values stored o mask written → Switches mid after s c t r mask written
+        → Answers table values before r stored after (conclude w n c t p o)
+    unfolding isUnfit view
+    active-answered mask written x k =
+        let fit = still-fit (length (w .modules)) (k .clients) (record { isOpen = given .isOpen; within = x .low }) clients-fit in
+        carried-answered _ written (x .carries) (k .keeps)
+        (rw (x .unstored) (parts-view table values (r .state) refl (k .settings) ∙ client-view table s values (k .clients)))
+        (rw (x .unstored) (rw (k .settings) (nor settings-fit fit)))
+
+    stored-answered : Settled.Sized (s .settings) → t ≤ latest
+        → (k size written : ℕ) → Stores w n c t before mid values stored o k size written → Sets mid after s c t r k size written
+        → Answers table values before r stored after (conclude w n c t p o)
+    unfolding isUnfit
+    stored-answered z h k size written x y =
+        let d = x .parameter .it .datainfo in
+        let low : k < 64 = omega (arith, there-low (parameters w) k (x .parameter) (x .there), accepted table (given .lent .accepted) .few) in
+        let short = short-stored d (x .text) (x .fits) in
+        let long = some-stored d (x .text) (x .fits) in
+        let settings : r .state .settings ≡ Settled.withSetting (s .settings) k (length (x .text)) t = rw (← (x .long)) (y .settings) in
+        let same = parts-view table (withStored values k (x .text)) (r .state) (y .clients) settings in
+        carried-answered _ written (x .carries) (y .keeps)
+        (rw (x .area) (same ∙ value-view table s z values (given .area) k low (x .text) long short t settings-fit (x .parameter) (x .there)))
+        (rw (x .area, settings, y .clients)
+        (nor (stored-fit (s .settings) z values (given .area) k low (x .text) long short t (parameters w) settings-fit (x .parameter) (x .there) (x .fits) h) clients-fit))
+
+    answered : Settled.Sized (s .settings) → t ≤ latest
+        → (came : Outcome) → OutcomeIs w n c t before mid values stored came o → Concludes mid after s c t r (p .action) (p .specifier) came
+        → Answers table values before r stored after (conclude w n c t p o)
+    answered z h (Refused e) x k = refused-answered e x k
+    answered z h (Sent written) x k = sent-answered written x k
+    answered z h (Active mask written) x k = active-answered mask written x k
+    answered z h (Stored k size written) x y = stored-answered z h k size written x y
+
+  -- ## A whole line
+
+  -- a line without content
+  pub bad-answered :
+      (xs : List ℕ) → content (whole xs) ≡ [] → (after : List ℕ) (r : Answered) → r .state ≡ s
+      → Puts before 0 (encode (final c (error [] [] (classOf ProtocolError)))) after (r .written)
+      → Answers table values before r values after (answerParts w n c t (partsOf (content (whole xs))))
+  unfolding answerParts partsOf beforeSpace afterSpace takeWhile dropWhile tail request same bytes outcome
+  bad-answered xs e after r same puts = rw e (error-answered (record { action = []; specifier = []; payload = [] }) after r ProtocolError same puts)
+
+  module _ (xs : List ℕ) (short : length xs ≤ 1024) (a p d : Part) (h : Parted xs a p d) where
+    -- room for an error; a parameter's number and a stored length
+    pub concludable :
+        (mid stored : List ℕ) (o : Plain.Outcome) (came : Outcome) → OutcomeIs w n c t before mid values stored came o
+        → Concludable mid (part xs a) (part xs p) came
+    concludable mid stored o (Refused e) x =
+        record {
+          room = rw (x .quiet) (given .lent .room);
+          action-short = part-short xs a (h .action-in) short;
+          specifier-short = part-short xs p (h .specifier-in) short;
+        }
+    concludable mid stored o (Sent written) x = tt
+    concludable mid stored o (Active mask written) x = tt
+    concludable mid stored o (Stored k size written) x =
+        (omega (arith, there-low (parameters w) k (x .parameter) (x .there), accepted table (given .lent .accepted) .few), rw (x .long) (short-stored (x .parameter .it .datainfo) (x .text) (x .fits)))
+
+    pub line-answered :
+        (asked : Request) → Asks xs a p asked → Settled.Sized (s .settings) → t ≤ latest
+        → (mid stored after : List ℕ) (came : Outcome) (r : Answered)
+        → Comes table s values before c t came stored mid (meaning xs (part xs p) (part xs d) asked)
+        → Concludes mid after s c t r (part xs a) (part xs p) came
+        → Answers table values before r stored after (answerParts w n c t (partsOf (content (whole xs))))
+    unfolding answerParts
+    line-answered asked k z l mid stored after came r x y =
+        answered (partsOf (content (whole xs))) mid stored (outcome w n c t (request (partsOf (content (whole xs))))) after r z l came
+        (rw (requested xs a p d asked h k) at x)
+        (rw (h .action-is, h .specifier-is) at y)

@@ -1,0 +1,111 @@
+-- Laws of requests that are carried out: replies of one record, data that is missing, and a client's active modules. Assumes nothing.
+use Prim.Native.Nat.{ℕ, _+_, _≤_}
+use native.Mathlib.Omega.{arith}
+use mathlib.Core.Path.{_≡_, refl, sym, _∙_}
+use mathlib.Core.Bool.{Bool, true, false}
+use mathlib.Core.List.{List, []}
+use lib.ListN.{length, getD, length-append, length-take}
+use Rattle.ascii.specs.Numbers.{twoBytes, latest}
+use Rattle.ascii.specs.Text.{bytes}
+use Rattle.ascii.specs.Bytes.{all, isSpace}
+use Rattle.ascii.specs.Writer.{Puts}
+use Rattle.message.specs.Error.{Class}
+use Rattle.message.specs.Reply.{Reply, identification, pong, error, replyLine}
+use Rattle.message.specs.Request as R
+use Rattle.message.specs.Request.{orNull}
+use Rattle.message.specs.Parsed.{part, Within}
+use Rattle.message.specs.declared.line.Part.{Part}
+use Rattle.message.proofs.Said.{data-length, pong-length, error-length, error-short}
+use Rattle.table.specs.Table.{Table}
+use Rattle.table.specs.Layout.{tableOf}
+use Rattle.outbox.specs.Outbox.{final, mark, client, body, encode}
+use Rattle.outbox.specs.Written.{RoomFor}
+use Rattle.plain.specs.Node.{Node, isActive}
+use Rattle.plain.specs.Answer as Plain
+use Rattle.plain.specs.Answer.{carried, outcome}
+use Rattle.sound.proofs.Records.{seconds-short}
+use Rattle.sound.proofs.Room.{puts-after, puts-none}
+use Rattle.state.specs.declared.State.{State}
+use Rattle.state.specs.View.{bit, clientAt, view}
+use Rattle.state.specs.Fit.{pastLast, isUnfit, settingsUnfit}
+use Rattle.state.proofs.Flags.{neither}
+use Rattle.state.proofs.Kept.{each-fit}
+use Rattle.state.proofs.Cells.{fit-at}
+use Rattle.outcome.specs.Area.{withSetting}
+use Rattle.outcome.specs.Outcome.{Sends, ComesAtAny}
+use Rattle.outcome.specs.Ready.{Ready}
+use Rattle.outcome.specs.declared.Outcome.the-variants.{Sent}
+
+-- ## Room for one reply
+
+module _ (d : List ℕ) (c : ℕ) (room : 32768 ≤ length d) where
+  final-room : (r : Reply) → length (replyLine r) ≤ 32000 → RoomFor d 0 (final c r)
+  unfolding encode mark client body twoBytes bytes
+  final-room r h = record { fits = simp length-append (omega arith); short = simp length-append (omega arith) }
+
+  pub identification-room : RoomFor d 0 (final c identification)
+  unfolding replyLine bytes
+  identification-room = final-room identification (omega arith)
+
+  pub pong-room : (t : ℕ) → t ≤ latest → (token : List ℕ) → length token ≤ 1024 → RoomFor d 0 (final c (pong token t))
+  unfolding bytes
+  pong-room t h token k = final-room (pong token t) (omega (arith, pong-length token t, data-length (bytes "null") t, seconds-short t h))
+
+  pub error-room : (a s : List ℕ) (e : Class) → length a ≤ 1024 → length s ≤ 1024 → RoomFor d 0 (final c (error a s e))
+  error-room a s e h k = final-room (error a s e) (omega (arith, error-length a s e, error-short e))
+
+-- a part of a line is no longer than the line
+pub part-short : (xs : List ℕ) (p : Part) → Within xs p → length xs ≤ 1024 → length (part xs p) ≤ 1024
+part-short xs p w h = let i = w .within in rw length-take (omega arith)
+
+-- ## Replies of one record
+
+module _ {before after : List ℕ} {c written : ℕ} where
+  pub sends : (w : Table) (n : Node) (t : ℕ) (values : List ℕ) (o : Plain.Outcome) (r : Reply) → o ≡ carried n [] r
+      → Puts before 0 (encode (final c r)) after written → Sends w n c t before after values values o written
+  unfolding withSetting
+  sends w n t values o r e x =
+      record {
+        carries = record {
+          records = [];
+          reply = r;
+          is = e;
+          puts = puts-after [] (final c r) before before 0 (puts-none before) after written x;
+          area = refl;
+        };
+        unstored = refl;
+      }
+
+  pub identified : Puts before 0 (encode (final c identification)) after written → (table : List ℕ) (t : ℕ)
+      → ComesAtAny table before c t (Sent written) after R.identify
+  unfolding outcome
+  identified x table t n values = sends (tableOf table) n t values _ identification refl x
+
+  pub ponged : (token : List ℕ) (t : ℕ) → Puts before 0 (encode (final c (pong token t))) after written → (table : List ℕ)
+      → ComesAtAny table before c t (Sent written) after (R.ping token)
+  unfolding outcome
+  ponged token t x table n values = sends (tableOf table) n t values _ (pong token t) refl x
+
+-- ## Data
+
+pub no-data : (xs : List ℕ) (b : Bool) → b ≡ all isSpace xs → b ≡ true → bytes "null" ≡ orNull xs
+unfolding orNull
+no-data xs b e h = rw (sym e ∙ h)
+
+pub some-data : (xs : List ℕ) (b : Bool) → b ≡ all isSpace xs → b ≡ false → xs ≡ orNull xs
+unfolding orNull
+some-data xs b e h = rw (sym e ∙ h)
+
+-- ## The active modules of a client of a fit state
+
+module _ (table : List ℕ) (s : State) (values before : List ℕ) (c : ℕ) (given : Ready table s values before c) where
+  pub mask-low : pastLast (getD (s .clients .active) c 0) (length (tableOf table .modules)) ≡ false
+  unfolding isUnfit
+  mask-low =
+      let m = length (tableOf table .modules) in
+      let fit = neither (settingsUnfit (s .settings) values 0 _) _ (given .fit) .1 in
+      fit-at m (s .clients) c (each-fit m (s .clients) fit c (given .lent .low)) .within
+
+  pub mask-is : (i : ℕ) → isActive (view table s values .clients c) i ≡ bit (getD (s .clients .active) c 0) i
+  unfolding view clientAt isActive
+  mask-is i = rw (given .isOpen)

@@ -1,0 +1,30 @@
+-- Laws of what follows from an outcome, one for each case. Assumes nothing.
+use Prim.Native.Nat.{ℕ, _≤_, _<_}
+use mathlib.Core.Path.{_≡_, sym, subst}
+use mathlib.Core.List.{List}
+use Rattle.message.specs.declared.say.Class.{Class}
+use Rattle.state.specs.declared.State.{State}
+use Rattle.outcome.specs.declared.Outcome.{Outcome}
+use Rattle.outcome.specs.declared.Outcome.the-variants.{Refused, Sent, Active, Stored}
+use Rattle.outcome.specs.declared.Answered.{Answered}
+use Rattle.line.specs.Concluded.{Deniable, Concludable, Denies, Passes, Switches, Sets, Concludes}
+
+module _ (out action specifier : List ℕ) (came : Outcome) where
+  pub may-deny : (e : Class) → came ≡ Refused e → Concludable out action specifier came → Deniable out action specifier
+  may-deny e h k = subst (Concludable out action specifier) h k
+
+  pub may-store : (k size written : ℕ) → came ≡ Stored k size written → Concludable out action specifier came → (k < 64) × (size ≤ 256)
+  may-store k size written h i = subst (Concludable out action specifier) h i
+
+module _ {before after : List ℕ} {s : State} {c t : ℕ} {r : Answered} (action specifier : List ℕ) (came : Outcome) where
+  pub denies : {e : Class} → came ≡ Refused e → Denies before after s c t r action specifier e → Concludes before after s c t r action specifier came
+  denies h d = subst (Concludes before after s c t r action specifier) (sym h) d
+
+  pub passes : {written : ℕ} → came ≡ Sent written → Passes before after s c t r written → Concludes before after s c t r action specifier came
+  passes h d = subst (Concludes before after s c t r action specifier) (sym h) d
+
+  pub switches : {mask written : ℕ} → came ≡ Active mask written → Switches before after s c t r mask written → Concludes before after s c t r action specifier came
+  switches h d = subst (Concludes before after s c t r action specifier) (sym h) d
+
+  pub stores : {k size written : ℕ} → came ≡ Stored k size written → Sets before after s c t r k size written → Concludes before after s c t r action specifier came
+  stores h d = subst (Concludes before after s c t r action specifier) (sym h) d

@@ -1,0 +1,4 @@
+pub mod Conclusions
+pub mod Carried
+pub mod Described
+pub mod Answers

@@ -1,0 +1,14 @@
+-- What the code that carries out a request is given of its line. Assumes nothing.
+use Prim.Native.Nat.{ℕ, _≤_}
+use mathlib.Core.List.{List}
+use lib.ListN.{length}
+use Rattle.message.specs.Parsed.{Within, Inside}
+use Rattle.message.specs.declared.line.Part.{Part}
+use Rattle.message.specs.declared.line.Request.{Request}
+
+-- parts within a line of at most 1,024 bytes
+pub record Carriable (line : List ℕ) (specifier payload : Part) (asked : Request) : Type 0 where
+  pub short : length line ≤ 1024
+  pub specifier-in : Within line specifier
+  pub payload-in : Within line payload
+  pub inside : Inside line asked

@@ -1,0 +1,66 @@
+-- What the code does with the outcome of a request: an error is answered now; whatever else has been answered, and changes the state. Assumes
+-- nothing.
+use Prim.Native.Nat.{ℕ, _≤_, _<_}
+use mathlib.Core.Path.{_≡_}
+use mathlib.Core.List.{List}
+use lib.ListN.{length, set}
+use Rattle.ascii.specs.Writer.{Puts}
+use Rattle.message.specs.Reply.{error}
+use Rattle.message.specs.Said.{classOf}
+use Rattle.message.specs.declared.say.Class.{Class}
+use Rattle.outbox.specs.Outbox.{final, encode}
+use Rattle.plain.specs.Node.{activated}
+use Rattle.state.specs.declared.State.{State}
+use Rattle.state.specs.View.{bit, clientAt}
+use Rattle.state.specs.Becomes.{Becomes, Activatable}
+use Rattle.outcome.specs.declared.Outcome.{Outcome}
+use Rattle.outcome.specs.declared.Outcome.the-variants.{Refused, Sent, Active, Stored}
+use Rattle.outcome.specs.declared.Answered.{Answered}
+
+-- an outbox that has room for an error line, and an action and a specifier of a line
+pub record Deniable (out action specifier : List ℕ) : Type 0 where
+  pub room : 32768 ≤ length out
+  pub action-short : length action ≤ 1024
+  pub specifier-short : length specifier ≤ 1024
+
+-- what an outcome asks for: an error, that it can be answered; a stored value, a parameter's number and a length that it may have
+abbrev pub Concludable : List ℕ → List ℕ → List ℕ → Outcome → Type 0
+Concludable out action specifier (Refused e) = Deniable out action specifier
+Concludable out action specifier (Sent written) = Unit
+Concludable out action specifier (Active mask written) = Unit
+Concludable out action specifier (Stored k size written) = (k < 64) × (size ≤ 256)
+
+-- Handed the state s, for client c at the time t: the outbox held `before` and holds `after`, and the answer is r.
+module _ (before after : List ℕ) (s : State) (c t : ℕ) (r : Answered) where
+  -- "Errors: `error_ACTION SPECIFIER [..]`, action and specifier as sent."; the state stays
+  pub record Denies (action specifier : List ℕ) (e : Class) : Type 0 where
+    pub state : r .state ≡ s
+    pub puts : Puts before 0 (encode (final c (error action specifier (classOf e)))) after (r .written)
+
+  -- so many bytes were written before, and the outbox stays
+  pub record Keeps (written : ℕ) : Type 0 where
+    pub size : r .written ≡ written
+    pub quiet : after ≡ before
+
+  -- the state stays
+  pub record Passes (written : ℕ) : Type 0 where
+    pub keeps : Keeps written
+    pub state : r .state ≡ s
+
+  -- the client's active modules are those of a mask
+  pub record Switches (mask written : ℕ) : Type 0 where
+    pub keeps : Keeps written
+    pub settings : r .state .settings ≡ s .settings
+    pub clients : Becomes (s .clients) c (activated (bit mask) (clientAt (s .clients) c)) (Activatable (s .clients) c mask) (r .state .clients)
+
+  -- parameter k has a stored value of so many bytes, from this time on
+  pub record Sets (k size written : ℕ) : Type 0 where
+    pub keeps : Keeps written
+    pub clients : r .state .clients ≡ s .clients
+    pub settings : r .state .settings ≡ record { length = set (s .settings .length) k size; time = set (s .settings .time) k t }
+
+  abbrev pub Concludes : List ℕ → List ℕ → Outcome → Type 0
+  Concludes action specifier (Refused e) = Denies action specifier e
+  Concludes action specifier (Sent written) = Passes written
+  Concludes action specifier (Active mask written) = Switches mask written
+  Concludes action specifier (Stored k size written) = Sets k size written

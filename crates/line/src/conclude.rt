@@ -1,0 +1,66 @@
+// What follows from an outcome: an error is answered, and what was carried out changes the state.
+ghost use Prim.Native.Nat.{_<_};
+ghost use mathlib.Core.Path.{_≡_};
+ghost use Rattle.message.specs.Parsed.{part, Within};
+ghost use Rattle.line.specs.Concluded.{Concludable, Concludes};
+use message::line::Part;
+use outbox::write::put_final_error;
+use outcome::Answered;
+use outcome::Outcome;
+use state::State;
+use state::client::with_active;
+use state::setting::stored;
+
+// The bytes of a part of a line.
+pub fn bytes_of(line: &[u8], p: Part) -> &[u8]
+    requires { ⌜ Within (now line) p ⌝ }
+    ensures { λ r. ⌜ now r ≡ part (now (line .entry)) p ⌝ }
+{
+    let from = p.from;
+    let to = p.to;
+    &line[from..to]
+}
+
+// "Errors: `error_ACTION SPECIFIER [..]`, action and specifier as sent."; what is carried out has been answered
+pub fn conclude(
+    out: &mut [u8],
+    state: State,
+    client: u8,
+    time: u64,
+    action: &[u8],
+    specifier: &[u8],
+    came: Outcome,
+) -> Answered
+    requires { ⌜ (client < 8) × (Concludable (now out) (now action) (now specifier) came) ⌝ }
+    ensures { λ r. ⌜ Concludes (now (out .entry)) (now (out .exit)) state client time r (now (action .entry)) (now (specifier .entry)) came ⌝ }
+{
+    let clients = state.clients;
+    let settings = state.settings;
+    match came {
+        Outcome::Refused(class) => {
+            let written = put_final_error(out, 0, client, action, specifier, class);
+            Answered { state, written }
+        }
+        Outcome::Sent(written) => Answered { state, written },
+        Outcome::Active(mask, written) => {
+            let next = with_active(clients, client as usize, mask);
+            Answered {
+                state: State {
+                    clients: next,
+                    settings,
+                },
+                written,
+            }
+        }
+        Outcome::Stored(k, size, written) => {
+            let next = stored(settings, k, size, time);
+            Answered {
+                state: State {
+                    clients,
+                    settings: next,
+                },
+                written,
+            }
+        }
+    }
+}

@@ -1,0 +1,71 @@
+// A client's line: taken apart, carried out, and answered.
+ghost use Prim.Native.Nat.{_≤_};
+ghost use lib.ListN.{length};
+ghost use Rattle.ascii.specs.Numbers.{latest};
+ghost use Rattle.table.specs.Layout.{tableOf};
+ghost use Rattle.message.specs.Line.{whole, content, partsOf};
+ghost use Rattle.plain.specs.Answer.{answerParts};
+ghost use Rattle.state.specs.View.{view};
+ghost use Rattle.outcome.specs.Ready.{Ready};
+ghost use Rattle.outcome.specs.Outcome.{Answers};
+use conclude::bytes_of;
+use conclude::conclude;
+use message::line::Parsed;
+use message::line::part_line;
+use message::line::request_of;
+use message::say::Class;
+use outbox::write::put_final_error;
+use outcome::Answered;
+use request::outcome;
+use state::State;
+
+mod conclude;
+mod describing;
+mod request;
+
+// "action, specifier and data are parted at the first and second space"; a line without content is ProtocolError with empty action and
+// specifier
+pub fn answer_line(
+    table: &[u8],
+    values: &mut [u8],
+    out: &mut [u8],
+    state: State,
+    client: u8,
+    time: u64,
+    line: &[u8],
+) -> Answered
+    requires { ⌜ Ready (now table) state (now values) (now out) client × ((time ≤ latest) × (length (now line) ≤ 1024)) ⌝ }
+    ensures { λ r. ⌜ Answers (now (table .entry)) (now (values .entry)) (now (out .entry)) r (now (values .exit)) (now (out .exit)) (answerParts (tableOf (now (table .entry))) (view (now (table .entry)) state (now (values .entry))) client time (partsOf (content (whole (now (line .entry)))))) ⌝ }
+{
+    let Parsed::Line {
+        action,
+        specifier,
+        payload,
+    } = part_line(line)
+    else {
+        let written = put_final_error(out, 0, client, b"", b"", Class::ProtocolError);
+        return Answered { state, written };
+    };
+    let asked = request_of(line, action, specifier);
+    let came = outcome(
+        table,
+        values,
+        out,
+        state,
+        client,
+        time,
+        line,
+        specifier,
+        payload,
+        asked,
+    );
+    conclude(
+        out,
+        state,
+        client,
+        time,
+        bytes_of(line, action),
+        bytes_of(line, specifier),
+        came,
+    )
+}

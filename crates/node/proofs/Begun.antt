@@ -1,0 +1,178 @@
+-- The start, one law for each way through the code: the view of a blank state is the plain node's beginning, for every table, and a blank state
+-- is fit. Assumes nothing.
+use Prim.Native.Nat.{ℕ, zero, suc, _≤_, _<_}
+use native.Mathlib.Omega.{arith}
+use borrow.Author.Tests.{lt-ltb, le-ltb, ne-eqb}
+use mathlib.Core.Bool.{Bool, false, cond}
+use mathlib.Core.List.{List, [], _∷_}
+use mathlib.Core.Logic.{_≢_}
+use mathlib.Core.Option.{Option, none, some}
+use mathlib.Core.Path.{_≡_, refl, sym, ap, subst, fun-ext, _∙_}
+use lib.Dec.{eqb}
+use lib.ListN.{length, getD, replicate, getD-replicate}
+use Rattle.ascii.specs.Bytes.{any}
+use Rattle.ascii.specs.Numbers.{latest}
+use Rattle.table.specs.Table.{Parameter, Table}
+use Rattle.table.specs.Layout.{readTable, orEmpty, tableOf}
+use Rattle.table.specs.Search.{Placed, placedFrom, parameters}
+use Rattle.report.specs.Judge.{lowest, tableNumber}
+use Rattle.plain.specs.Node.{Client, closed, initially, begin, clientNumbers}
+use Rattle.plain.specs.Calls.{startNumber, started}
+use Rattle.state.specs.declared.Clients.{Clients}
+use Rattle.state.specs.declared.Settings.{Settings}
+use Rattle.state.specs.declared.State.{State}
+use Rattle.state.specs.View.{isSet, lineBytes, clientAt, valueAt, view}
+use Rattle.state.specs.Fit.{clientUnfit, settingUnfit, settingsUnfit, isUnfit}
+use Rattle.state.proofs.Flags.{nor}
+use Rattle.state.proofs.Kept.{all-fit}
+use Rattle.state.proofs.Masks.{past-last, no-bit}
+use Rattle.state.proofs.Views.{begun-view}
+use Rattle.sound.proofs.Accepted.{accepted}
+use Rattle.promise.specs.declared.Done.{Done}
+use Rattle.promise.specs.Promise.{blank, Begins}
+use Rattle.node.proofs.Lent.{lowest-first}
+use Rattle.node.proofs.Refused.{Quiet}
+
+-- ## What the places of a blank state hold
+
+zeros : (n i : ℕ) → getD {A = ℕ} (replicate n 0) i 0 ≡ 0
+zeros zero i = refl
+zeros (suc n) zero = refl
+zeros (suc n) (suc i) = zeros n i
+
+at-most : (n i t m : ℕ) → t ≤ m → getD (replicate n t) i 0 ≤ m
+at-most zero i t m h = omega arith
+at-most (suc n) zero t m h = h
+at-most (suc n) (suc i) t m h = at-most n i t m h
+
+blank-size : (t p : ℕ) → getD (blank t .settings .length) p 0 ≡ 0
+unfolding blank
+blank-size t p = zeros 64 p
+
+blank-time : (t p : ℕ) → p < 64 → getD (blank t .settings .time) p 0 ≡ t
+unfolding blank
+blank-time t p h = getD-replicate 64 p t 0 h
+
+blank-untimed : (p : ℕ) → getD (blank 0 .settings .time) p 0 ≡ 0
+unfolding blank
+blank-untimed p = zeros 64 p
+
+blank-early : (t p : ℕ) → t ≤ latest → getD (blank t .settings .time) p 0 ≤ latest
+unfolding blank
+blank-early t p h = at-most 64 p t latest h
+
+-- ## The view of a blank state
+
+not-open : (s : Clients) (c : ℕ) → getD (s .open) c 0 ≡ 0 → clientAt s c ≡ closed
+unfolding clientAt isSet
+not-open s c h = rw h refl
+
+blank-closed : (t c : ℕ) → clientAt (blank t .clients) c ≡ closed
+unfolding blank
+blank-closed t c = not-open (blank t .clients) c (zeros 8 c)
+
+-- bytes that can't be read are a table of no parameters
+unread-view : (table : List ℕ) → readTable table ≡ none → (s : State) (values : List ℕ) (t : ℕ) → ((c : ℕ) → clientAt (s .clients) c ≡ closed)
+    → view table s values ≡ begin (tableOf table) t
+unfolding view begin tableOf orEmpty parameters placedFrom valueAt initially
+unread-view table e s values t h =
+    rw e (ap (λ (f : ℕ → Client). record { clients = f; values = λ p. record { text = []; time = 0 } }) (fun-ext h))
+
+blank-view : (table values : List ℕ) (t : ℕ) → ((p : ℕ) → p < length (parameters (tableOf table)) → getD (blank t .settings .time) p 0 ≡ t)
+    → view table (blank t) values ≡ begin (tableOf table) t
+unfolding tableOf orEmpty
+blank-view table values t h = go (readTable table) refl
+  where
+    go : (o : Option Table) → readTable table ≡ o → view table (blank t) values ≡ begin (tableOf table) t
+    go none e = unread-view table e (blank t) values t (blank-closed t)
+    go (some w) e =
+        let is : tableOf table ≡ w = ap orEmpty e in
+        begun-view table w e (blank t) values t (blank-closed t) (λ p l. blank-size t p) (λ p l. h p (rw is l))
+        ∙ ap (λ (x : Table). begin x t) (sym is)
+
+-- ## A blank state is fit
+
+setting-fit : (s : Settings) (values : List ℕ) (p : ℕ) (x : Parameter) → getD (s .length) p 0 ≡ 0 → getD (s .time) p 0 ≤ latest
+    → settingUnfit s values p x ≡ false
+unfolding settingUnfit
+setting-fit s values p x h m = rw (h, le-ltb latest (getD (s .time) p 0) m) refl
+
+settings-fit : (s : Settings) (values : List ℕ) → ((p : ℕ) → getD (s .length) p 0 ≡ 0) → ((p : ℕ) → getD (s .time) p 0 ≤ latest)
+    → (p : ℕ) (xs : List (Placed Parameter)) → settingsUnfit s values p xs ≡ false
+unfolding settingsUnfit
+settings-fit s values h m p [] = refl
+settings-fit s values h m p (x ∷ xs) = nor (setting-fit s values p (x .it) (h p) (m p)) (settings-fit s values h m (suc p) xs)
+
+client-fit : (m : ℕ) (s : Clients) (c : ℕ) → getD (s .open) c 0 ≡ 0 → getD (s .overlong) c 0 ≡ 0 → getD (s .active) c 0 ≡ 0 → getD (s .length) c 0 ≡ 0
+    → clientUnfit m s c ≡ false
+unfolding clientUnfit isSet lineBytes any
+client-fit m s c o v a n = rw (o, v, a, n, past-last 0 m (λ j h. no-bit j)) refl
+
+clients-fit : (m t : ℕ) → any (clientUnfit m (blank t .clients)) clientNumbers ≡ false
+unfolding blank
+clients-fit m t = all-fit m (blank t .clients) (λ c l. client-fit m (blank t .clients) c (zeros 8 c) (zeros 8 c) (zeros 8 c) (zeros 8 c))
+
+blank-fit : (w : Table) (values : List ℕ) (t : ℕ) → t ≤ latest → isUnfit w (blank t) values ≡ false
+unfolding isUnfit
+blank-fit w values t h =
+    nor (settings-fit (blank t .settings) values (blank-size t) (λ p. blank-early t p h) 0 (parameters w)) (clients-fit (length (w .modules)) t)
+
+-- ## Answers
+
+module _ (table values : List ℕ) (t : ℕ) where
+  refused : {r : Done} {k : ℕ} → k ≡ startNumber table (length values) t → k ≢ 0 → Quiet r k (blank 0) → Begins table values t r
+  unfolding started
+  refused {r} {k} h z q =
+      subst (Begins table values t) (sym q)
+      (record {
+        number = h;
+        used = refl;
+        writes = refl;
+        state = ap (λ (b : Bool). blank (cond b t 0)) (sym (ne-eqb k 0 z));
+        node = blank-view table values 0 (λ p l. blank-untimed p)
+            ∙ ap (λ (b : Bool). begin (tableOf table) (cond b t 0)) (sym (ne-eqb k 0 z))
+            ∙ ap (λ (j : ℕ). begin (tableOf table) (cond (eqb j 0) t 0)) h;
+        fit = λ y. absurd (z y);
+      })
+
+  accepted-start : {r : Done} → 0 ≡ startNumber table (length values) t → tableNumber table ≡ 0 → t ≤ latest → Quiet r 0 (blank t)
+      → Begins table values t r
+  unfolding started
+  accepted-start h ok early q =
+      subst (Begins table values t) (sym q)
+      (record {
+        number = h;
+        used = refl;
+        writes = refl;
+        state = refl;
+        node = blank-view table values t (λ p l. let few = accepted table ok .few in blank-time t p (omega arith))
+            ∙ ap (λ (j : ℕ). begin (tableOf table) (cond (eqb j 0) t 0)) h;
+        fit = λ y. blank-fit (tableOf table) values t early;
+      })
+
+  -- the state that is answered is blank
+  on : {r : Done} {s z : State} {k : ℕ} → Quiet r k s → s ≡ z → Quiet r k z
+  on {k = k} q e = q ∙ ap (λ (x : State). record { number = k; used = 0; written = 0; state = x }) e
+
+  module _ {k : ℕ} (says : k ≡ tableNumber table) where
+    pub start-table : {r : Done} {s : State} → k ≢ 0 → Quiet r k s → s ≡ blank 0 → Begins table values t r
+    unfolding startNumber
+    start-table z q e = refused (says ∙ sym (lowest-first (tableNumber table) _ (λ y. z (says ∙ y)))) z (on q e)
+
+    module _ (zeroth : k ≡ 0) where
+      ok : tableNumber table ≡ 0
+      ok = sym says ∙ zeroth
+
+      pub start-area : {r : Done} {s : State} → length values < 16384 → Quiet r 8 s → s ≡ blank 0 → Begins table values t r
+      unfolding startNumber lowest
+      start-area h q e = refused (rw (ok, lt-ltb (length values) 16384 h) refl) (λ z. absurd (omega arith)) (on q e)
+
+      module _ (area : 16384 ≤ length values) where
+        pub start-late : {r : Done} {s : State} → latest < t → Quiet r 10 s → s ≡ blank 0 → Begins table values t r
+        unfolding startNumber lowest
+        start-late h q e =
+            refused (rw (ok, le-ltb (length values) 16384 area, lt-ltb latest t h) refl) (λ z. absurd (omega arith)) (on q e)
+
+        pub start-good : {r : Done} {s : State} → t ≤ latest → Quiet r 0 s → s ≡ blank t → Begins table values t r
+        unfolding startNumber lowest
+        start-good h q e = accepted-start (rw (ok, le-ltb (length values) 16384 area, le-ltb latest t h) refl) ok h (on q e)

@@ -1,0 +1,103 @@
+-- An open and a close, one law for each way through the code. Assumes nothing.
+use Prim.Native.Nat.{ℕ, _≤_, _<_}
+use borrow.Author.Tests.{lt-ltb, le-ltb, not-true, not-false}
+use mathlib.Core.Bool.{Bool, true, false, cond, not}
+use mathlib.Core.List.{List, []}
+use mathlib.Core.Logic.{_≢_}
+use mathlib.Core.Path.{_≡_, refl, sym, ap, subst, _∙_}
+use lib.ListN.{length}
+use Rattle.message.specs.Line.{Line}
+use Rattle.table.specs.Layout.{tableOf}
+use Rattle.report.specs.Judge.{fault}
+use Rattle.plain.specs.Node.{closed, connected, fresh, isOpen}
+use Rattle.plain.specs.Calls.{Call, Open, Close, fault11}
+use Rattle.state.specs.declared.Clients.{Clients}
+use Rattle.state.specs.declared.State.{State}
+use Rattle.state.specs.View.{isSet, clientAt, view}
+use Rattle.state.specs.Fit.{isUnfit}
+use Rattle.state.specs.Becomes.{Becomes, Always}
+use Rattle.promise.specs.declared.Done.{Done}
+use Rattle.promise.specs.Promise.{Kept}
+use Rattle.promise.specs.Lent.{lentNumber}
+use Rattle.promise.proofs.Numbers.{open-number, close-number, good}
+use Rattle.promise.proofs.Answers.{accepts}
+use Rattle.promise.proofs.Clients.{opens, closes}
+use Rattle.node.proofs.Refused.{Quiet, Numbered, refused-lent, refused-first, refused-second, not-refused}
+
+-- whether a client of the view is open
+pub open-in-view : (table : List ℕ) (s : State) (values : List ℕ) (c : ℕ) → isOpen (view table s values .clients c) ≡ isSet (s .clients .open) c
+unfolding view clientAt isOpen
+open-in-view table s values c = go (isSet (s .clients .open) c) _ _
+  where
+    go : (b : Bool) (l : Line) (a : ℕ → Bool) → isOpen (cond b (connected l a) closed) ≡ b
+    go true l a = refl
+    go false l a = refl
+
+pub too-high : {c : ℕ} → 7 < c → fault11 c ≡ 11
+too-high {c} h = rw (lt-ltb 7 c h) refl
+
+pub not-high : {c : ℕ} → c ≤ 7 → fault11 c ≡ 0
+not-high {c} h = rw (le-ltb 7 c h) refl
+
+module _ (table : List ℕ) (s : State) (values : List ℕ) (c t : ℕ) where
+  abbrev opening : Call
+  opening = Open c t (length values)
+
+  abbrev closing : Call
+  closing = Close c t (length values)
+
+  abbrev Answers : Call → Done → Type 0
+  Answers e r = Kept table e s values [] r values []
+
+  abbrev next : Clients → State
+  next q = record { clients = q; settings = s .settings }
+
+  abbrev viewed : Bool
+  viewed = isOpen (view table s values .clients c)
+
+  numbered-open : Numbered table s values [] opening (lentNumber table values 32768 s t) (fault11 c) (fault 13 viewed)
+  numbered-open = record { is = open-number table s values c t }
+
+  numbered-close : Numbered table s values [] closing (lentNumber table values 32768 s t) (fault11 c) (fault 12 (not viewed))
+  numbered-close = record { is = close-number table s values c t }
+
+  fit : {k : ℕ} → k ≡ lentNumber table values 32768 s t → k ≡ 0 → isUnfit (tableOf table) s values ≡ false
+  fit lent ok = good table s values 32768 t (sym lent ∙ ok) .fit
+
+  is-open : {b o : Bool} → b ≡ isSet (s .clients .open) c → b ≡ o → viewed ≡ o
+  is-open judged y = open-in-view table s values c ∙ sym judged ∙ y
+
+  module _ {r : Done} {k : ℕ} (lent : k ≡ lentNumber table values 32768 s t) where
+    pub open-lent : k ≢ 0 → Quiet r k s → Answers opening r
+    open-lent z q = refused-lent table s values [] opening numbered-open lent z q
+
+    pub close-lent : k ≢ 0 → Quiet r k s → Answers closing r
+    close-lent z q = refused-lent table s values [] closing numbered-close lent z q
+
+    module _ (ok : k ≡ 0) where
+      pub open-high : 7 < c → Quiet r 11 s → Answers opening r
+      open-high h q = refused-first table s values [] opening numbered-open lent ok (too-high h) q
+
+      pub close-high : 7 < c → Quiet r 11 s → Answers closing r
+      close-high h q = refused-first table s values [] closing numbered-close lent ok (too-high h) q
+
+      module _ (h : c ≤ 7) {b : Bool} (judged : b ≡ isSet (s .clients .open) c) where
+        pub open-twice : b ≡ true → Quiet r 13 s → Answers opening r
+        open-twice y q = refused-second table s values [] opening numbered-open lent ok (not-high h) (ap (fault 13) (is-open judged y)) q
+
+        pub close-closed : not b ≡ true → Quiet r 12 s → Answers closing r
+        close-closed y q = refused-second table s values [] closing numbered-close lent ok (not-high h) (ap (λ (z : Bool). fault 12 (not z)) (is-open judged (not-true b y))) q
+
+        pub open-good : {x : Clients} → b ≡ false → Becomes (s .clients) c fresh Always x → Quiet r 0 (next x) → Answers opening r
+        open-good {x} y d q =
+            subst (Answers opening) (sym q)
+            (accepts table s values opening [] (record { number = 0; used = 0; written = 0; state = next x }) values []
+            (not-refused table s values [] opening numbered-open lent ok (not-high h) (ap (fault 13) (is-open judged y)))
+            (opens table s values (fit lent ok) c t x d))
+
+        pub close-good : {x : Clients} → not b ≡ false → Becomes (s .clients) c closed Always x → Quiet r 0 (next x) → Answers closing r
+        close-good {x} y d q =
+            subst (Answers closing) (sym q)
+            (accepts table s values closing [] (record { number = 0; used = 0; written = 0; state = next x }) values []
+            (not-refused table s values [] closing numbered-close lent ok (not-high h) (ap (λ (z : Bool). fault 12 (not z)) (is-open judged (not-false b y))))
+            (closes table s values (fit lent ok) c t x d))

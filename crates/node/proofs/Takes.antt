@@ -1,0 +1,184 @@
+-- A reading that fits is taken in: what is stored and sent, and that it has room. Assumes nothing.
+use Prim.Native.Nat.{ℕ, _+_, _*_, _-_, _≤_, _<_}
+use native.Mathlib.Nat.{zero-add}
+use native.Mathlib.Omega.{arith}
+use borrow.Author.Needs.{length-unmapped}
+use mathlib.Core.Bool.{true, false}
+use mathlib.Core.List.{List, map}
+use mathlib.Core.Option.{some}
+use mathlib.Core.Path.{_≡_, refl, sym, ap, _∙_}
+use lib.ListN.{length, set, take, drop, getElem?}
+use Rattle.ascii.specs.Bytes.{any}
+use Rattle.ascii.specs.Writer.{Puts}
+use Rattle.json.specs.Compacted.{Compacted}
+use Rattle.fit.specs.Fit.{isStored, storedForm}
+use Rattle.table.specs.Table.{Parameter, Table}
+use Rattle.table.specs.Layout.{tableOf}
+use Rattle.table.specs.Search.{Placed, parameters}
+use Rattle.table.specs.At.{bytesOf, parameterOf}
+use Rattle.table.specs.declared.layout.ParameterAt.{ParameterAt}
+use Rattle.message.specs.Reply.{Report}
+use Rattle.message.specs.Said.{reportOf}
+use Rattle.outbox.specs.Outbox.{Record, encodeAll}
+use Rattle.report.specs.Judge.{lowest}
+use Rattle.search.specs.declared.cursor.Cursor.{Cursor}
+use Rattle.search.specs.Left.{placed}
+use Rattle.plain.specs.Node.{clientNumbers, updatesTo, withValue}
+use Rattle.plain.specs.Calls.{Reading, Effect, callNumber, readingVerdict, readingEffect, effect}
+use Rattle.sound.proofs.Lists.{each-at}
+use Rattle.sound.proofs.Accepted.{GoodParameter, accepted, accepted-whole}
+use Rattle.sound.proofs.Homes.{parameter-home}
+use Rattle.sound.proofs.Values.{stored, stored-short}
+use Rattle.sound.proofs.Records.{Fine, name-short, written-to}
+use Rattle.state.specs.declared.Settings.{Settings}
+use Rattle.state.specs.declared.State.{State}
+use Rattle.state.specs.View.{clientAt, view, withStored, outboxAfter, written}
+use Rattle.state.specs.Fit.{clientUnfit, settingsUnfit, isUnfit}
+use Rattle.state.proofs.Forms.{stands, put-stored}
+use Rattle.state.proofs.Settled.{Sized, withSetting, some-stored, stored-fit}
+use Rattle.state.proofs.Views.{value-view}
+use Rattle.promise.specs.Promise.{Kept, areaOf}
+use Rattle.promise.proofs.Numbers.{Good, good, reading-number}
+use Rattle.promise.proofs.Answers.{accepts}
+use Rattle.promise.proofs.Clients.{fit-parts}
+use Rattle.node.specs.Taken.{Fitting}
+
+module _ (table : List ℕ) (s : State) (values outbox : List ℕ) (k t : ℕ) (bs : List ℕ) (q : ParameterAt) (e : Cursor) (g : Fitting table s values outbox k t bs q e) where
+  abbrev w : Table
+  w = tableOf table
+
+  abbrev lent-good : Good table s values (length outbox) t
+  lent-good = good table s values (length outbox) t (g .lent)
+
+  -- the parameter that is read
+  abbrev it : Placed Parameter
+  it = placed table e (parameterOf table q (g .found .held .datainfo))
+
+  there : getElem? (parameters w) k ≡ some it
+  there = g .found .is w (accepted-whole table (lent-good .accepted))
+
+  -- the report of a value
+  abbrev told : List ℕ → Report
+  told v = reportOf (bytesOf table (e .name)) (bytesOf table (q .name)) v t
+
+  abbrev updates : List ℕ → List Record
+  updates v = updatesTo (clientAt (s .clients)) (e .modules - 1) (told v) clientNumbers
+
+  fine : (v : List ℕ) → length v ≤ 256 → Fine (told v)
+  unfolding parameterOf
+  fine v n =
+      let names = each-at GoodParameter (parameters w) (accepted table (lent-good .accepted) .allParameters) k it there .0 in
+      record { names = names; small = n; inTime = lent-good .time }
+
+  pub read-start : 256 * k ≤ length values
+  read-start =
+      let low = g .low in
+      let area = lent-good .area in
+      omega arith
+
+  module _ (after : List ℕ) (r : ℕ) (x : Compacted bs values (256 * k) after r) where
+    -- where the stored form lies
+    abbrev value : List ℕ
+    value = take (r - 256 * k) (drop (256 * k) after)
+
+    stored-put : Puts values (256 * k) (storedForm bs) after r
+    stored-put =
+        let low = g .low in
+        let area = lent-good .area in
+        put-stored (g .found .held .datainfo) bs values (256 * k) after r (g .fits) (omega arith) x
+
+    value-is : value ≡ storedForm bs
+    value-is = stands stored-put (x .room)
+
+    small : length (storedForm bs) ≤ 256
+    small = stored-short (g .found .held .datainfo) bs (g .fits)
+
+    size-is : r - 256 * k ≡ length (storedForm bs)
+    size-is = let z = stored-put .ends in omega arith
+
+    pub read-size : r - 256 * k ≤ 256
+    read-size = rw size-is small
+
+    -- what the plain node does
+    does : effect w (view table s values) (Reading k bs t (length values) (length outbox))
+        ≡ record { next = withValue (view table s values) k (record { text = storedForm bs; time = t }); used = 0; records = updates (storedForm bs) }
+    unfolding effect readingEffect view parameterOf
+    does = rw there refl
+
+    is-stored : isStored (it .it .datainfo) (storedForm bs) ≡ true
+    unfolding parameterOf
+    is-stored = stored (g .found .held .datainfo) bs (g .fits)
+
+    fit : (settingsUnfit (s .settings) values 0 (parameters w) ≡ false) × (any (clientUnfit (length (w .modules)) (s .clients)) clientNumbers ≡ false)
+    fit = fit-parts w s values (lent-good .fit)
+
+    is-number : callNumber table (isUnfit w s values) (view table s values) (Reading k bs t (length values) (length outbox)) ≡ 0
+    unfolding lowest readingVerdict parameterOf
+    is-number = reading-number table s values k bs t (length outbox) ∙ rw (g .lent, there, g .fits)
+
+    -- the names, as they are read from the table
+    module _ (m a : List ℕ) (named-module : m ≡ bytesOf table (e .name)) (named : a ≡ bytesOf table (q .name)) where
+      abbrev sent : List Record
+      sent = updatesTo (clientAt (s .clients)) (e .modules - 1) (reportOf m a value t) clientNumbers
+
+      sent-is : sent ≡ updates (storedForm bs)
+      sent-is = rw (named-module, named, value-is) refl
+
+      pub read-room : (e .modules - 1 < 16) × ((0 + length (encodeAll sent) ≤ length outbox) × (length m + length a + length value ≤ 1024))
+      read-room =
+          let f = fine (storedForm bs) small in
+          let u = written-to (clientAt (s .clients)) (e .modules - 1) (told (storedForm bs)) f clientNumbers .short in
+          let o = lent-good .outbox in
+          let few = accepted table (lent-good .accepted) .fewModules in
+          let home = parameter-home w k it there in (
+            omega arith,
+            (
+              rw sent-is (omega arith),
+              rw (named-module, named, value-is) (omega (arith, small, name-short (bytesOf table (e .name)) (f .names .0), name-short (bytesOf table (q .name)) (f .names .1))),
+            ),
+          )
+
+      module _ (z : Sized (s .settings)) (settings : Settings) (i : settings ≡ record { length = set (s .settings .length) k (r - 256 * k); time = set (s .settings .time) k t })
+          (outbox′ : List ℕ) (n : ℕ) (p : Puts outbox 0 (encodeAll sent) outbox′ n) where
+        next-is : settings ≡ withSetting (s .settings) k (length (storedForm bs)) t
+        next-is = i ∙ ap (λ (m : ℕ). withSetting (s .settings) k m t) size-is
+
+        abbrev next : State
+        next = record { clients = s .clients; settings = settings }
+
+        puts : Puts outbox 0 (encodeAll (updates (storedForm bs))) outbox′ n
+        puts = rw sent-is at p
+
+        area-is : after ≡ withStored values k (storedForm bs)
+        unfolding withStored
+        area-is = stored-put .is
+
+        node-is : view table next after ≡ withValue (view table s values) k (record { text = storedForm bs; time = t })
+        node-is =
+            rw (next-is, area-is)
+            (value-view table s z values (lent-good .area) k (g .low) (storedForm bs) (some-stored (it .it .datainfo) (storedForm bs) is-stored) small t (fit .0) it there)
+
+        still-fit : isUnfit w next after ≡ false
+        unfolding isUnfit
+        still-fit =
+            rw (next-is, area-is)
+            (rw (stored-fit (s .settings) z values (lent-good .area) k (g .low) (storedForm bs) (some-stored (it .it .datainfo) (storedForm bs) is-stored) small t (parameters w) (fit .0) it there is-stored (lent-good .time), fit .1) refl)
+
+        pub is-taken : Kept table (Reading k bs t (length values) (length outbox)) s values outbox (record { number = 0; used = 0; written = n; state = next }) after outbox′
+        unfolding written outboxAfter areaOf
+        is-taken =
+            let d = sym does in
+            accepts table s values (Reading k bs t (length values) (length outbox)) outbox (record { number = 0; used = 0; written = n; state = next }) after outbox′ is-number
+            (record {
+              number = refl;
+              used = ap (λ (y : Effect). y .used) d;
+              writes = puts .ends ∙ zero-add _ ∙ ap (λ (y : Effect). written (y .records)) d;
+              sends = puts .is ∙ ap (λ (y : Effect). outboxAfter outbox (y .records)) d;
+              area = area-is;
+              node = node-is ∙ ap (λ (y : Effect). y .next) d;
+              fit = still-fit;
+            })
+
+-- the arrays of settings, as a struct's fields are handed to a proof
+pub settings-sized : (s : Settings) → length (map (λ (v : ℕ). v) (s .length)) ≡ 64 → length (map (λ (v : ℕ). v) (s .time)) ≡ 64 → Sized s
+settings-sized s h i = record { size = length-unmapped ℕ (s .length) 64 h; time = length-unmapped ℕ (s .time) 64 i }

@@ -1,0 +1,71 @@
+-- `node::readings::take_reading` meets its contract. Assumes nothing.
+use borrow.Author.Needs.{needs}
+use Rattle.node.proofs.Takes.{settings-sized, read-start, read-room, read-size, is-taken}
+use Rattle.node.proofs.readings.take_reading.Statement.{statement}
+use Rattle.node.proofs.readings.take_reading.Tie as tie
+
+mul-at : tie.Need-mul-at
+mul-at c = search needs
+
+put-compact-requires : tie.Need-put-compact-requires
+put-compact-requires c κs = search read-start
+
+bytes-of-requires : tie.Need-bytes-of-requires
+bytes-of-requires c κs = search needs
+
+bytes-of-requires-2 : tie.Need-bytes-of-requires-2
+bytes-of-requires-2 c κs = search needs
+
+sub-number : tie.Need-sub-number
+sub-number c = search needs
+
+sub-put-updates-to : tie.Need-sub-put-updates-to
+sub-put-updates-to c = search needs
+
+part-put-updates-to-start : tie.Need-part-put-updates-to-start
+part-put-updates-to-start c = search needs
+
+part-put-updates-to-end : tie.Need-part-put-updates-to-end
+part-put-updates-to-end c = search needs
+
+put-updates-to-requires : tie.Need-put-updates-to-requires
+put-updates-to-requires c κs =
+    read-room _ (c .before .before .before .before .before .before .before .before .before .before .before .before .before .before .before .args .state) _ _ _ _ _ _ _ (c .before .before .before .before .before .before .before .before .before .before .before .before .before .before .before .pre) _ _ (c .before .before .before .before .before .before .before .before .put-compact .ensures) _ _ (c .before .before .before .before .before .bytes-of .ensures) (c .before .before .before .before .bytes-of2 .ensures)
+
+sub-stored : tie.Need-sub-stored
+sub-stored c = search needs
+
+stored-requires : tie.Need-stored-requires
+stored-requires c κs = (search needs, search read-size)
+
+same-length : tie.Need-same-length
+same-length c = search needs
+
+same-length-2 : tie.Need-same-length-2
+same-length-2 c = search needs
+
+returns : tie.Need-returns
+returns c =
+    let start = c .before .before .before .before .before .before .before .before .before .before .before .before .before .before .before .before .before .before .before in
+    let fs = start .good .1 .1 .1 .0 .1 .1 .1 .0 .1 .1 in
+    let z = settings-sized (start .args .state .settings) (fs .0 .1 .0 .1) (fs .1 .0 .1 .0 .1) in
+    is-taken _ (start .args .state) _ _ _ _ _ _ _ (start .pre) _ _ (c .before .before .before .before .before .before .before .before .before .before .before .before .put-compact .ensures) _ _ (c .before .before .before .before .before .before .before .before .before .bytes-of .ensures) (c .before .before .before .before .before .before .before .before .bytes-of2 .ensures) z _ (c .stored .ensures) _ _ (c .before .before .before .put-updates-to .ensures)
+
+pub take-reading-spec : {M : Type 1} → statement M
+take-reading-spec =
+    tie.close
+    (tie.spec
+    mul-at
+    put-compact-requires
+    bytes-of-requires
+    bytes-of-requires-2
+    sub-number
+    sub-put-updates-to
+    part-put-updates-to-start
+    part-put-updates-to-end
+    put-updates-to-requires
+    sub-stored
+    stored-requires
+    same-length
+    same-length-2
+    returns)

@@ -1,0 +1,83 @@
+// Open and close of a client.
+use crate::judge::lent_number;
+use crate::judge::quiet;
+use promise::Done;
+use state::State;
+use state::client::closed;
+use state::client::is_open;
+use state::client::opened;
+ghost use mathlib.Core.List.{[]};
+ghost use lib.ListN.{length};
+ghost use Rattle.plain.specs.Calls.{Open, Close};
+ghost use Rattle.promise.specs.Promise.{Kept};
+
+// A client has a "number 0 to 7".
+const LAST_CLIENT: u64 = 7;
+
+// "Open begins with an empty line and nothing active".
+#[no_mangle]
+pub extern "C" fn jihfasul_open(
+    table: &[u8],
+    values: &[u8],
+    state: State,
+    client: u64,
+    time: u64,
+) -> Done
+    ensures { λ r. ⌜ Kept (now (table .entry)) (Open client time (length (now (values .entry)))) state (now (values .entry)) [] r (now (values .entry)) [] ⌝ }
+{
+    let number = lent_number(table, values, 32768, state, time);
+    if number != 0 {
+        return quiet(number, state);
+    }
+    if client > LAST_CLIENT {
+        return quiet(11, state);
+    }
+    let c = client as usize;
+    let clients = state.clients;
+    if is_open(clients, c) {
+        return quiet(13, state);
+    }
+    let settings = state.settings;
+    let next = opened(clients, c);
+    quiet(
+        0,
+        State {
+            clients: next,
+            settings,
+        },
+    )
+}
+
+// "close forgets both": the line and what is active.
+#[no_mangle]
+pub extern "C" fn jihfasul_close(
+    table: &[u8],
+    values: &[u8],
+    state: State,
+    client: u64,
+    time: u64,
+) -> Done
+    ensures { λ r. ⌜ Kept (now (table .entry)) (Close client time (length (now (values .entry)))) state (now (values .entry)) [] r (now (values .entry)) [] ⌝ }
+{
+    let number = lent_number(table, values, 32768, state, time);
+    if number != 0 {
+        return quiet(number, state);
+    }
+    if client > LAST_CLIENT {
+        return quiet(11, state);
+    }
+    let c = client as usize;
+    let clients = state.clients;
+    if !is_open(clients, c) {
+        return quiet(12, state);
+    }
+    let settings = state.settings;
+    let next = closed(clients, c);
+    quiet(
+        0,
+        State {
+            clients: next,
+            settings,
+        },
+    )
+}

@@ -1,0 +1,43 @@
+// What every call judges, and what a refusal answers.
+use describe::judge::table_number;
+use fitness::is_unfit;
+use promise::Done;
+use state::State;
+ghost use mathlib.Core.Path.{_≡_};
+ghost use Rattle.promise.specs.Lent.{lentNumber};
+
+// An answer that uses 0 bytes and writes 0.
+pub fn quiet(number: u8, state: State) -> Done
+    ensures { λ r. ⌜ r ≡ record { number = number; used = 0; written = 0; state = state } ⌝ }
+{
+    Done {
+        number,
+        used: 0,
+        written: 0,
+        state,
+    }
+}
+
+// The lowest number of what every call judges: the table, the outbox (32,768 where a call is lent none), the values area, the state and
+// the time.
+pub fn lent_number(table: &[u8], values: &[u8], outbox: usize, state: State, time: u64) -> u8
+    ensures { λ r. ⌜ r ≡ lentNumber (now (table .entry)) (now (values .entry)) outbox state time ⌝ }
+{
+    let number = table_number(table);
+    if number != 0 {
+        return number;
+    }
+    if outbox < 32768 {
+        return 7;
+    }
+    if values.len() < 16384 {
+        return 8;
+    }
+    if is_unfit(table, values, state) {
+        return 9;
+    }
+    if time > 9999999999999 {
+        return 10;
+    }
+    0
+}

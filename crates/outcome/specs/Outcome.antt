@@ -1,0 +1,95 @@
+-- What the code's outcome of a request stands for: the plain node's, with what was written and what was stored. Assumes nothing.
+use Prim.Native.Nat.{ℕ}
+use mathlib.Core.Bool.{true, false}
+use mathlib.Core.List.{List, [], _∷_, _++_}
+use mathlib.Core.Option.{some}
+use mathlib.Core.Path.{_≡_}
+use lib.ListN.{length, getElem?}
+use Rattle.ascii.specs.Writer.{Puts}
+use Rattle.fit.specs.Fit.{isStored}
+use Rattle.table.specs.Table.{Parameter, Table}
+use Rattle.table.specs.Layout.{tableOf}
+use Rattle.table.specs.Search.{Placed, parameters}
+use Rattle.message.specs.Said.{classOf}
+use Rattle.message.specs.Reply.{Reply}
+use Rattle.outbox.specs.Outbox.{Record, final, encodeAll}
+use Rattle.plain.specs.Node.{Node, withClient, withValue, isActive, activated}
+use Rattle.plain.specs.Answer as Plain
+use Rattle.plain.specs.Answer.{refused, carried, outcome}
+use Rattle.message.specs.Request.{Request}
+use Rattle.state.specs.declared.State.{State}
+use Rattle.state.specs.View.{bit, view, withStored}
+use Rattle.state.specs.Fit.{isUnfit, pastLast}
+use Rattle.outcome.specs.Area.{withSetting}
+use Rattle.outcome.specs.declared.Outcome.{Outcome}
+use Rattle.outcome.specs.declared.Outcome.the-variants.{Refused, Sent, Active, Stored}
+use Rattle.outcome.specs.declared.Answered.{Answered}
+
+-- On the table w, at the plain node n, for client c at the time t: the outbox held `before` and holds `after`, the values area held `values` and
+-- holds `stored`.
+module _ (w : Table) (n : Node) (c t : ℕ) (before after values stored : List ℕ) where
+  -- the request o is carried out: the node becomes `next`, and so many bytes are written
+  pub record Carries (o : Plain.Outcome) (next : Node) (written : ℕ) : Type 0 where
+    pub records : List Record
+    pub reply : Reply
+    pub is : o ≡ carried next records reply
+    pub puts : Puts before 0 (encodeAll (records ++ (final c reply ∷ []))) after written
+    pub area : stored ≡ withSetting values (records ++ (final c reply ∷ []))
+
+  -- the request o is refused, and nothing is altered
+  pub record Refuses (o : Plain.Outcome) (e : Plain.Outcome) : Type 0 where
+    pub is : o ≡ e
+    pub quiet : after ≡ before
+    pub area : stored ≡ values
+
+  -- the request o is answered, and alters nothing
+  pub record Sends (o : Plain.Outcome) (written : ℕ) : Type 0 where
+    pub carries : Carries o n written
+    pub unstored : stored ≡ values
+
+  -- client c's active modules become those of a mask, of which none is past the last
+  pub record Activates (o : Plain.Outcome) (mask written : ℕ) : Type 0 where
+    pub carries : Carries o (withClient n c (activated (bit mask) (n .clients c))) written
+    pub unstored : stored ≡ values
+    pub low : pastLast mask (length (w .modules)) ≡ false
+
+  -- the parameter of number p has a value of so many bytes that fits it
+  pub record Stores (o : Plain.Outcome) (p size written : ℕ) : Type 0 where
+    pub text : List ℕ
+    pub parameter : Placed Parameter
+    pub there : getElem? (parameters w) p ≡ some parameter
+    pub fits : isStored (parameter .it .datainfo) text ≡ true
+    pub long : size ≡ length text
+    pub carries : Carries o (withValue n p (record { text = text; time = t })) written
+    pub area : stored ≡ withStored values p text
+
+  -- the code's outcome r stands for the plain node's outcome o
+  abbrev pub OutcomeIs : Outcome → Plain.Outcome → Type 0
+  OutcomeIs (Refused e) o = Refuses o (refused (classOf e))
+  OutcomeIs (Sent written) o = Sends o written
+  OutcomeIs (Active mask written) o = Activates o mask written
+  OutcomeIs (Stored p size written) o = Stores o p size written
+
+-- On the table's bytes, handed the state s, the values area and the outbox, the code's outcome r stands for what the plain node makes of a
+-- request of client c at the time t.
+abbrev pub Comes : List ℕ → State → List ℕ → List ℕ → ℕ → ℕ → Outcome → List ℕ → List ℕ → Request → Type 0
+Comes table s values before c t r stored after q =
+    OutcomeIs (tableOf table) (view table s values) c t before after values stored r
+    (outcome (tableOf table) (view table s values) c t q)
+
+-- the same of a request that neither looks at the values area nor alters it, at any node
+abbrev pub ComesAtAny : List ℕ → List ℕ → ℕ → ℕ → Outcome → List ℕ → Request → Type 0
+ComesAtAny table before c t r after q = (n : Node) (values : List ℕ)
+    → OutcomeIs (tableOf table) n c t before after values values r (outcome (tableOf table) n c t q)
+
+-- the same of a request that looks at client c's active modules alone
+abbrev pub ComesWith : ℕ → List ℕ → List ℕ → ℕ → ℕ → Outcome → List ℕ → Request → Type 0
+ComesWith mask table before c t r after q = (n : Node) (values : List ℕ) → ((i : ℕ) → isActive (n .clients c) i ≡ bit mask i)
+    → OutcomeIs (tableOf table) n c t before after values values r (outcome (tableOf table) n c t q)
+
+-- A line is answered as the plain node has it, o: on the table's bytes, by the state r, from the values area and the outbox as they were.
+pub record Answers (table values before : List ℕ) (r : Answered) (stored after : List ℕ) (o : Node × List Record) : Type 0 where
+  pub node : view table (r .state) stored ≡ o .0
+  pub fit : isUnfit (tableOf table) (r .state) stored ≡ false
+  pub puts : Puts before 0 (encodeAll (o .1)) after (r .written)
+  pub area : stored ≡ withSetting values (o .1)

@@ -1,0 +1,20 @@
+// What a request comes to, and what answering a line leaves.
+use message::say::Class;
+use state::State;
+
+pub enum Outcome {
+    // An error: nothing is written yet, and nothing is altered.
+    Refused(Class),
+    // Answered with so many bytes; nothing else is altered.
+    Sent(usize),
+    // The client's active modules are those of a mask; so many bytes are written.
+    Active(u16, usize),
+    // A parameter has a stored value of so many bytes; so many bytes are written.
+    Stored(usize, usize, usize),
+}
+
+// The next state, and how many bytes are written.
+pub struct Answered {
+    pub state: State,
+    pub written: usize,
+}

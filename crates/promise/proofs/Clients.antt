@@ -1,0 +1,144 @@
+-- What is left by a call that changes one client: an open, a close, and a piece without a line feed. Assumes nothing.
+use Prim.Native.Nat.{ℕ, zero, suc, _+_, _≤_, _<_}
+use native.Mathlib.Omega.{arith}
+use native.Mathlib.Nat.{add-zero}
+use mathlib.Core.Bool.{Bool, true, false, cond, _||_, true≢false}
+use mathlib.Core.List.{List, [], _∷_}
+use mathlib.Core.Path.{_≡_, refl, sym, ap, _∙_}
+use lib.Dec.{eqb}
+use lib.ListN.{length, take}
+use Rattle.ascii.specs.Bytes.{any}
+use Rattle.table.specs.Layout.{tableOf}
+use Rattle.table.specs.Table.{Table}
+use Rattle.table.specs.Search.{parameters}
+use Rattle.outbox.specs.Outbox.{encodeAll}
+use Rattle.plain.specs.Node.{Client, closed, Node, withClient, fresh, receive, clientNumbers}
+use Rattle.plain.specs.Calls.{Call, Open, Close, Piece, Effect, effect, pieceEffect, ended, beforeFeed, hasFeed, usedOf}
+use Rattle.state.specs.declared.Clients.{Clients}
+use Rattle.state.specs.declared.State.{State}
+use Rattle.state.specs.View.{isSet, clientAt, view, outboxAfter, written}
+use Rattle.state.specs.Fit.{clientUnfit, settingsUnfit, isUnfit}
+use Rattle.state.specs.Becomes.{Becomes, Always, Joinable}
+use Rattle.state.proofs.Flags.{neither}
+use Rattle.state.proofs.Kept.{still-fit}
+use Rattle.state.proofs.Views.{client-view}
+use Rattle.outcome.specs.Area.{withSetting}
+use Rattle.promise.specs.declared.Done.{Done}
+use Rattle.promise.specs.Promise.{areaOf}
+use Rattle.promise.specs.Leaves.{Leaves}
+
+-- ## Fitness
+
+module _ (w : Table) (s : State) (values : List ℕ) where
+  pub fit-parts : isUnfit w s values ≡ false
+      → (settingsUnfit (s .settings) values 0 (parameters w) ≡ false) × (any (clientUnfit (length (w .modules)) (s .clients)) clientNumbers ≡ false)
+  unfolding isUnfit
+  fit-parts e = neither _ _ e
+
+  pub with-clients : (r : Clients) → isUnfit w s values ≡ false → any (clientUnfit (length (w .modules)) r) clientNumbers ≡ false
+      → isUnfit w (record { clients = r; settings = s .settings }) values ≡ false
+  unfolding isUnfit
+  with-clients r e f = rw (fit-parts e .0, f) refl
+
+-- ## Line feeds
+
+pub no-feed-before : (bs : List ℕ) → any (λ b. eqb b 10) (beforeFeed bs) ≡ false
+unfolding beforeFeed any
+no-feed-before [] = refl
+no-feed-before (b ∷ bs) = go (eqb b 10) refl (no-feed-before bs)
+  where
+    go : (t : Bool) → eqb b 10 ≡ t → any (λ b. eqb b 10) (beforeFeed bs) ≡ false
+        → any (λ b. eqb b 10) (cond t [] (b ∷ beforeFeed bs)) ≡ false
+    go true e h = refl
+    go false e h = rw (e, h) refl
+
+pub take-before : (bs : List ℕ) → take (length (beforeFeed bs)) bs ≡ beforeFeed bs
+unfolding beforeFeed
+take-before [] = refl
+take-before (b ∷ bs) = go (eqb b 10) (take-before bs)
+  where
+    go : (t : Bool) → take (length (beforeFeed bs)) bs ≡ beforeFeed bs
+        → take (length (cond t [] (b ∷ beforeFeed bs))) (b ∷ bs) ≡ cond t [] (b ∷ beforeFeed bs)
+    go true h = refl
+    go false h = ap (λ (x : List ℕ). b ∷ x) h
+
+pub before-long : (bs : List ℕ) → length (beforeFeed bs) + cond (hasFeed bs) 1 0 ≤ length bs
+unfolding beforeFeed hasFeed
+before-long [] = omega arith
+before-long (b ∷ bs) = go (eqb b 10) (before-long bs)
+  where
+    go : (t : Bool) → length (beforeFeed bs) + cond (hasFeed bs) 1 0 ≤ length bs
+        → length (cond t [] (b ∷ beforeFeed bs)) + cond (cond t true (hasFeed bs)) 1 0 ≤ suc (length bs)
+    go true h = omega arith
+    go false h = omega arith
+
+before-all : (bs : List ℕ) → hasFeed bs ≡ false → length (beforeFeed bs) ≡ length bs
+unfolding beforeFeed hasFeed
+before-all [] e = refl
+before-all (b ∷ bs) e = go (eqb b 10) (before-all bs) e
+  where
+    go : (t : Bool) → (hasFeed bs ≡ false → length (beforeFeed bs) ≡ length bs) → cond t true (hasFeed bs) ≡ false
+        → length (cond t [] (b ∷ beforeFeed bs)) ≡ suc (length bs)
+    go true h e = absurd (true≢false e)
+    go false h e = ap suc (h e)
+
+pub no-feed : (bs : List ℕ) → length (beforeFeed bs) ≡ length bs → hasFeed bs ≡ false
+no-feed bs e = go (hasFeed bs) (before-long bs)
+  where
+    go : (t : Bool) → length (beforeFeed bs) + cond t 1 0 ≤ length bs → t ≡ false
+    go true h = absurd (omega arith)
+    go false h = refl
+
+pub a-feed : (bs : List ℕ) → length (beforeFeed bs) < length bs → hasFeed bs ≡ true
+a-feed bs e = go (hasFeed bs) (before-all bs)
+  where
+    go : (t : Bool) → (t ≡ false → length (beforeFeed bs) ≡ length bs) → t ≡ true
+    go true h = refl
+    go false h = let q = h refl in absurd (omega arith)
+
+-- ## Calls
+
+module _ (table : List ℕ) (s : State) (values : List ℕ) (fit : isUnfit (tableOf table) s values ≡ false) (c t : ℕ) (r : Clients) where
+  abbrev next : State
+  next = record { clients = r; settings = s .settings }
+
+  -- client c becomes x, and nothing is sent
+  quiet : (e : Call) (x : Client) (u : ℕ) (condition : ℕ → Type 0) → Becomes (s .clients) c x condition r
+      → condition (length (tableOf table .modules))
+      → effect (tableOf table) (view table s values) e ≡ record { next = withClient (view table s values) c x; used = u; records = [] }
+      → areaOf values e [] ≡ values → (outbox : List ℕ)
+      → Leaves table s values e outbox (record { number = 0; used = u; written = 0; state = next }) values outbox
+  unfolding written outboxAfter encodeAll
+  quiet e x u condition b h f g outbox =
+      record {
+        number = refl;
+        used = ap (λ (y : Effect). y .used) (sym f);
+        writes = ap (λ (y : Effect). written (y .records)) (sym f);
+        sends = ap (λ (y : Effect). outboxAfter outbox (y .records)) (sym f);
+        area = sym g ∙ ap (λ (y : Effect). areaOf values e (y .records)) (sym f);
+        node = client-view table s values b ∙ ap (λ (y : Effect). y .next) (sym f);
+        fit = with-clients (tableOf table) s values r fit
+            (still-fit (length (tableOf table .modules)) b h (fit-parts (tableOf table) s values fit .1));
+      }
+
+  pub opens : Becomes (s .clients) c fresh Always r
+      → Leaves table s values (Open c t (length values)) [] (record { number = 0; used = 0; written = 0; state = next }) values []
+  unfolding effect areaOf
+  opens b = quiet (Open c t (length values)) fresh 0 Always b tt refl refl []
+
+  pub closes : Becomes (s .clients) c closed Always r
+      → Leaves table s values (Close c t (length values)) [] (record { number = 0; used = 0; written = 0; state = next }) values []
+  unfolding effect areaOf
+  closes b = quiet (Close c t (length values)) closed 0 Always b tt refl refl []
+
+  pub joins : (bs outbox : List ℕ) → isSet (s .clients .open) c ≡ true → hasFeed bs ≡ false
+      → Becomes (s .clients) c (receive (clientAt (s .clients) c) (beforeFeed bs)) (Joinable (s .clients) c (beforeFeed bs)) r
+      → Leaves table s values (Piece c bs t (length values) (length outbox)) outbox
+      (record { number = 0; used = length (beforeFeed bs); written = 0; state = next }) values outbox
+  unfolding effect areaOf pieceEffect usedOf ended view
+  joins bs outbox o f b =
+      quiet (Piece c bs t (length values) (length outbox)) (receive (clientAt (s .clients) c) (beforeFeed bs)) (length (beforeFeed bs)) (Joinable (s .clients) c (beforeFeed bs)) b
+      (record { isOpen = o; noFeed = no-feed-before bs })
+      (rw f (ap (λ (k : ℕ). record { next = withClient (view table s values) c (receive (clientAt (s .clients) c) (beforeFeed bs)); used = k; records = [] }) (add-zero (length (beforeFeed bs)))))
+      (unfold withSetting in refl)
+      outbox

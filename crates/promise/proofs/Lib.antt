@@ -1,0 +1,5 @@
+pub mod Numbers
+pub mod Answers
+pub mod Clients
+pub mod Feeds
+pub mod Held

@@ -1,0 +1,26 @@
+-- What the code of an accepted call leaves. Assumes nothing.
+use Prim.Native.Nat.{ℕ}
+use mathlib.Core.Bool.{false}
+use mathlib.Core.List.{List}
+use mathlib.Core.Path.{_≡_}
+use Rattle.table.specs.Layout.{tableOf}
+use Rattle.plain.specs.Calls.{Call, Effect, effect}
+use Rattle.state.specs.declared.State.{State}
+use Rattle.state.specs.View.{view, outboxAfter, written}
+use Rattle.state.specs.Fit.{isUnfit}
+use Rattle.promise.specs.declared.Done.{Done}
+use Rattle.promise.specs.Promise.{areaOf}
+
+-- the plain node's effect, from the node that a state stands for
+abbrev pub effectFrom : List ℕ → State → List ℕ → Call → Effect
+effectFrom table s values e = effect (tableOf table) (view table s values) e
+
+-- handed the state s, the values area and the outbox, an accepted call e answers r and leaves values′ and outbox′
+pub record Leaves (table : List ℕ) (s : State) (values : List ℕ) (e : Call) (outbox : List ℕ) (r : Done) (values′ outbox′ : List ℕ) : Type 0 where
+  pub number : r .number ≡ 0
+  pub used : r .used ≡ effectFrom table s values e .used
+  pub writes : r .written ≡ written (effectFrom table s values e .records)
+  pub sends : outbox′ ≡ outboxAfter outbox (effectFrom table s values e .records)
+  pub area : values′ ≡ areaOf values e (effectFrom table s values e .records)
+  pub node : view table (r .state) values′ ≡ effectFrom table s values e .next
+  pub fit : isUnfit (tableOf table) (r .state) values′ ≡ false

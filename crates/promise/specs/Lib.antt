@@ -1,0 +1,4 @@
+pub mod Leaves
+pub mod Lent
+pub mod Promise
+pub mod Run

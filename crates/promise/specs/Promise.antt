@@ -1,0 +1,74 @@
+-- What the five calls promise, for all inputs and all refusals, by the plain node's own step. Assumes nothing.
+use Prim.Native.Nat.{ℕ}
+use mathlib.Core.Bool.{false, cond}
+use mathlib.Core.List.{List}
+use mathlib.Core.Logic.{_≢_}
+use mathlib.Core.Path.{_≡_}
+use lib.Dec.{eqb}
+use lib.ListN.{length, replicate}
+use Rattle.fit.specs.Fit.{storedForm}
+use Rattle.table.specs.Layout.{tableOf}
+use Rattle.outbox.specs.Outbox.{Record}
+use Rattle.plain.specs.Node.{Node}
+use Rattle.plain.specs.Calls.{Call, Open, Close, Piece, Reading, Answer, startNumber, started, stepIf}
+use Rattle.state.specs.declared.State.{State}
+use Rattle.state.specs.View.{view, withStored, outboxAfter, written}
+use Rattle.state.specs.Fit.{isUnfit}
+use Rattle.outcome.specs.Area.{withSetting}
+use Rattle.promise.specs.declared.Done.{Done}
+
+-- ## After a start
+
+-- the plain node's step, from the node that a state stands for; whether the state is unfit is judged
+abbrev pub stepFrom : List ℕ → State → List ℕ → Call → Node × Answer
+stepFrom table s values e = stepIf table (isUnfit (tableOf table) s values) (view table s values) e
+
+-- "An accepted setting writes its stored form at the front of them and no other byte.": the values area after an accepted call that
+-- wrote these records
+unfoldable pub areaOf : List ℕ → Call → List Record → List ℕ
+areaOf values (Open c t a) rs = values
+areaOf values (Close c t a) rs = values
+areaOf values (Piece c bs t a o) rs = withSetting values rs
+areaOf values (Reading p bs t a o) rs = withStored values p (storedForm bs)
+
+-- a refused call leaves it as it was
+unfoldable pub areaAfter : List ℕ → Call → Answer → List ℕ
+areaAfter values e a = cond (eqb (a .number) 0) (areaOf values e (a .records)) values
+
+-- What the call e promises: handed the state s, the values area and the outbox, it answers r, and leaves values′ and outbox′. Left free of a
+-- state are the bytes of a line's place past the line, what stands for "yes" in a flag, and what is past the last parameter.
+pub record Kept (table : List ℕ) (e : Call) (s : State) (values outbox : List ℕ) (r : Done) (values′ outbox′ : List ℕ) : Type 0 where
+  pub number : r .number ≡ stepFrom table s values e .1 .number
+  pub used : r .used ≡ stepFrom table s values e .1 .used
+  pub writes : r .written ≡ written (stepFrom table s values e .1 .records)
+  pub sends : outbox′ ≡ outboxAfter outbox (stepFrom table s values e .1 .records)
+  pub area : values′ ≡ areaAfter values e (stepFrom table s values e .1)
+  pub node : view table (r .state) values′ ≡ stepFrom table s values e .0
+  pub fit : r .number ≡ 0 → isUnfit (tableOf table) (r .state) values′ ≡ false
+  pub refused : r .number ≢ 0 → r .state ≡ s
+
+-- ## A start
+
+-- a state with no client open and no value set, with the same time for every parameter
+unfoldable pub blank : ℕ → State
+blank time =
+    record {
+      clients =
+          record {
+            «open» = replicate 8 0;
+            overlong = replicate 8 0;
+            active = replicate 8 0;
+            length = replicate 8 0;
+            lines = replicate 8192 0;
+          };
+      settings = record { length = replicate 64 0; time = replicate 64 time };
+    }
+
+-- What a start promises; it writes nothing. "A refused start returns a state with no client open and every number 0."
+pub record Begins (table values : List ℕ) (time : ℕ) (r : Done) : Type 0 where
+  pub number : r .number ≡ startNumber table (length values) time
+  pub used : r .used ≡ 0
+  pub writes : r .written ≡ 0
+  pub state : r .state ≡ blank (cond (eqb (r .number) 0) time 0)
+  pub node : view table (r .state) values ≡ started table (length values) time
+  pub fit : r .number ≡ 0 → isUnfit (tableOf table) (r .state) values ≡ false

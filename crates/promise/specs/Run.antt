@@ -1,0 +1,53 @@
+-- Runs: calls one after another on one table, each of which kept its promise. Assumes nothing.
+use Prim.Native.Nat.{ℕ}
+use mathlib.Core.List.{List, [], _∷_}
+use lib.ListN.{length, take}
+use Rattle.plain.specs.Calls.{Call, Open, Close, Piece, Reading}
+use Rattle.state.specs.declared.State.{State}
+use Rattle.promise.specs.declared.Done.{Done}
+use Rattle.promise.specs.Promise.{Kept}
+
+-- what a caller keeps between calls
+pub record Kit : Type 0 where
+  pub state : State
+  pub values : List ℕ
+
+abbrev pub kit : State → List ℕ → Kit
+kit s values = record { state = s; values = values }
+
+-- what a caller hears of a call: its number, how many bytes it used, and the bytes that it wrote to the outbox
+pub record Heard : Type 0 where
+  pub number : ℕ
+  pub used : ℕ
+  pub sent : List ℕ
+
+abbrev pub hears : Done → List ℕ → Heard
+hears r outbox = record { number = r .number; used = r .used; sent = take (r .written) outbox }
+
+-- A call of one of the four functions after a start that kept its promise: what was handed in, the call as the plain node takes it, what was
+-- handed back, and what was heard.
+pub data Called (table : List ℕ) : Kit → Call → Kit → Heard → Type 0 where
+  by-open : (s : State) (values : List ℕ) (c t : ℕ) (r : Done) → Kept table (Open c t (length values)) s values [] r values []
+      → Called table (kit s values) (Open c t (length values)) (kit (r .state) values) (hears r [])
+  by-close : (s : State) (values : List ℕ) (c t : ℕ) (r : Done) → Kept table (Close c t (length values)) s values [] r values []
+      → Called table (kit s values) (Close c t (length values)) (kit (r .state) values) (hears r [])
+  by-piece : (s : State) (values outbox : List ℕ) (c : ℕ) (bs : List ℕ) (t : ℕ) (r : Done) (values′ outbox′ : List ℕ)
+      → Kept table (Piece c bs t (length values) (length outbox)) s values outbox r values′ outbox′
+      → Called table
+      (kit s values)
+      (Piece c bs t (length values) (length outbox))
+      (kit (r .state) values′)
+      (hears r outbox′)
+  by-reading : (s : State) (values outbox : List ℕ) (p : ℕ) (bs : List ℕ) (t : ℕ) (r : Done) (values′ outbox′ : List ℕ)
+      → Kept table (Reading p bs t (length values) (length outbox)) s values outbox r values′ outbox′
+      → Called table
+      (kit s values)
+      (Reading p bs t (length values) (length outbox))
+      (kit (r .state) values′)
+      (hears r outbox′)
+
+-- each call is given state and values area as the last one left them
+pub data Run (table : List ℕ) : Kit → List Call → Kit → List Heard → Type 0 where
+  ended : (k : Kit) → Run table k [] k []
+  called : {k l m : Kit} {e : Call} {h : List Call} {a : Heard} {as′ : List Heard}
+      → Called table k e l a → Run table l h m as′ → Run table k (e ∷ h) m (a ∷ as′)

@@ -1,0 +1,11 @@
+// What the calls of a node answer. What each promises, and what a run of calls that kept their promises is, stands in specs/.
+use state::State;
+
+// A call's number (0: accepted), how many bytes of a piece it used, how many bytes of the outbox it wrote, and the next state.
+#[repr(C)]
+pub struct Done {
+    pub number: u8,
+    pub used: usize,
+    pub written: usize,
+    pub state: State,
+}

@@ -1,0 +1,275 @@
+-- Laws of requests that alter a client's active modules: the modules that are found, the bits of masks, and the records. Assumes nothing.
+use Prim.Native.Nat.{ℕ, suc, _≤_, _<_}
+use native.Mathlib.Omega.{arith}
+use mathlib.Core.Path.{_≡_, refl, sym, ap, subst, fun-ext, _∙_}
+use mathlib.Core.Bool.{Bool, true, false, cond, not, _&&_, _||_}
+use mathlib.Core.List.{List, [], _∷_, _++_, map}
+use mathlib.Core.Option.{Option, none, some}
+use lib.Dec.{eqb, ltb}
+use lib.ListN.{length, getD}
+use borrow.Author.Tests.{eqb-true, lt-ltb, le-ltb}
+use borrow.Author.Needs.{length-unmapped}
+use Rattle.ascii.specs.Names.{isName}
+use Rattle.ascii.specs.Writer.{Puts}
+use Rattle.table.specs.Table.{Parameter, Module, Table}
+use Rattle.table.specs.Layout.{tableOf}
+use Rattle.table.specs.Search.{Placed, parameters, findModule}
+use Rattle.report.specs.Judge.{tableNumber}
+use Rattle.search.specs.Left.{InTable}
+use Rattle.search.specs.Found.{FindsModule}
+use Rattle.search.specs.declared.find.FoundModule as F
+use Rattle.search.proofs.Finds.{module-there, module-named}
+use Rattle.message.specs.Error.{NoSuchModule}
+use Rattle.message.specs.Request.{activate, deactivate}
+use Rattle.message.specs.Reply.{Reply, active, inactive}
+use Rattle.outbox.specs.Outbox.{Record, final, update, encode, encodeAll}
+use Rattle.outbox.specs.Written.{RoomFor}
+use Rattle.outbox.specs.Theorems.{Named}
+use Rattle.plain.specs.Node.{Client, closed, connected, Value, Node, withClient, isActive, activated, reportOf, updatesOf}
+use Rattle.plain.specs.Answer.{refused, carried, found, activates, deactivates, inScope, outcome}
+use Rattle.sound.specs.Theorems.{ClientHeld, Sound}
+use Rattle.sound.proofs.Lists.{each-at, there-low}
+use Rattle.sound.proofs.Accepted.{GoodModule, accepted, accepted-whole}
+use Rattle.sound.proofs.Records.{says-inactive, written-final}
+use Rattle.sound.proofs.Room.{puts-none, puts-after, room-after}
+use Rattle.sound.proofs.Steps.{comes-activates}
+use Rattle.state.specs.declared.Clients.{Clients}
+use Rattle.state.specs.declared.State.{State}
+use Rattle.state.specs.View.{isSet, bit, clientAt, view}
+use Rattle.state.specs.Fit.{pastLast}
+use Rattle.state.specs.Becomes.{Sized}
+use Rattle.state.proofs.Masks.{no-bit, past-last, not-past}
+use Rattle.state.proofs.Stands.{fit-is-sound}
+use Rattle.outcome.specs.Area.{withSetting}
+use Rattle.outcome.specs.Outcome.{Activates, Refuses}
+use Rattle.outcome.specs.Ready.{Ready}
+
+-- ## A module that is found
+
+-- the module of a name in an accepted table has the number i
+pub record ModuleFound (table name : List ℕ) (i : ℕ) : Type 0 where
+  pub it : Module
+  pub is : findModule (tableOf table) name ≡ some (i, it)
+  pub low : i < length (tableOf table .modules)
+  pub few : i < 16
+  pub named : isName name ≡ true
+
+module _ (table name : List ℕ) (a : tableNumber table ≡ 0) (r : F.FoundModule) (hr : InTable table λ t. FindsModule table r (findModule t name)) where
+  pub found-none : r ≡ F.the-variants.Nothing → findModule (tableOf table) name ≡ none
+  found-none z = (rw z at hr) (tableOf table) (accepted-whole table a)
+
+  pub found-at : (i p : ℕ) → r ≡ F.the-variants.At i p → ModuleFound table name i
+  found-at i p z =
+      let f = (rw z at hr) (tableOf table) (accepted-whole table a) in
+      let w = accepted table a in
+      let there = module-there (tableOf table) name (i, f .it) (f .is) in
+      let low = there-low (tableOf table .modules) i (f .it) there in
+      let k = w .fewModules in
+      record {
+        it = f .it;
+        is = f .is;
+        low = low;
+        few = omega arith;
+        named =
+            subst (λ (m : List ℕ). isName m ≡ true) (module-named (tableOf table) name (i, f .it) (f .is))
+            (each-at GoodModule (tableOf table .modules) (w .allModules) i (f .it) there .0);
+      }
+
+-- ## Room
+
+pub inactive-room : (d : List ℕ) (c : ℕ) (m : Option (List ℕ)) → Named m → 32768 ≤ length d → RoomFor d 0 (final c (inactive m))
+inactive-room d c m e h =
+    let k = written-final c (inactive m) 72 (says-inactive m e) .short in
+    room-after [] (final c (inactive m)) d d 0 (puts-none d) (omega arith) h
+
+-- what a client of a state has active
+open-bits : (table : List ℕ) (s : State) (values : List ℕ) (c : ℕ) → isSet (s .clients .open) c ≡ true
+    → (j : ℕ) → isActive (view table s values .clients c) j ≡ bit (getD (s .clients .active) c 0) j
+unfolding view clientAt isActive
+open-bits table s values c e j = rw e
+
+held-low : (w : Table) (x : Client) → ClientHeld w x → (j : ℕ) → length (w .modules) ≤ j → isActive x j ≡ false
+unfolding isActive
+held-low w closed h j l = refl
+held-low w (connected m a) h j l = h .1 j l
+
+-- updates, then a reply, hold no setting
+unset : (values : List ℕ) (c : ℕ) (wanted : ℕ → Bool) (f : ℕ → Value) (k : ℕ) (ps : List (Placed Parameter)) (r : Reply)
+    → withSetting values (updatesOf c wanted f k ps ++ (final c r ∷ [])) ≡ values
+unfolding updatesOf withSetting
+unset values c wanted f k [] r = refl
+unset values c wanted f k (p ∷ ps) r = go (wanted (p .home)) (unset values c wanted f (suc k) ps r)
+  where
+    go : (b : Bool) → withSetting values (updatesOf c wanted f (suc k) ps ++ (final c r ∷ [])) ≡ values
+        → withSetting values ((cond b (update c (reportOf p (f k)) ∷ []) [] ++ updatesOf c wanted f (suc k) ps) ++ (final c r ∷ [])) ≡ values
+    go true h = refl
+    go false h = h
+
+-- ## Outcomes
+
+-- no module has the name
+module _ (w : Table) (n : Node) (c t : ℕ) (before values name : List ℕ) (e : findModule w name ≡ none) where
+  pub none-active : Refuses w n c t before before values values (outcome w n c t (activate (some name))) (refused NoSuchModule)
+  unfolding outcome inScope found
+  none-active = record { is = rw e; quiet = refl; area = refl }
+
+  pub none-inactive : Refuses w n c t before before values values (outcome w n c t (deactivate (some name))) (refused NoSuchModule)
+  unfolding outcome inScope found
+  none-inactive = record { is = rw e; quiet = refl; area = refl }
+
+and-none : (b : Bool) → b && false ≡ false
+and-none true = refl
+and-none false = refl
+
+and-true : (b : Bool) → b && true ≡ b
+and-true true = refl
+and-true false = refl
+
+-- a module of the table is one of its first m
+low-only : (j i m : ℕ) → i < m → ltb j m && eqb j i ≡ eqb j i
+low-only j i m h = go (eqb j i) refl
+  where
+    go : (b : Bool) → eqb j i ≡ b → ltb j m && b ≡ b
+    go true e = let k = eqb-true j i e in rw (lt-ltb j m (omega arith))
+    go false e = and-none (ltb j m)
+
+module _ (w : Table) (n : Node) (c t : ℕ) (before after values : List ℕ) where
+  -- a client's active modules are those of a mask where each bit says so
+  switched :
+      (f : ℕ → Bool) (rs : List Record) (r : Reply) (mask written : ℕ)
+      → ((i : ℕ) → bit mask i ≡ f i) → ((i : ℕ) → length (w .modules) ≤ i → f i ≡ false)
+      → Puts before 0 (encodeAll (rs ++ (final c r ∷ []))) after written
+      → withSetting values (rs ++ (final c r ∷ [])) ≡ values
+      → Activates w n c t before after values values (carried (withClient n c (activated f (n .clients c))) rs r) mask written
+  switched f rs r mask written h k p q =
+      record {
+        carries =
+            record {
+              records = rs;
+              reply = r;
+              is = ap (λ (g : ℕ → Bool). carried (withClient n c (activated g (n .clients c))) rs r) (sym (fun-ext h));
+              puts = p;
+              area = sym q;
+            };
+        unstored = refl;
+        low = past-last mask (length (w .modules)) λ j l. h j ∙ k j l;
+      }
+
+  pub all-inactive :
+      (written : ℕ) → Puts before 0 (encode (final c (inactive none))) after written
+      → Activates w n c t before after values values (outcome w n c t (deactivate none)) 0 written
+  unfolding outcome inScope deactivates withSetting
+  all-inactive written p =
+      switched (λ i. isActive (n .clients c) i && not true) [] (inactive none) 0 written
+      (λ i. no-bit i ∙ sym (and-none (isActive (n .clients c) i)))
+      (λ i l. and-none (isActive (n .clients c) i))
+      (puts-after [] (final c (inactive none)) before before 0 (puts-none before) after written p)
+      refl
+
+  pub one-inactive :
+      (name : List ℕ) (i : ℕ) (m : Module) → findModule w name ≡ some (i, m)
+      → (mask : ℕ) → pastLast mask (length (w .modules)) ≡ false → ((j : ℕ) → isActive (n .clients c) j ≡ bit mask j)
+      → (next : ℕ) → ((j : ℕ) → bit next j ≡ bit mask j && not (eqb j i))
+      → (written : ℕ) → Puts before 0 (encode (final c (inactive (some name)))) after written
+      → Activates w n c t before after values values (outcome w n c t (deactivate (some name))) next written
+  unfolding outcome inScope found deactivates withSetting
+  one-inactive name i m e mask low h next k written p =
+      rw e
+      (switched (λ j. isActive (n .clients c) j && not (eqb j i)) [] (inactive (some name)) next written
+      (λ j. k j ∙ ap (λ (b : Bool). b && not (eqb j i)) (sym (h j)))
+      (λ j l. ap (λ (b : Bool). b && not (eqb j i)) (h j ∙ not-past mask (length (w .modules)) low j l))
+      (puts-after [] (final c (inactive (some name))) before before 0 (puts-none before) after written p)
+      refl)
+
+  -- the modules of a scope too
+  module _ (s : Sound w n) (mask : ℕ) (h : (j : ℕ) → isActive (n .clients c) j ≡ bit mask j) (mid : List ℕ) (p written : ℕ) where
+    more-active :
+        (wanted : ℕ → Bool) (m : Option (List ℕ)) (next : ℕ)
+        → ((j : ℕ) → bit next j ≡ bit mask j || (ltb j (length (w .modules)) && wanted j))
+        → Puts before 0 (encodeAll (updatesOf c wanted (n .values) 0 (parameters w))) mid p
+        → Puts mid p (encode (final c (active m))) after written
+        → Activates w n c t before after values values (activates w n c t wanted m) next written
+    unfolding activates
+    more-active wanted m next k x y =
+        switched (λ j. isActive (n .clients c) j || (ltb j (length (w .modules)) && wanted j))
+        (updatesOf c wanted (n .values) 0 (parameters w)) (active m) next written
+        (λ j. k j ∙ ap (λ (b : Bool). b || (ltb j (length (w .modules)) && wanted j)) (sym (h j)))
+        (λ j l. rw (held-low w (n .clients c) (s .clients c) j l, le-ltb j (length (w .modules)) l))
+        (puts-after (updatesOf c wanted (n .values) 0 (parameters w)) (final c (active m)) before mid p x after written y)
+        (unset values c wanted (n .values) 0 (parameters w) (active m))
+
+    all-active :
+        (next : ℕ) → ((j : ℕ) → bit next j ≡ bit mask j || ltb j (length (w .modules)))
+        → Puts before 0 (encodeAll (updatesOf c (λ i. true) (n .values) 0 (parameters w))) mid p
+        → Puts mid p (encode (final c (active none))) after written
+        → Activates w n c t before after values values (outcome w n c t (activate none)) next written
+    unfolding outcome inScope
+    all-active next k x y =
+        more-active (λ i. true) none next (λ j. k j ∙ ap (λ (b : Bool). bit mask j || b) (sym (and-true (ltb j (length (w .modules)))))) x y
+
+    one-active :
+        (name : List ℕ) (i : ℕ) (m : Module) → findModule w name ≡ some (i, m) → i < length (w .modules)
+        → (next : ℕ) → ((j : ℕ) → bit next j ≡ bit mask j || eqb j i)
+        → Puts before 0 (encodeAll (updatesOf c (λ j. eqb j i) (n .values) 0 (parameters w))) mid p
+        → Puts mid p (encode (final c (active (some name)))) after written
+        → Activates w n c t before after values values (outcome w n c t (activate (some name))) next written
+    unfolding outcome inScope found
+    one-active name i m e low next k x y =
+        rw e (more-active (λ j. eqb j i) (some name) next (λ j. k j ∙ ap (λ (b : Bool). bit mask j || b) (sym (low-only j i (length (w .modules)) low))) x y)
+
+-- ## An activate, at a state that is fit
+
+-- the arrays of clients, as a struct's fields are handed to a proof
+pub clients-sized :
+    (s : Clients) → length (map (λ (v : ℕ). v) (s .open)) ≡ 8 → length (map (λ (v : ℕ). v) (s .overlong)) ≡ 8
+    → length (map (λ (v : ℕ). v) (s .active)) ≡ 8 → length (map (λ (v : ℕ). v) (s .length)) ≡ 8 → length (map (λ (v : ℕ). v) (s .lines)) ≡ 8192
+    → Sized s
+clients-sized s h i j k l =
+    record {
+      isOpen = length-unmapped ℕ (s .open) 8 h;
+      isOverlong = length-unmapped ℕ (s .overlong) 8 i;
+      mask = length-unmapped ℕ (s .active) 8 j;
+      size = length-unmapped ℕ (s .length) 8 k;
+      room = length-unmapped ℕ (s .lines) 8192 l;
+    }
+
+module _ (table : List ℕ) (s : State) (z : Sized (s .clients)) (values out : List ℕ) (c : ℕ) (r : Ready table s values out c) where
+  abbrev w : Table
+  w = tableOf table
+
+  abbrev n : Node
+  n = view table s values
+
+  sound : Sound w n
+  sound = fit-is-sound table s values z (r .lent .accepted) (r .fit)
+
+  -- the reply has room after the updates
+  pub active-room :
+      (wanted : ℕ → Bool) (m : Option (List ℕ)) → Named m
+      → (e : List ℕ) (p : ℕ) → Puts out 0 (encodeAll (updatesOf c wanted (n .values) 0 (parameters w))) e p → RoomFor e p (final c (active m))
+  unfolding activates
+  active-room wanted m h e p x =
+      let low = r .lent .low in
+      let k = comes-activates w (accepted table (r .lent .accepted)) n sound c (omega arith) 0 (omega arith) wanted m h .written .short in
+      room-after (updatesOf c wanted (n .values) 0 (parameters w)) (final c (active m)) out e p x (omega arith) (r .lent .room)
+
+  module _ (t : ℕ) (mid after : List ℕ) (p next written : ℕ) where
+    pub activated-all :
+        (k : ℕ) → InTable table (λ t. k ≡ length (t .modules))
+        → ((j : ℕ) → bit next j ≡ bit (getD (s .clients .active) c 0) j || ltb j k)
+        → Puts out 0 (encodeAll (updatesOf c (λ i. true) (n .values) 0 (parameters w))) mid p
+        → Puts mid p (encode (final c (active none))) after written
+        → Activates w n c t out after values values (outcome w n c t (activate none)) next written
+    activated-all k f h =
+        all-active w n c t out after values sound (getD (s .clients .active) c 0) (open-bits table s values c (r .isOpen)) mid p written next
+        (λ j. h j ∙ ap (λ (m : ℕ). bit (getD (s .clients .active) c 0) j || ltb j m) (f w (accepted-whole table (r .lent .accepted))))
+
+    pub activated-one :
+        (name : List ℕ) (i : ℕ) → ModuleFound table name i
+        → ((j : ℕ) → bit next j ≡ bit (getD (s .clients .active) c 0) j || eqb j i)
+        → Puts out 0 (encodeAll (updatesOf c (λ j. eqb j i) (n .values) 0 (parameters w))) mid p
+        → Puts mid p (encode (final c (active (some name)))) after written
+        → Activates w n c t out after values values (outcome w n c t (activate (some name))) next written
+    activated-one name i f h =
+        one-active w n c t out after values sound (getD (s .clients .active) c 0) (open-bits table s values c (r .isOpen)) mid p written
+        name i (f .it) (f .is) (f .low) next h

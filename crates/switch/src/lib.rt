@@ -1,0 +1,91 @@
+// `activate` and `deactivate`: "no or empty specifier means all modules".
+ghost use mathlib.Core.Path.{_≡_};
+ghost use mathlib.Core.Bool.{false};
+ghost use mathlib.Core.Option.{none, some};
+ghost use mathlib.Core.List.{List};
+ghost use Prim.Native.Nat.{ℕ, _≤_};
+ghost use lib.ListN.{length};
+ghost use Rattle.table.specs.Layout.{tableOf};
+ghost use Rattle.message.specs.Request as Request;
+ghost use Rattle.state.specs.Fit.{pastLast};
+ghost use Rattle.outcome.specs.Ready.{Lent, Ready};
+ghost use Rattle.outcome.specs.Outcome.{Comes, ComesAtAny, ComesWith};
+use message::say::Class;
+use outbox::write::Switched;
+use outbox::write::put_final_switched;
+use outbox::write::put_final_switched_name;
+use outcome::Outcome;
+use search::find::FoundModule;
+use search::find::find_module;
+use search::find::module_count;
+use state::State;
+use state::bits::with_bit;
+use state::bits::with_bits;
+use state::bits::without_bit;
+use update::Scope;
+use update::put_updates_of;
+
+// "`activate` sends an update for each parameter of those modules, table order, then `active` or `active M`": all modules. What was active
+// before stays so.
+pub fn activate_all(
+    table: &[u8],
+    values: &[u8],
+    out: &mut [u8],
+    state: State,
+    client: u8,
+) -> Outcome
+    requires { ⌜ Ready (now table) state (now values) (now out) client ⌝ }
+    ensures { λ r. ⌜ ((t : ℕ) → Comes (now (table .entry)) state (now (values .entry)) (now (out .entry)) client t r (now (values .entry)) (now (out .exit)) (Request.activate none)) ⌝ }
+{
+    let clients = state.clients;
+    let mask = clients.active[client as usize];
+    let all = with_bits(mask, module_count(table));
+    let told = put_updates_of(table, values, out, state, client, Scope::All);
+    let end = put_final_switched(out, told, client, Switched::Active);
+    Outcome::Active(all, end)
+}
+
+// The same for the module of a name, which has to be there.
+pub fn activate(
+    table: &[u8],
+    values: &[u8],
+    out: &mut [u8],
+    state: State,
+    client: u8,
+    module: &[u8],
+) -> Outcome
+    requires { ⌜ Ready (now table) state (now values) (now out) client ⌝ }
+    ensures { λ r. ⌜ ((t : ℕ) → Comes (now (table .entry)) state (now (values .entry)) (now (out .entry)) client t r (now (values .entry)) (now (out .exit)) (Request.activate (some (now («module» .entry))))) ⌝ }
+{
+    let FoundModule::At(i, _) = find_module(table, module) else {
+        return Outcome::Refused(Class::NoSuchModule);
+    };
+    let clients = state.clients;
+    let mask = clients.active[client as usize];
+    let more = with_bit(mask, i);
+    let told = put_updates_of(table, values, out, state, client, Scope::Module(i));
+    let end = put_final_switched_name(out, told, client, Switched::Active, module);
+    Outcome::Active(more, end)
+}
+
+// "`deactivate` gives `inactive` or `inactive M`": no module is active then.
+pub fn deactivate_all(out: &mut [u8], client: u8) -> Outcome
+    requires { ⌜ 32768 ≤ length (now out) ⌝ }
+    ensures { λ r. ⌜ ((table : List ℕ) (t : ℕ) → ComesAtAny table (now (out .entry)) client t r (now (out .exit)) (Request.deactivate none)) ⌝ }
+{
+    let end = put_final_switched(out, 0, client, Switched::Inactive);
+    Outcome::Active(0, end)
+}
+
+// The same for the module of a name; `mask` has the client's active modules, and the others stay active.
+pub fn deactivate(table: &[u8], out: &mut [u8], client: u8, mask: u16, module: &[u8]) -> Outcome
+    requires { ⌜ Lent (now table) (now out) client × (pastLast mask (length (tableOf (now table) .modules)) ≡ false) ⌝ }
+    ensures { λ r. ⌜ ((t : ℕ) → ComesWith mask (now (table .entry)) (now (out .entry)) client t r (now (out .exit)) (Request.deactivate (some (now («module» .entry))))) ⌝ }
+{
+    let FoundModule::At(i, _) = find_module(table, module) else {
+        return Outcome::Refused(Class::NoSuchModule);
+    };
+    let fewer = without_bit(mask, i);
+    let end = put_final_switched_name(out, 0, client, Switched::Inactive, module);
+    Outcome::Active(fewer, end)
+}

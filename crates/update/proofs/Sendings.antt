@@ -1,0 +1,147 @@
+-- Laws of records that are written one after another, and of updates to clients. Assumes nothing.
+use Prim.Native.Nat.{ℕ, suc, _+_, _^_, _≤_, _<_}
+use native.Mathlib.Nat.{add-zero}
+use native.Mathlib.Numerals.{add-one}
+use native.Mathlib.Omega.{arith}
+use mathlib.Core.Path.{_≡_, refl, sym, ap, _∙_}
+use mathlib.Core.Bool.{Bool, true, false, cond}
+use mathlib.Core.List.{List, [], _∷_, _++_, append-assoc, append-nil}
+use lib.ListN.{length, drop, length-append, drop-of-length-le}
+use lib.Dec.{eqb}
+use lib.Seq.{drop-cons}
+use Rattle.ascii.specs.Text.{bytes}
+use Rattle.ascii.specs.Writer.{Puts}
+use Rattle.ascii.proofs.Puts.{puts-length, puts-both}
+use Rattle.ascii.proofs.Decimal.{seconds-low}
+use Rattle.message.specs.Reply.{Report, updateLine}
+use Rattle.message.specs.Said.{reportOf}
+use Rattle.message.proofs.Said.{data-length, report-length}
+use Rattle.outbox.specs.Outbox.{Record, update, body, encode, encodeAll}
+use Rattle.outbox.specs.Written.{RoomFor}
+use Rattle.plain.specs.Node.{Client, isActive, clientNumbers, updatesTo}
+use Rattle.state.proofs.Judged.{number-at}
+use Rattle.update.specs.declared.Scope.{Scope}
+use Rattle.update.specs.declared.Scope.the-variants.{Module}
+use Rattle.update.specs.Scope.{wanted}
+
+-- ## Records one after another
+
+pub encode-append : (rs ss : List Record) → encodeAll (rs ++ ss) ≡ encodeAll rs ++ encodeAll ss
+unfolding encodeAll
+encode-append [] ss = refl
+encode-append (r ∷ rs) ss = ap (λ (l : List ℕ). encode r ++ l) (encode-append rs ss) ∙ sym (append-assoc (encode r) (encodeAll rs) (encodeAll ss))
+
+-- of all records some are written, and the others are left
+pub record Going (d : List ℕ) (at : ℕ) (all left : List Record) (e : List ℕ) (p : ℕ) : Type 0 where
+  pub written : List Record
+  pub puts : Puts d at (encodeAll written) e p
+  pub is : all ≡ written ++ left
+
+-- no record is written
+pub none-put : (d : List ℕ) (at : ℕ) → Puts d at (encodeAll []) d at
+unfolding encodeAll
+none-put d at = record { is = refl; ends = sym (add-zero at) }
+
+pub going-start : (d : List ℕ) (at : ℕ) (all : List Record) → Going d at all all d at
+going-start d at all = record { written = []; puts = none-put d at; is = refl }
+
+module _ {d : List ℕ} {at : ℕ} {all : List Record} {e : List ℕ} {p : ℕ} where
+  pub going-room : (rs left : List Record) → Going d at all (rs ++ left) e p → at + length (encodeAll all) ≤ length d → p + length (encodeAll rs) ≤ length e
+  going-room rs left g h =
+      let l : length (encodeAll all) ≡ length (encodeAll (g .written)) + (length (encodeAll rs) + length (encodeAll left)) =
+      ap (λ (l : List Record). length (encodeAll l)) (g .is)
+      ∙ ap length (encode-append (g .written) (rs ++ left) ∙ ap (λ (l : List ℕ). encodeAll (g .written) ++ l) (encode-append rs left))
+      ∙ length-append (encodeAll (g .written)) (encodeAll rs ++ encodeAll left)
+      ∙ ap (λ (n : ℕ). length (encodeAll (g .written)) + n) (length-append (encodeAll rs) (encodeAll left)) in
+      let n = puts-length (g .puts) in
+      let q = g .puts .ends in
+      omega arith
+
+  pub going-on : (rs left : List Record) → Going d at all (rs ++ left) e p → {f : List ℕ} {q : ℕ} → Puts e p (encodeAll rs) f q → Going d at all left f q
+  going-on rs left g x =
+      record {
+        written = g .written ++ rs;
+        puts = rw (encode-append (g .written) rs) (puts-both (g .puts) x);
+        is = g .is ∙ sym (append-assoc (g .written) rs left);
+      }
+
+  pub going-end : Going d at all [] e p → Puts d at (encodeAll all) e p
+  going-end g = rw (g .is, append-nil (g .written)) (g .puts)
+
+  pub going-length : {left : List Record} → Going d at all left e p → length e ≡ length d
+  going-length g = puts-length (g .puts)
+
+-- ## An update
+
+update-short : (m a v : List ℕ) (t : ℕ) → length m + length a + length v ≤ 1024 → t < 2 ^ 64 → length (updateLine (reportOf m a v t) ++ bytes "\n") ≤ 65535
+unfolding updateLine bytes
+update-short m a v t h k = simp length-append (omega (arith, seconds-low t k, data-length v t, report-length m a v t))
+
+pub one : (r : Record) → encodeAll (r ∷ []) ≡ encode r
+unfolding encodeAll
+one r = append-nil (encode r)
+
+pub room-update :
+    (d : List ℕ) (at c : ℕ) (m a v : List ℕ) (t : ℕ) → length m + length a + length v ≤ 1024 → t < 2 ^ 64
+    → at + length (encodeAll (update c (reportOf m a v t) ∷ [])) ≤ length d → RoomFor d at (update c (reportOf m a v t))
+unfolding body
+room-update d at c m a v t h k l = record { fits = rw (one (update c (reportOf m a v t))) at l; short = update-short m a v t h k }
+
+-- ## Updates to one client and the next
+
+module _ (f : ℕ → Client) (i : ℕ) (r : Report) where
+  updates-cond : (c : ℕ) → updatesTo f i r (c ∷ []) ≡ cond (isActive (f c) i) (update c r ∷ []) []
+  unfolding updatesTo
+  updates-cond c = append-nil (cond (isActive (f c) i) (update c r ∷ []) [])
+
+  pub updates-split : (c : ℕ) → c < 8
+      → updatesTo f i r (drop c clientNumbers) ≡ updatesTo f i r (c ∷ []) ++ updatesTo f i r (drop (c + 1) clientNumbers)
+  unfolding updatesTo
+  updates-split c h =
+      ap (updatesTo f i r) (drop-cons clientNumbers c 0 h)
+      ∙ ap (λ (k : ℕ). updatesTo f i r (k ∷ drop (suc c) clientNumbers)) (number-at c h)
+      ∙ ap (λ (l : List Record). l ++ updatesTo f i r (drop (suc c) clientNumbers)) (sym (updates-cond c))
+      ∙ ap (λ (k : ℕ). updatesTo f i r (c ∷ []) ++ updatesTo f i r (drop k clientNumbers)) (sym (add-one c))
+
+  pub updates-none : (c : ℕ) → 8 ≤ c → updatesTo f i r (drop c clientNumbers) ≡ []
+  unfolding updatesTo
+  updates-none c h = ap (updatesTo f i r) (drop-of-length-le clientNumbers h)
+
+-- to client c, of which b says whether it has the module active
+module _ (f : ℕ → Client) (i c : ℕ) (b : Bool) (h : b ≡ isActive (f c) i) where
+  is-update : (r : Report) → b ≡ true → updatesTo f i r (c ∷ []) ≡ update c r ∷ []
+  is-update r e = updates-cond f i r c ∙ rw (← h, e)
+
+  pub to-room : (d : List ℕ) (at : ℕ) (m a v : List ℕ) (t : ℕ) → b ≡ true → length m + length a + length v ≤ 1024 → t < 2 ^ 64
+      → at + length (encodeAll (updatesTo f i (reportOf m a v t) (c ∷ []))) ≤ length d → RoomFor d at (update c (reportOf m a v t))
+  to-room d at m a v t e s k l = room-update d at c m a v t s k (rw (is-update (reportOf m a v t) e) at l)
+
+  pub to-active : (r : Report) {d e : List ℕ} {at p : ℕ} → b ≡ true → Puts d at (encode (update c r)) e p
+      → Puts d at (encodeAll (updatesTo f i r (c ∷ []))) e p
+  to-active r e x = rw (is-update r e, one (update c r)) x
+
+  pub to-none : (r : Report) (d : List ℕ) (at : ℕ) → b ≡ false → Puts d at (encodeAll (updatesTo f i r (c ∷ []))) d at
+  to-none r d at e = rw (updates-cond f i r c, ← h, e) (none-put d at)
+
+-- ## Updates to all clients, of which the first c have theirs
+
+module _ {d : List ℕ} {at : ℕ} (f : ℕ → Client) (i : ℕ) (r : Report) {e : List ℕ} {p : ℕ} (c : ℕ)
+    (g : Going d at (updatesTo f i r clientNumbers) (updatesTo f i r (drop c clientNumbers)) e p) where
+  module _ (h : c < 8) where
+    split : Going d at (updatesTo f i r clientNumbers) (updatesTo f i r (c ∷ []) ++ updatesTo f i r (drop (c + 1) clientNumbers)) e p
+    split = rw (updates-split f i r c h) at g
+
+    pub next-room : at + length (encodeAll (updatesTo f i r clientNumbers)) ≤ length d → p + length (encodeAll (updatesTo f i r (c ∷ []))) ≤ length e
+    next-room l = going-room (updatesTo f i r (c ∷ [])) (updatesTo f i r (drop (c + 1) clientNumbers)) split l
+
+    pub next-sent : {k : List ℕ} {q : ℕ} → Puts e p (encodeAll (updatesTo f i r (c ∷ []))) k q
+        → Going d at (updatesTo f i r clientNumbers) (updatesTo f i r (drop (c + 1) clientNumbers)) k q
+    next-sent x = going-on (updatesTo f i r (c ∷ [])) (updatesTo f i r (drop (c + 1) clientNumbers)) split x
+
+  pub all-sent : 8 ≤ c → Puts d at (encodeAll (updatesTo f i r clientNumbers)) e p
+  all-sent h = going-end (rw (updates-none f i r c h) at g)
+
+-- ## The modules that are sent
+
+pub wants-module : (s : Scope) (i n : ℕ) → s ≡ Module n → eqb i n ≡ wanted s i
+wants-module s i n e = rw e

@@ -1,0 +1,162 @@
+// Updates, written as outbox records: of one parameter to all clients that have its module active, and of all parameters of some modules to
+// one client.
+ghost use Prim.Native.Nat.{_+_, _-_, _≤_, _<_};
+ghost use mathlib.Core.Bool.{cond};
+ghost use mathlib.Core.List.{[], _∷_};
+ghost use mathlib.Core.Path.{_≡_};
+ghost use lib.ListN.{length};
+ghost use Rattle.ascii.specs.Writer.{Puts};
+ghost use Rattle.message.specs.Said.{reportOf};
+ghost use Rattle.outbox.specs.Outbox.{encodeAll, update};
+ghost use Rattle.table.specs.At.{bytesOf, Inside};
+ghost use Rattle.table.specs.Layout.{tableOf};
+ghost use Rattle.table.specs.Search.{parameters};
+ghost use Rattle.plain.specs.Node.{clientNumbers, updatesTo, updatesOf};
+ghost use Rattle.state.specs.View.{clientAt, view};
+ghost use Rattle.outcome.specs.Ready.{Ready};
+ghost use Rattle.update.specs.Scope.{wanted};
+ghost use Rattle.update.specs.Shown.{shownReport, Shows};
+use outbox::write::put_update;
+use search::cursor::Cursor;
+use search::cursor::NextParameter;
+use search::cursor::first_cursor;
+use search::cursor::next_parameter;
+use state::Clients;
+use state::Settings;
+use state::State;
+use state::client::is_active;
+use table::layout::ParameterAt;
+use table::layout::Part;
+
+// All modules, or the one of a number.
+pub enum Scope {
+    All,
+    Module(usize),
+}
+
+// The update to one client, if it is open and has the module active.
+fn put_update_to(
+    out: &mut [u8],
+    at: usize,
+    clients: Clients,
+    c: usize,
+    home: usize,
+    module: &[u8],
+    accessible: &[u8],
+    value: &[u8],
+    time: u64,
+) -> usize
+    requires { ⌜ (c < 8) × ((home < 16) × ((at + length (encodeAll (updatesTo (clientAt clients) home (reportOf (now «module») (now accessible) (now value) time) (c ∷ []))) ≤ length (now out)) × (length (now «module») + length (now accessible) + length (now value) ≤ 1024))) ⌝ }
+    ensures { λ r. ⌜ Puts (now (out .entry)) at (encodeAll (updatesTo (clientAt clients) home (reportOf (now («module» .entry)) (now (accessible .entry)) (now (value .entry)) time) (c ∷ []))) (now (out .exit)) r ⌝ }
+{
+    if is_active(clients, c, home) {
+        return put_update(out, at, c as u8, module, accessible, value, time);
+    }
+    at
+}
+
+// "an update to each open client with M active, lowest client number first": of a parameter of the module of number `home`
+pub fn put_updates_to(
+    out: &mut [u8],
+    at: usize,
+    clients: Clients,
+    home: usize,
+    module: &[u8],
+    accessible: &[u8],
+    value: &[u8],
+    time: u64,
+) -> usize
+    requires { ⌜ (home < 16) × ((at + length (encodeAll (updatesTo (clientAt clients) home (reportOf (now «module») (now accessible) (now value) time) clientNumbers)) ≤ length (now out)) × (length (now «module») + length (now accessible) + length (now value) ≤ 1024)) ⌝ }
+    ensures { λ r. ⌜ Puts (now (out .entry)) at (encodeAll (updatesTo (clientAt clients) home (reportOf (now («module» .entry)) (now (accessible .entry)) (now (value .entry)) time) clientNumbers)) (now (out .exit)) r ⌝ }
+{
+    let mut end = at;
+    let mut c = 0;
+    while c < 8 {
+        end = put_update_to(out, end, clients, c, home, module, accessible, value, time);
+        c += 1;
+    }
+    end
+}
+
+fn wants(scope: Scope, i: usize) -> bool
+    ensures { λ r. ⌜ r ≡ wanted scope i ⌝ }
+{
+    match scope {
+        Scope::All => true,
+        Scope::Module(n) => i == n,
+    }
+}
+
+// The update of one parameter to a client, with the value shown, if the scope has its module. If its stored length is 0, the value shown is "the
+// part of the table that holds its initial value, otherwise the part of the values area that holds the stored one, no copy".
+fn put_shown(
+    table: &[u8],
+    values: &[u8],
+    out: &mut [u8],
+    at: usize,
+    settings: Settings,
+    client: u8,
+    scope: Scope,
+    k: usize,
+    p: ParameterAt,
+    next: Cursor,
+) -> usize
+    requires { ⌜ Shows (now table) settings (now values) (now out) at client scope k p next ⌝ }
+    ensures { λ r. ⌜ Puts (now (out .entry)) at (encodeAll (cond (wanted scope (next .modules - 1)) (update client (shownReport (now (table .entry)) settings (now (values .entry)) k p next) ∷ []) [])) (now (out .exit)) r ⌝ }
+{
+    let home = next.modules - 1;
+    if !wants(scope, home) {
+        return at;
+    }
+    let size = settings.length[k] as usize;
+    let time = settings.time[k];
+    let home_name = next.name;
+    let module = bytes_of(table, home_name);
+    let own_name = p.name;
+    let name = bytes_of(table, own_name);
+    if size == 0 {
+        let initial = p.initial;
+        let value = bytes_of(table, initial);
+        return put_update(out, at, client, module, name, value, time);
+    }
+    let first = 256 * k;
+    let last = first + size;
+    put_update(out, at, client, module, name, &values[first..last], time)
+}
+
+// "an update for each parameter of those modules, table order", to one client, from the front of the outbox on
+pub fn put_updates_of(
+    table: &[u8],
+    values: &[u8],
+    out: &mut [u8],
+    state: State,
+    client: u8,
+    scope: Scope,
+) -> usize
+    requires { ⌜ Ready (now table) state (now values) (now out) client ⌝ }
+    ensures { λ r. ⌜ Puts (now (out .entry)) 0 (encodeAll (updatesOf client (wanted scope) (view (now (table .entry)) state (now (values .entry)) .values) 0 (parameters (tableOf (now (table .entry)))))) (now (out .exit)) r ⌝ }
+{
+    let settings = state.settings;
+    let mut end = 0;
+    let mut k = 0;
+    let mut cursor = first_cursor(table);
+    while k < 64 {
+        let NextParameter::At(p, next) = next_parameter(table, cursor) else {
+            return end;
+        };
+        end = put_shown(table, values, out, end, settings, client, scope, k, p, next);
+        cursor = next;
+        k += 1;
+    }
+    end
+}
+
+// The bytes of a part of a table.
+pub fn bytes_of(table: &[u8], p: Part) -> &[u8]
+    requires { ⌜ Inside (now table) p ⌝ }
+    ensures { λ r. ⌜ now r ≡ bytesOf (now (table .entry)) p ⌝ }
+{
+    let from = p.from;
+    let to = p.to;
+    &table[from..to]
+}
