@@ -10,6 +10,7 @@ pub mod lines;
 pub mod names;
 mod parts;
 mod script;
+pub mod searches;
 pub mod second;
 pub mod small;
 pub mod tables;
