@@ -7,3 +7,4 @@ pub mod Refused
 pub mod Shows
 pub mod Taken
 pub mod Takes
+pub mod Ties
