@@ -4,8 +4,9 @@
 use reference::definitions;
 use reference::error::ErrorClass;
 use reference::generate::vectors::{self, ValueCase};
-use reference::generate::{borders, directed, encode, histories, second, small};
+use reference::generate::{borders, calls, directed, encode, histories, second, small};
 use reference::history::History;
+use reference::operation;
 use reference::report;
 use reference::table::Table;
 use reference::text::{self, hex};
@@ -39,6 +40,10 @@ usage: reference COMMAND ...
   judge-input KILOBYTES COUNT
                         a table of so many kilobytes for such a program, to
                         be judged a thousand times COUNT times
+  calls-input SEED COUNT, calls-output SEED COUNT
+                        the same for calls over a kept state: the examples,
+                        refusals, unfit states and long lines, then COUNT
+                        random histories of each sort
   run FILE              runs the histories in FILE, whatever answers it has,
                         and prints them with the answers due; - reads from
                         standard input
@@ -84,6 +89,10 @@ fn command(arguments: &[&str]) -> Result<Vec<u8>, String> {
             Ok(vectors::table_input(&cases))
         }
         ["judge-input", kilobytes, count] => judge_input(number(kilobytes)?, number(count)?),
+        ["calls-input", seed, count] => {
+            let operations = calls::operations(number(seed)?, number(count)?);
+            Ok(operation::input(&operations))
+        }
         _ => text_command(arguments).map(String::into_bytes),
     }
 }
@@ -117,6 +126,10 @@ fn text_command(arguments: &[&str]) -> Result<String, String> {
         ["table-output", seed, count] => {
             let cases = vectors::table_cases(number(seed)?, number(count)?);
             Ok(vectors::table_output(&cases))
+        }
+        ["calls-output", seed, count] => {
+            let operations = calls::operations(number(seed)?, number(count)?);
+            Ok(operation::output(&operations))
         }
         ["run", file] => run(file),
         ["--help" | "-h" | "help"] => Ok(HELP.to_string()),

@@ -93,6 +93,7 @@ fn take_piece(
     }
 }
 
+// "Piece: bytes from one client." The caller offers what is not used again.
 #[no_mangle]
 pub extern "C" fn jihfasul_piece(
     table: &[u8],

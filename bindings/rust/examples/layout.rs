@@ -1,0 +1,157 @@
+//! Prints where the structs of this crate have their fields, then what a few
+//! calls answer, field by field. `tests/layout.c` prints the same as C sees
+//! it.
+
+use jihfasul::state::{CLIENTS, LINE};
+use jihfasul::{call, Done, Shown, State, OUTBOX, VALUES};
+use std::mem::{offset_of, size_of};
+
+/// One module with two parameters, both bool: "p", true, and "q", false.
+const TABLE: &[u8] =
+    b"ND\x01e\x01dMO\x01m\x01dPA\x01p\x01d\0\x03\0\x04truePA\x01q\x01d\0\x03\0\x05falseEN";
+
+fn print_layout() {
+    println!("state of {} bytes", size_of::<State>());
+    println!("state clients at {}", offset_of!(State, clients));
+    println!("state clients.open at {}", offset_of!(State, clients.open));
+    println!(
+        "state clients.overlong at {}",
+        offset_of!(State, clients.overlong)
+    );
+    println!(
+        "state clients.active at {}",
+        offset_of!(State, clients.active)
+    );
+    println!(
+        "state clients.length at {}",
+        offset_of!(State, clients.length)
+    );
+    println!(
+        "state clients.lines at {}",
+        offset_of!(State, clients.lines)
+    );
+    println!("state settings at {}", offset_of!(State, settings));
+    println!(
+        "state settings.length at {}",
+        offset_of!(State, settings.length)
+    );
+    println!(
+        "state settings.time at {}",
+        offset_of!(State, settings.time)
+    );
+    print_answers_layout();
+}
+
+fn print_answers_layout() {
+    println!("done of {} bytes", size_of::<Done>());
+    println!("done number at {}", offset_of!(Done, number));
+    println!("done used at {}", offset_of!(Done, used));
+    println!("done written at {}", offset_of!(Done, written));
+    println!("done state at {}", offset_of!(Done, state));
+    println!("shown of {} bytes", size_of::<Shown>());
+    println!("shown number at {}", offset_of!(Shown, number));
+    println!("shown stored at {}", offset_of!(Shown, stored));
+    println!("shown from at {}", offset_of!(Shown, from));
+    println!("shown size at {}", offset_of!(Shown, size));
+    println!("shown time at {}", offset_of!(Shown, time));
+}
+
+/// The 32-bit FNV-1a hash of a state's bytes.
+fn digest(state: &State) -> u32 {
+    // A state has no padding: its size is the sum of its parts.
+    let bytes: &[u8; size_of::<State>()] = unsafe { &*std::ptr::from_ref(state).cast() };
+    let step = |hash: u32, byte: &u8| (hash ^ u32::from(*byte)).wrapping_mul(16_777_619);
+    bytes.iter().fold(2_166_136_261, step)
+}
+
+fn print_state(state: &State) {
+    let clients = &state.clients;
+    for c in 0..CLIENTS {
+        let line = &clients.lines[LINE * c..][..usize::from(clients.length[c])];
+        println!(
+            "client {c}: open {}, overlong {}, active {}, line \"{}\"",
+            u8::from(clients.open[c] != 0),
+            u8::from(clients.overlong[c] != 0),
+            clients.active[c],
+            String::from_utf8_lossy(line)
+        );
+    }
+    for p in 0..2 {
+        let (length, time) = (state.settings.length[p], state.settings.time[p]);
+        println!("parameter {p}: length {length}, time {time}");
+    }
+}
+
+struct Host {
+    values: Vec<u8>,
+    outbox: Vec<u8>,
+    state: State,
+}
+
+impl Host {
+    fn keep(&mut self, done: Done) {
+        let Done {
+            number,
+            used,
+            written,
+            state,
+        } = done;
+        self.state = state;
+        println!("number {number}, used {used}, written {written}");
+        println!("digest {}", digest(&state));
+    }
+
+    fn open(&mut self, client: u64) {
+        let done = call::open(TABLE, &self.values, &self.state, client, 500);
+        self.keep(done);
+    }
+
+    fn piece(&mut self, client: u64, bytes: &[u8]) {
+        let (values, outbox) = (&mut self.values, &mut self.outbox);
+        let done = call::piece(TABLE, values, outbox, &self.state, client, 600, bytes);
+        self.keep(done);
+    }
+
+    fn reading(&mut self, time: u64, text: &[u8]) {
+        let (values, outbox) = (&mut self.values, &mut self.outbox);
+        let done = call::reading(TABLE, values, outbox, &self.state, 1, time, text);
+        self.keep(done);
+    }
+
+    fn value(&self, parameter: u64) {
+        let Shown {
+            number,
+            stored,
+            from,
+            size,
+            time,
+        } = call::value(TABLE, &self.values, &self.state, parameter);
+        println!("number {number}");
+        if number == 0 {
+            println!("stored {stored}, from {from}, size {size}, time {time}");
+        }
+    }
+}
+
+fn main() {
+    let mut host = Host {
+        values: vec![0; VALUES],
+        outbox: vec![0; OUTBOX],
+        state: State::NOTHING,
+    };
+    print_layout();
+    host.keep(call::start(TABLE, &host.values, 5));
+    for client in [3, 6, 7] {
+        host.open(client);
+    }
+    host.piece(3, b"activate\nabc");
+    host.piece(3, b"abc");
+    host.piece(6, &[b'x'; 1_025]);
+    host.reading(777, b"true");
+    host.reading(778, b"1");
+    host.keep(call::close(TABLE, &host.values, &host.state, 7, 800));
+    print_state(&host.state);
+    for parameter in 0..3 {
+        host.value(parameter);
+    }
+}

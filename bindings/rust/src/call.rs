@@ -1,0 +1,188 @@
+//! The calls as the library has them: everything is lent, the state is handed
+//! in and out. They ask nothing of their arguments: whatever is wrong is
+//! refused by a number. [`Node`](crate::Node) keeps the parts for its user.
+
+use crate::state::{Done, Shown, State};
+
+/// The library's functions. A slice passes as a pointer and a length.
+mod library {
+    use super::{Done, Shown, State};
+
+    extern "C" {
+        pub fn jihfasul_start(
+            table: *const u8,
+            table_length: usize,
+            values: *const u8,
+            values_length: usize,
+            time: u64,
+        ) -> Done;
+
+        pub fn jihfasul_open(
+            table: *const u8,
+            table_length: usize,
+            values: *const u8,
+            values_length: usize,
+            state: State,
+            client: u64,
+            time: u64,
+        ) -> Done;
+
+        pub fn jihfasul_close(
+            table: *const u8,
+            table_length: usize,
+            values: *const u8,
+            values_length: usize,
+            state: State,
+            client: u64,
+            time: u64,
+        ) -> Done;
+
+        pub fn jihfasul_piece(
+            table: *const u8,
+            table_length: usize,
+            values: *mut u8,
+            values_length: usize,
+            outbox: *mut u8,
+            outbox_length: usize,
+            state: State,
+            client: u64,
+            time: u64,
+            bytes: *const u8,
+            bytes_length: usize,
+        ) -> Done;
+
+        pub fn jihfasul_reading(
+            table: *const u8,
+            table_length: usize,
+            values: *mut u8,
+            values_length: usize,
+            outbox: *mut u8,
+            outbox_length: usize,
+            state: State,
+            parameter: u64,
+            time: u64,
+            bytes: *const u8,
+            bytes_length: usize,
+        ) -> Done;
+
+        pub fn jihfasul_value(
+            table: *const u8,
+            table_length: usize,
+            values: *const u8,
+            values_length: usize,
+            state: State,
+            parameter: u64,
+        ) -> Shown;
+    }
+}
+
+// Safety of the calls below: each pointer and length are those of one slice, a
+// slice that is written to is borrowed for that, and so none overlaps another.
+// The library reads and writes within the slices, keeps no pointer, and always
+// returns; that is proved of it for all arguments.
+
+pub fn start(table: &[u8], values: &[u8], time: u64) -> Done {
+    unsafe {
+        library::jihfasul_start(
+            table.as_ptr(),
+            table.len(),
+            values.as_ptr(),
+            values.len(),
+            time,
+        )
+    }
+}
+
+pub fn open(table: &[u8], values: &[u8], state: &State, client: u64, time: u64) -> Done {
+    unsafe {
+        library::jihfasul_open(
+            table.as_ptr(),
+            table.len(),
+            values.as_ptr(),
+            values.len(),
+            *state,
+            client,
+            time,
+        )
+    }
+}
+
+pub fn close(table: &[u8], values: &[u8], state: &State, client: u64, time: u64) -> Done {
+    unsafe {
+        library::jihfasul_close(
+            table.as_ptr(),
+            table.len(),
+            values.as_ptr(),
+            values.len(),
+            *state,
+            client,
+            time,
+        )
+    }
+}
+
+/// Uses bytes up to and including the first line feed, or all of them.
+pub fn piece(
+    table: &[u8],
+    values: &mut [u8],
+    outbox: &mut [u8],
+    state: &State,
+    client: u64,
+    time: u64,
+    bytes: &[u8],
+) -> Done {
+    unsafe {
+        library::jihfasul_piece(
+            table.as_ptr(),
+            table.len(),
+            values.as_mut_ptr(),
+            values.len(),
+            outbox.as_mut_ptr(),
+            outbox.len(),
+            *state,
+            client,
+            time,
+            bytes.as_ptr(),
+            bytes.len(),
+        )
+    }
+}
+
+pub fn reading(
+    table: &[u8],
+    values: &mut [u8],
+    outbox: &mut [u8],
+    state: &State,
+    parameter: u64,
+    time: u64,
+    bytes: &[u8],
+) -> Done {
+    unsafe {
+        library::jihfasul_reading(
+            table.as_ptr(),
+            table.len(),
+            values.as_mut_ptr(),
+            values.len(),
+            outbox.as_mut_ptr(),
+            outbox.len(),
+            *state,
+            parameter,
+            time,
+            bytes.as_ptr(),
+            bytes.len(),
+        )
+    }
+}
+
+pub fn value(table: &[u8], values: &[u8], state: &State, parameter: u64) -> Shown {
+    unsafe {
+        library::jihfasul_value(
+            table.as_ptr(),
+            table.len(),
+            values.as_ptr(),
+            values.len(),
+            *state,
+            parameter,
+        )
+    }
+}

@@ -1,0 +1,20 @@
+//! A safe interface to the static library of Jihfasul, the proved core of a
+//! SEC node.
+//!
+//! [`Node`] keeps a table, its values area and state, and makes the calls;
+//! [`Records`] reads what is to be sent. The functions of [`call`] leave the
+//! keeping to their caller. `examples/host.rs` is a worked host.
+//!
+//! The library writes no socket and knows no driver: it is fed bytes and
+//! readings, and says what is to be sent to whom.
+
+pub mod call;
+mod node;
+mod outbox;
+mod refusal;
+pub mod state;
+
+pub use node::{Node, Taken, Value, OUTBOX, VALUES};
+pub use outbox::{Mark, Record, Records};
+pub use refusal::Refusal;
+pub use state::{Done, Shown, State};

@@ -1,0 +1,162 @@
+//! A node that keeps what the calls are lent.
+
+use crate::call;
+use crate::outbox::{Record, Records};
+use crate::refusal::Refusal;
+use crate::state::{Done, State};
+
+/// The bytes of a values area and of an outbox.
+pub const VALUES: usize = 16_384;
+pub const OUTBOX: usize = 32_768;
+
+/// A table with its values area and state, and an outbox for the calls.
+///
+/// Times are milliseconds. A refused call alters nothing.
+#[derive(Clone)]
+pub struct Node {
+    table: Vec<u8>,
+    values: Vec<u8>,
+    outbox: Vec<u8>,
+    state: State,
+}
+
+/// What a piece did: how many bytes it used, and what is to be sent.
+#[derive(Clone, Debug)]
+pub struct Taken<'a> {
+    pub used: usize,
+    pub records: Records<'a>,
+}
+
+/// The value that a parameter shows.
+#[derive(Clone, Copy, Debug, PartialEq, Eq)]
+pub struct Value<'a> {
+    /// In stored form: JSON without spaces outside strings.
+    pub text: &'a [u8],
+    pub time: u64,
+    /// Whether it was ever set; until then it is the table's initial value.
+    pub set: bool,
+}
+
+impl Node {
+    /// Starts over a table: no client is open, and each parameter shows its
+    /// initial value with this time.
+    pub fn start(table: Vec<u8>, time: u64) -> Result<Node, Refusal> {
+        let mut node = Node::resume(table, vec![0; VALUES], State::NOTHING);
+        let done = call::start(&node.table, &node.values, time);
+        node.keep(done)?;
+        Ok(node)
+    }
+
+    /// Goes on from a values area and a state that were kept elsewhere. The
+    /// next call judges them.
+    pub fn resume(table: Vec<u8>, values: Vec<u8>, state: State) -> Node {
+        Node {
+            table,
+            values,
+            outbox: vec![0; OUTBOX],
+            state,
+        }
+    }
+
+    pub fn table(&self) -> &[u8] {
+        &self.table
+    }
+
+    pub fn values(&self) -> &[u8] {
+        &self.values
+    }
+
+    pub fn state(&self) -> &State {
+        &self.state
+    }
+
+    /// Opens a client, with an empty line and nothing active.
+    pub fn open(&mut self, client: u64, time: u64) -> Result<(), Refusal> {
+        let done = call::open(&self.table, &self.values, &self.state, client, time);
+        self.keep(done).map(drop)
+    }
+
+    /// Closes a client and forgets its line and what it had active.
+    pub fn close(&mut self, client: u64, time: u64) -> Result<(), Refusal> {
+        let done = call::close(&self.table, &self.values, &self.state, client, time);
+        self.keep(done).map(drop)
+    }
+
+    /// Takes bytes of a client up to and including the first line feed, or all
+    /// of them; the rest is to be offered again.
+    pub fn piece(&mut self, client: u64, time: u64, bytes: &[u8]) -> Result<Taken<'_>, Refusal> {
+        let (values, outbox) = (&mut self.values, &mut self.outbox);
+        let done = call::piece(
+            &self.table,
+            values,
+            outbox,
+            &self.state,
+            client,
+            time,
+            bytes,
+        );
+        let used = done.used;
+        let records = self.keep(done)?;
+        Ok(Taken { used, records })
+    }
+
+    /// Takes all of some bytes of a client, piece by piece, and hands on each
+    /// record.
+    pub fn feed(
+        &mut self,
+        client: u64,
+        time: u64,
+        mut bytes: &[u8],
+        mut send: impl FnMut(Record<'_>),
+    ) -> Result<(), Refusal> {
+        loop {
+            let Taken { used, records } = self.piece(client, time, bytes)?;
+            records.for_each(&mut send);
+            bytes = &bytes[used..];
+            if bytes.is_empty() {
+                return Ok(());
+            }
+        }
+    }
+
+    /// Takes a driver's value for a parameter, as JSON text.
+    pub fn reading(
+        &mut self,
+        parameter: u64,
+        time: u64,
+        text: &[u8],
+    ) -> Result<Records<'_>, Refusal> {
+        let (values, outbox) = (&mut self.values, &mut self.outbox);
+        let done = call::reading(
+            &self.table,
+            values,
+            outbox,
+            &self.state,
+            parameter,
+            time,
+            text,
+        );
+        self.keep(done)
+    }
+
+    /// The value that a parameter shows.
+    pub fn value(&self, parameter: u64) -> Result<Value<'_>, Refusal> {
+        let shown = call::value(&self.table, &self.values, &self.state, parameter);
+        Refusal::judge(shown.number)?;
+        let set = shown.stored != 0;
+        let area = if set { &self.values } else { &self.table };
+        Ok(Value {
+            text: &area[shown.from..][..shown.size],
+            time: shown.time,
+            set,
+        })
+    }
+
+    /// Keeps the next state and gives what was written, unless the call was
+    /// refused.
+    fn keep(&mut self, done: Done) -> Result<Records<'_>, Refusal> {
+        Refusal::judge(done.number)?;
+        self.state = done.state;
+        Ok(Records::new(&self.outbox[..done.written]))
+    }
+}

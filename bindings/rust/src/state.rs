@@ -1,0 +1,80 @@
+//! What a host keeps between calls, and what calls answer, as they lie in
+//! memory on both sides of the boundary. The header `include/jihfasul.h` says
+//! the same in C; `tests/library` compares the two and the library.
+
+pub const CLIENTS: usize = 8;
+pub const PARAMETERS: usize = 64;
+/// The bytes of a line before its line feed.
+pub const LINE: usize = 1_024;
+
+/// Of each client: whether it is open and inside an overlong line (0: no,
+/// anything else: yes), a bit for each module that it has active, the lowest
+/// for the first, and its unfinished line.
+#[repr(C)]
+#[derive(Clone, Copy, Debug, PartialEq, Eq)]
+pub struct Clients {
+    pub open: [u8; CLIENTS],
+    pub overlong: [u8; CLIENTS],
+    pub active: [u16; CLIENTS],
+    pub length: [u16; CLIENTS],
+    /// 1,024 bytes for each client, of which the first `length` count.
+    pub lines: [u8; CLIENTS * LINE],
+}
+
+/// Of each parameter: the length of its stored value, 0 if it was never set,
+/// and its time. Places past the last parameter don't count.
+#[repr(C)]
+#[derive(Clone, Copy, Debug, PartialEq, Eq)]
+pub struct Settings {
+    pub length: [u16; PARAMETERS],
+    pub time: [u64; PARAMETERS],
+}
+
+/// What is kept between calls, besides the values area. Any bytes are a state;
+/// a call over an unfit one is refused with number 9.
+#[repr(C)]
+#[derive(Clone, Copy, Debug, PartialEq, Eq)]
+pub struct State {
+    pub clients: Clients,
+    pub settings: Settings,
+}
+
+impl State {
+    /// No client open and every number 0: what a refused start answers.
+    pub const NOTHING: State = State {
+        clients: Clients {
+            open: [0; CLIENTS],
+            overlong: [0; CLIENTS],
+            active: [0; CLIENTS],
+            length: [0; CLIENTS],
+            lines: [0; CLIENTS * LINE],
+        },
+        settings: Settings {
+            length: [0; PARAMETERS],
+            time: [0; PARAMETERS],
+        },
+    };
+}
+
+/// What a call answers: its number, how many of a piece's bytes it used, how
+/// many bytes of the outbox it wrote, and the next state.
+#[repr(C)]
+#[derive(Clone, Copy, Debug, PartialEq, Eq)]
+pub struct Done {
+    pub number: u8,
+    pub used: usize,
+    pub written: usize,
+    pub state: State,
+}
+
+/// Where the value lies that a parameter shows: in the table if `stored` is 0,
+/// in the values area if it is 1.
+#[repr(C)]
+#[derive(Clone, Copy, Debug, PartialEq, Eq)]
+pub struct Shown {
+    pub number: u8,
+    pub stored: u8,
+    pub from: usize,
+    pub size: usize,
+    pub time: u64,
+}

@@ -1,0 +1,98 @@
+//! The wrapper over the library: what it keeps, and that a refusal alters
+//! nothing. What is expected stands in document 01.
+
+use jihfasul::{Mark, Node, Refusal, State};
+
+/// One module "m" with two parameters, both bool: "p", true, and "q", false.
+fn table() -> Vec<u8> {
+    b"ND\x01e\x01dMO\x01m\x01dPA\x01p\x01d\0\x03\0\x04truePA\x01q\x01d\0\x03\0\x05falseEN".to_vec()
+}
+
+fn started() -> Node {
+    Node::start(table(), 5).expect("a good table")
+}
+
+/// Everything that a client is sent for some bytes.
+fn fed(node: &mut Node, client: u64, bytes: &[u8]) -> String {
+    let mut sent = Vec::new();
+    let result = node.feed(client, 1_500, bytes, |record| {
+        assert_eq!(u64::from(record.client), client);
+        sent.extend_from_slice(record.body);
+    });
+    assert_eq!(result, Ok(()));
+    String::from_utf8(sent).expect("text")
+}
+
+#[test]
+fn a_bad_table_is_refused() {
+    let refused = |table: &[u8]| Node::start(table.to_vec(), 5).err();
+    assert_eq!(refused(b""), Some(Refusal::Layout));
+    assert_eq!(refused(b"ND\x01e\x01dEN"), Some(Refusal::Counts));
+    let late = Node::start(table(), 10_000_000_000_000).err();
+    assert_eq!(late, Some(Refusal::Time));
+}
+
+#[test]
+fn all_bytes_are_fed_line_by_line() {
+    let mut node = started();
+    assert_eq!(node.open(7, 6), Ok(()));
+    assert_eq!(fed(&mut node, 7, b""), "");
+    assert_eq!(fed(&mut node, 7, b"pi"), "");
+    let pong = "pong x [null,{\"t\":1.500}]\n";
+    let reply = "reply m:p [true,{\"t\":0.005}]\n";
+    let sent = fed(&mut node, 7, b"ng x\r\nread m:p\nping");
+    assert_eq!(sent, [pong, reply].concat());
+    assert_eq!(fed(&mut node, 7, b" x\n"), pong);
+}
+
+#[test]
+fn readings_and_values() {
+    let mut node = started();
+    node.open(0, 6).expect("closed until now");
+    assert_eq!(fed(&mut node, 0, b"activate m\n").lines().count(), 3);
+    let mut records = node.reading(1, 777, b" true ").expect("a bool");
+    let update = records.next().expect("an update");
+    assert_eq!((update.mark, update.client), (Mark::Update, 0));
+    assert_eq!(update.body, b"update m:q [true,{\"t\":0.777}]\n");
+    assert_eq!((records.next(), records.rest()), (None, b"".as_slice()));
+    let shown = |parameter| {
+        node.value(parameter)
+            .map(|one| (one.text, one.time, one.set))
+    };
+    assert_eq!(shown(0), Ok((b"true".as_slice(), 5, false)));
+    assert_eq!(shown(1), Ok((b"true".as_slice(), 777, true)));
+    assert_eq!(shown(2), Err(Refusal::NoSuchParameter));
+}
+
+#[test]
+fn a_refusal_alters_nothing() {
+    let mut node = started();
+    node.open(3, 6).expect("closed until now");
+    let (state, values) = (*node.state(), node.values().to_vec());
+    assert_eq!(node.open(3, 7), Err(Refusal::AlreadyOpen));
+    assert_eq!(node.close(4, 7), Err(Refusal::NotOpen));
+    assert_eq!(node.open(8, 7), Err(Refusal::ClientNumber));
+    assert_eq!(node.reading(1, 7, b"1").err(), Some(Refusal::Reading));
+    assert_eq!(
+        node.reading(2, 7, b"true").err(),
+        Some(Refusal::NoSuchParameter)
+    );
+    assert_eq!(node.piece(4, 7, b"").err(), Some(Refusal::NotOpen));
+    assert_eq!((node.state(), node.values()), (&state, values.as_slice()));
+}
+
+#[test]
+fn a_kept_state_is_gone_on_with() {
+    let mut node = started();
+    node.open(3, 6).expect("closed until now");
+    fed(&mut node, 3, b"change m:q true\nread m");
+    let (values, mut state) = (node.values().to_vec(), *node.state());
+    let mut again = Node::resume(table(), values.clone(), state);
+    let reply = "reply m:q [true,{\"t\":1.500}]\n";
+    assert_eq!(fed(&mut again, 3, b":q\n"), reply);
+    state.clients.active[3] = 2;
+    let mut unfit = Node::resume(table(), values, state);
+    assert_eq!(unfit.close(3, 7), Err(Refusal::State));
+    let mut nothing = Node::resume(table(), Vec::new(), State::NOTHING);
+    assert_eq!(nothing.open(0, 7), Err(Refusal::Values));
+}

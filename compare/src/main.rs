@@ -1,0 +1,148 @@
+//! Compares the library with the reference program, and measures it.
+
+mod area;
+mod cost;
+mod difference;
+mod histories;
+mod library;
+mod operations;
+mod seen;
+mod stack;
+
+use difference::{Counts, Difference};
+use reference::generate::{calls, histories as random, second, small};
+use reference::history::History;
+use reference::operation::Operation;
+use std::process::ExitCode;
+
+const HELP: &str = "\
+Compares the static library with the reference program, and measures it.
+
+usage: compare [COMMAND ...]
+
+  SEED COUNT   the fixed calls (examples, refusals, unfit states, long lines),
+               then for each of COUNT seeds, from SEED on, a small history and
+               a random one, both again cut and mingled anew, and one in which
+               the state is changed at random between the calls
+  (nothing)    the same with the seeds of the gate
+  cost         what a line costs, beside the reference program
+  stack        how deep the stack of a call is, over the same histories
+  --help       this text
+
+A difference is printed with the history's name and seed and the first call at
+which the two sides differ, counted from 1: `reference history SEED`, `second
+SEED` and `small SEED` print these histories.
+";
+
+/// The gate's seeds.
+const SEED: u64 = 1;
+const COUNT: u64 = 1_200;
+
+/// The calls of a random history.
+const CALLS: usize = 40;
+
+/// Differences that are printed; the others are only counted.
+const PRINTED: usize = 10;
+
+fn main() -> ExitCode {
+    let arguments: Vec<String> = std::env::args().skip(1).collect();
+    let arguments: Vec<&str> = arguments.iter().map(String::as_str).collect();
+    match arguments[..] {
+        [] => compare(SEED, COUNT),
+        ["cost"] => cost::print(),
+        ["stack"] => stack::print(),
+        ["--help"] => {
+            print!("{HELP}");
+            ExitCode::SUCCESS
+        }
+        [seed, count] => match (seed.parse(), count.parse()) {
+            (Ok(seed), Ok(count)) => compare(seed, count),
+            _ => usage(),
+        },
+        _ => usage(),
+    }
+}
+
+fn usage() -> ExitCode {
+    eprint!("{HELP}");
+    ExitCode::FAILURE
+}
+
+/// Counts of the histories that were compared, and of their calls.
+#[derive(Default)]
+struct Tally {
+    passed: usize,
+    failed: usize,
+    counts: Counts,
+}
+
+fn compare(seed: u64, count: u64) -> ExitCode {
+    let mut tally = Tally::default();
+    tally.operations(&calls::operations(0, 0));
+    for seed in seed..seed.saturating_add(count) {
+        tally.twice("small", seed, &small::history(seed));
+        tally.twice("random", seed, &random::history(seed, CALLS));
+        tally.operations(&calls::changes(seed));
+    }
+    tally.print()
+}
+
+impl Tally {
+    fn print(&self) -> ExitCode {
+        let Tally { passed, failed, .. } = self;
+        let numbers = self.counts.numbers.iter().enumerate();
+        let numbers = numbers.map(|(number, count)| format!("{number}: {count}"));
+        let numbers: Vec<String> = numbers.collect();
+        println!("calls answered with each number: {}", numbers.join(", "));
+        println!(
+            "{} calls of {} histories",
+            self.counts.calls,
+            passed + failed
+        );
+        println!("{passed} passed, {failed} failed");
+        match failed {
+            0 => ExitCode::SUCCESS,
+            _ => ExitCode::FAILURE,
+        }
+    }
+
+    fn operations(&mut self, operations: &[Operation]) {
+        let (parts, difference) = operations::run(operations, &mut self.counts);
+        self.passed += parts;
+        if let Some(text) = difference {
+            self.fail(&text);
+        }
+    }
+
+    /// A history, and the same cut and mingled anew.
+    fn twice(&mut self, name: &str, seed: u64, first: &History) {
+        let result = histories::run(first, &mut self.counts);
+        let Some(course) = self.count(name, seed, result) else {
+            return;
+        };
+        if let Some(second) = second::second(first, seed) {
+            let result = histories::run_second(&second, &course, &mut self.counts);
+            self.count(&format!("second of {name}"), seed, result);
+        }
+    }
+
+    fn count<T>(&mut self, name: &str, seed: u64, result: Result<T, Difference>) -> Option<T> {
+        match result {
+            Ok(value) => {
+                self.passed += 1;
+                Some(value)
+            }
+            Err(Difference { call, text }) => {
+                self.fail(&format!("{name} {seed}, call {call}: {text}"));
+                None
+            }
+        }
+    }
+
+    fn fail(&mut self, text: &str) {
+        self.failed += 1;
+        if self.failed <= PRINTED {
+            println!("difference in {text}");
+        }
+    }
+}

@@ -1,0 +1,94 @@
+//! What a state says, whichever side keeps it. Free places are left out: the
+//! bytes past a line, what stands for "yes" in a flag, and the places past the
+//! last parameter.
+
+use crate::difference::same;
+use jihfasul::state::LINE;
+use jihfasul::State;
+use reference::kept::Kept;
+use reference::line::Unfinished;
+use reference::node;
+
+#[derive(Debug, PartialEq)]
+pub struct Seen {
+    clients: Vec<Client>,
+    /// Of each parameter the length of its stored value and its time.
+    settings: Vec<(u16, u64)>,
+}
+
+#[derive(Debug, PartialEq)]
+struct Client {
+    open: bool,
+    overlong: bool,
+    active: u16,
+    /// In readable form; `None` if its length is past its place.
+    line: Option<String>,
+}
+
+fn readable(line: &[u8], length: u16) -> Option<String> {
+    let line = line.get(..usize::from(length))?;
+    Some(line.escape_ascii().to_string())
+}
+
+impl Seen {
+    /// Compares what is found with what is due, part by part.
+    pub fn same(&self, due: &Seen) -> Result<(), String> {
+        for (c, (found, due)) in self.clients.iter().zip(&due.clients).enumerate() {
+            same(&format!("client {c}"), found, due)?;
+        }
+        for (p, (found, due)) in self.settings.iter().zip(&due.settings).enumerate() {
+            same(&format!("length and time of parameter {p}"), found, due)?;
+        }
+        same("state", self, due)
+    }
+
+    pub fn in_library(state: &State, parameters: usize) -> Seen {
+        let clients = &state.clients;
+        let client = |(c, line): (usize, &[u8])| Client {
+            open: clients.open[c] != 0,
+            overlong: clients.overlong[c] != 0,
+            active: clients.active[c],
+            line: readable(line, clients.length[c]),
+        };
+        let settings = state.settings.length.iter().zip(&state.settings.time);
+        let settings = settings.map(|(length, time)| (*length, *time));
+        Seen {
+            clients: clients.lines.chunks(LINE).enumerate().map(client).collect(),
+            settings: settings.take(parameters).collect(),
+        }
+    }
+
+    pub fn in_node(state: &node::State) -> Seen {
+        let client = |client: &node::Client| Client {
+            open: client.open,
+            overlong: client.line == Unfinished::Overlong,
+            active: client.active,
+            line: Some(match &client.line {
+                Unfinished::Bytes(bytes) => bytes.escape_ascii().to_string(),
+                Unfinished::Overlong => String::new(),
+            }),
+        };
+        let setting = |held: &node::Held| match held.set {
+            true => (held.value.len() as u16, held.time),
+            false => (0, held.time),
+        };
+        Seen {
+            clients: state.clients.iter().map(client).collect(),
+            settings: state.parameters.iter().map(setting).collect(),
+        }
+    }
+
+    pub fn in_kept(kept: &Kept, parameters: usize) -> Seen {
+        let clients = kept.clients.iter().map(|client| Client {
+            open: client.open != 0,
+            overlong: client.overlong != 0,
+            active: client.active,
+            line: readable(&client.line, client.length),
+        });
+        let settings = kept.settings[..parameters].iter();
+        Seen {
+            clients: clients.collect(),
+            settings: settings.map(|one| (one.length, one.time)).collect(),
+        }
+    }
+}

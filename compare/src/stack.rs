@@ -1,0 +1,153 @@
+//! How deep the stack of a call gets: the call is made on a stack of its own,
+//! filled with a pattern, and then it shows how far the pattern is gone.
+
+use crate::library::Library;
+use jihfasul::{Done, State};
+use reference::generate::calls;
+use reference::history::Call;
+use reference::node::MIN_VALUES;
+use reference::operation::{Operation, VALUES_AREA};
+use std::arch::asm;
+use std::mem::size_of;
+use std::process::ExitCode;
+
+/// Far more than a call takes.
+const LENGTH: usize = 1 << 20;
+const PATTERN: u8 = 0xa5;
+const PAGE: usize = 4_096;
+
+/// The histories that are run.
+const SEED: u64 = 1;
+const COUNT: u64 = 200;
+
+struct Stack {
+    bytes: Vec<u8>,
+}
+
+/// Runs a closure at the end of a jump to another stack.
+extern "C" fn run<F: FnMut()>(act: &mut F) {
+    act();
+}
+
+impl Stack {
+    fn new() -> Stack {
+        Stack {
+            bytes: vec![PATTERN; LENGTH],
+        }
+    }
+
+    /// How many bytes of stack something takes.
+    fn depth<F: FnMut()>(&mut self, mut act: F) -> usize {
+        let end = self.bytes.as_mut_ptr_range().end;
+        let top = end as usize & !15;
+        let run: extern "C" fn(&mut F) = run::<F>;
+        // The stack pointer is put at the end of memory that is this
+        // struct's own, and back after the call; a panic in there ends the
+        // program.
+        unsafe {
+            asm!(
+                "mov r12, rsp",
+                "mov rsp, {top}",
+                "call {run}",
+                "mov rsp, r12",
+                top = in(reg) top,
+                run = in(reg) run,
+                in("rdi") &mut act,
+                out("r12") _,
+                clobber_abi("C"),
+            );
+        }
+        self.refill()
+    }
+
+    /// How many bytes from the first that was written to the end; they get
+    /// their pattern again.
+    fn refill(&mut self) -> usize {
+        let mut pages = self.bytes.chunks(PAGE);
+        let page = pages.position(|page| page != [PATTERN; PAGE]).unwrap_or(0) * PAGE;
+        let within = self.bytes[page..].iter().position(|byte| *byte != PATTERN);
+        let untouched = within.map_or(LENGTH, |within| page + within);
+        self.bytes[untouched..].fill(PATTERN);
+        LENGTH - untouched
+    }
+}
+
+/// The deepest stack of each kind of call.
+#[derive(Default)]
+struct Deepest {
+    start: usize,
+    open: usize,
+    close: usize,
+    piece: usize,
+    reading: usize,
+    value: usize,
+}
+
+impl Deepest {
+    fn of(&mut self, call: &Call) -> &mut usize {
+        match call {
+            Call::Start { .. } => &mut self.start,
+            Call::Open { .. } => &mut self.open,
+            Call::Close { .. } => &mut self.close,
+            Call::Piece { .. } => &mut self.piece,
+            Call::Reading { .. } => &mut self.reading,
+        }
+    }
+}
+
+pub fn print() -> ExitCode {
+    let mut stack = Stack::new();
+    let mut deepest = Deepest::default();
+    let mut library = Library::new(&[]);
+    library.values.set(0, &[0; VALUES_AREA]);
+    for operation in calls::operations(SEED, COUNT) {
+        match operation {
+            Operation::Table(bytes) => library.table = bytes,
+            Operation::Poke(poke) => library.poke(&poke),
+            Operation::Call(call) => measure(&mut stack, &mut deepest, &mut library, &call),
+            Operation::Show(_) | Operation::Note(_) => {}
+        }
+    }
+    let (state, done) = (size_of::<State>(), size_of::<Done>());
+    println!("a state has {state} bytes, an answer {done}");
+    println!("deepest stack of a call, with the state handed in and the answer:");
+    println!("start    {:6} bytes", deepest.start);
+    println!("open     {:6} bytes", deepest.open);
+    println!("close    {:6} bytes", deepest.close);
+    println!("piece    {:6} bytes", deepest.piece);
+    println!("reading  {:6} bytes", deepest.reading);
+    println!("value    {:6} bytes", deepest.value);
+    ExitCode::SUCCESS
+}
+
+fn measure(stack: &mut Stack, deepest: &mut Deepest, library: &mut Library, call: &Call) {
+    let mut state = library.state;
+    let depth = stack.depth(|| state = library.make(call).state);
+    library.state = state;
+    let most = deepest.of(call);
+    *most = depth.max(*most);
+    let depth = stack.depth(|| drop(library.value(MIN_VALUES, 0)));
+    deepest.value = depth.max(deepest.value);
+}
+
+#[cfg(test)]
+mod tests {
+    use super::*;
+    use std::hint::black_box;
+
+    #[inline(never)]
+    fn fill(count: u8) -> u32 {
+        let array = black_box([count; 5_000]);
+        array.iter().map(|byte| u32::from(*byte)).sum()
+    }
+
+    #[test]
+    fn an_array_on_the_stack_is_seen() {
+        let mut stack = Stack::new();
+        let mut sum = 0;
+        let depth = stack.depth(|| sum = fill(1));
+        assert_eq!(sum, 5_000);
+        assert!((5_000..20_000).contains(&depth), "{depth}");
+        assert!(stack.depth(|| sum = 1) < 1_000);
+    }
+}

@@ -1,0 +1,185 @@
+/*
+ * Jihfasul: the proved core of a SEC node (SECoP 1.0), as C sees it.
+ *
+ * Link target/staticlib/libnode.a, which `rt staticlib node` writes (x86-64, System V calling convention, no other library needed
+ * but memcpy and its like). The library holds nothing between calls, allocates nothing and calls nothing: a host lends each call
+ * the table, the values area and an outbox, hands in the state by value and keeps the one that is answered.
+ *
+ * Table, values area, outbox, lines and values follow the rules of document 01; docs/LIBRARY.md tells how to link and what to lend.
+ * Time is whole milliseconds, at most JIHFASUL_MAX_TIME; it may go back.
+ *
+ * The areas that are lent to one call must not overlap. A pointer may be anything where its length is 0.
+ */
+#ifndef JIHFASUL_H
+#define JIHFASUL_H
+
+#include <stddef.h>
+#include <stdint.h>
+
+#ifdef __cplusplus
+extern "C" {
+#endif
+
+/* Limits. */
+#define JIHFASUL_CLIENTS 8                /* clients are numbered 0 to 7 */
+#define JIHFASUL_PARAMETERS 64            /* at most; numbered from 0 in table order over parameters only */
+#define JIHFASUL_LINE 1024                /* bytes of a line before its line feed */
+#define JIHFASUL_STORED 256               /* bytes of a stored value, and of each parameter's place in the values area */
+#define JIHFASUL_MIN_VALUES 16384         /* bytes of a values area, at least */
+#define JIHFASUL_MIN_OUTBOX 32768         /* bytes of an outbox, at least */
+#define JIHFASUL_MAX_TABLE 16384          /* bytes of a table, at most */
+#define JIHFASUL_MAX_TIME 9999999999999u  /* milliseconds */
+
+/*
+ * Numbers that a call answers with. Where several apply, it is the lowest. Every call judges what it is lent, the table included.
+ * A refusal (any number but 0) uses no bytes and writes none; the state that it answers is the one handed in (for a start: no
+ * client open and every number 0), and values area and outbox are as they were.
+ */
+enum jihfasul_number {
+    JIHFASUL_ACCEPTED = 0,
+    JIHFASUL_BAD_LAYOUT = 1,        /* the table has over 16,384 bytes, or can't be read as records */
+    JIHFASUL_BAD_COUNTS = 2,        /* it has no or more than 16 modules, or more than 64 accessibles */
+    JIHFASUL_BAD_NAMES = 3,         /* a name in it is bad or repeated, or a text is bad */
+    JIHFASUL_BAD_DATAINFO = 4,      /* a datainfo in it breaks its own rules */
+    JIHFASUL_BAD_INITIAL = 5,       /* an initial value isn't in stored form, is over 256 bytes, or doesn't fit its datainfo */
+    JIHFASUL_LONG_REPORT = 6,       /* its structure report would be over 32,000 bytes */
+    JIHFASUL_SMALL_OUTBOX = 7,      /* the outbox is under 32,768 bytes (piece, reading) */
+    JIHFASUL_SMALL_VALUES = 8,      /* the values area is under 16,384 bytes */
+    JIHFASUL_UNFIT_STATE = 9,       /* the state can't stand over this table and this values area: see struct jihfasul_state */
+    JIHFASUL_LATE_TIME = 10,        /* the time is above its limit */
+    JIHFASUL_NO_SUCH_CLIENT = 11,   /* the client's number is above 7 */
+    JIHFASUL_NOT_OPEN = 12,         /* the client isn't open (piece, close) */
+    JIHFASUL_ALREADY_OPEN = 13,     /* the client is open (open) */
+    JIHFASUL_NO_SUCH_PARAMETER = 14,/* no parameter has this number (reading, value) */
+    JIHFASUL_BAD_READING = 15       /* the value rules refuse the reading's value */
+};
+
+/*
+ * Of each of the eight clients: whether it is open, and whether it is inside an overlong line (0: no, anything else: yes); a bit
+ * for each module whose updates it has active, the lowest for the first module; the length of its unfinished line; and the lines,
+ * 1,024 bytes for each client, of which the first `length` count.
+ */
+struct jihfasul_clients {
+    uint8_t open[JIHFASUL_CLIENTS];
+    uint8_t overlong[JIHFASUL_CLIENTS];
+    uint16_t active[JIHFASUL_CLIENTS];
+    uint16_t length[JIHFASUL_CLIENTS];
+    uint8_t lines[JIHFASUL_CLIENTS * JIHFASUL_LINE];
+};
+
+/* Of each parameter: the length of its stored value, 0 if it was never set, and its time. Places past the last parameter don't count. */
+struct jihfasul_settings {
+    uint16_t length[JIHFASUL_PARAMETERS];
+    uint64_t time[JIHFASUL_PARAMETERS];
+};
+
+/*
+ * What the host keeps between calls, besides the values area. It may be stored and restored byte for byte. It is unfit (number 9)
+ * over a table and a values area if
+ * - a stored length is over 256, a stored value isn't in stored form or doesn't fit its datainfo, or a stored time is above the limit;
+ * - an unfinished line is over 1,024 bytes or has a line feed in it, or a client inside an overlong line keeps bytes of it;
+ * - a module past the last is active; or
+ * - a closed client has bytes, an overlong line or active modules.
+ */
+struct jihfasul_state {
+    struct jihfasul_clients clients;
+    struct jihfasul_settings settings;
+};
+
+/* What a call answers: its number, how many of a piece's bytes it used, how many bytes of the outbox it wrote, and the next state. */
+struct jihfasul_done {
+    uint8_t number;
+    size_t used;
+    size_t written;
+    struct jihfasul_state state;
+};
+
+/*
+ * Where the value that a parameter shows lies: in the table if `stored` is 0 (its initial value, it was never set), in the values area
+ * if it is 1; from which byte on and how many; and its time. After a refusal only the number counts.
+ */
+struct jihfasul_shown {
+    uint8_t number;
+    uint8_t stored;
+    size_t from;
+    size_t size;
+    uint64_t time;
+};
+
+/* Starts: no client is open, and each parameter shows its initial value with this time. Numbers 0 to 6, 8, 10. */
+struct jihfasul_done jihfasul_start(
+    const uint8_t *table, size_t table_length,
+    const uint8_t *values, size_t values_length,
+    uint64_t time);
+
+/* Opens a client, with an empty line and nothing active. Numbers 0 to 6, 8 to 11, 13. */
+struct jihfasul_done jihfasul_open(
+    const uint8_t *table, size_t table_length,
+    const uint8_t *values, size_t values_length,
+    struct jihfasul_state state, uint64_t client, uint64_t time);
+
+/* Closes a client and forgets its line and what it had active. Numbers 0 to 6, 8 to 12. */
+struct jihfasul_done jihfasul_close(
+    const uint8_t *table, size_t table_length,
+    const uint8_t *values, size_t values_length,
+    struct jihfasul_state state, uint64_t client, uint64_t time);
+
+/*
+ * Takes bytes of a client: up to and including the first line feed, or all of them. `used` says how many; offer the rest again. A line
+ * that its line feed ends is carried out at this call's time, and what is to be sent lies in the outbox's first `written` bytes, at
+ * most 32,019. A change that is carried out writes the stored form at the front of its parameter's place in the values area, and no
+ * other byte. Numbers 0 to 12.
+ */
+struct jihfasul_done jihfasul_piece(
+    const uint8_t *table, size_t table_length,
+    uint8_t *values, size_t values_length,
+    uint8_t *outbox, size_t outbox_length,
+    struct jihfasul_state state, uint64_t client, uint64_t time,
+    const uint8_t *bytes, size_t bytes_length);
+
+/* Takes a driver's value for a parameter, as JSON text, stores it and writes the updates. Numbers 0 to 10, 14, 15. */
+struct jihfasul_done jihfasul_reading(
+    const uint8_t *table, size_t table_length,
+    uint8_t *values, size_t values_length,
+    uint8_t *outbox, size_t outbox_length,
+    struct jihfasul_state state, uint64_t parameter, uint64_t time,
+    const uint8_t *bytes, size_t bytes_length);
+
+/* The value that a parameter shows; nothing is copied. Numbers 0 to 6, 8, 9, 14. */
+struct jihfasul_shown jihfasul_value(
+    const uint8_t *table, size_t table_length,
+    const uint8_t *values, size_t values_length,
+    struct jihfasul_state state, uint64_t parameter);
+
+/*
+ * A record of the outbox: two bytes mark, a byte client, two bytes length (big-endian), body.
+ * "RP" the final reply and "UP" an update: the body is a line with its line feed, for that client.
+ * "DR" an order to set a parameter: a byte with the parameter's number, then the stored form.
+ * "DC" an order to carry out a command: a byte with the command's number, counted over commands, then the argument's stored form, or
+ * nothing where no argument is declared. The client of an order is the one that asked for it.
+ */
+struct jihfasul_record {
+    char mark[2];
+    uint8_t client;
+    size_t length;
+    const uint8_t *body;
+};
+
+/* Reads the record that begins at `at` and answers where the next one begins; 0 if there is none (after the last one, `at` is `written`). */
+static inline size_t jihfasul_next_record(const uint8_t *outbox, size_t written, size_t at, struct jihfasul_record *record)
+{
+    if (at > written || written - at < 5)
+        return 0;
+    record->mark[0] = (char)outbox[at];
+    record->mark[1] = (char)outbox[at + 1];
+    record->client = outbox[at + 2];
+    record->length = (size_t)outbox[at + 3] << 8 | outbox[at + 4];
+    record->body = outbox + at + 5;
+    return written - at - 5 < record->length ? 0 : at + 5 + record->length;
+}
+
+#ifdef __cplusplus
+}
+#endif
+
+#endif
