@@ -73,7 +73,7 @@ impl Answer {
         }
     }
 
-    fn plain(result: Result<(), Refusal>) -> Answer {
+    pub(crate) fn plain(result: Result<(), Refusal>) -> Answer {
         result.map_or_else(Answer::refused, |()| Answer::default())
     }
 }
@@ -108,7 +108,8 @@ impl Player {
     }
 }
 
-fn answer(node: &mut Node, call: &Call) -> Answer {
+/// Makes a call that is no start.
+pub(crate) fn answer(node: &mut Node, call: &Call) -> Answer {
     match call {
         Call::Start { .. } => unreachable!("the player makes a new node for a start"),
         Call::Open {

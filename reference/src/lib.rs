@@ -12,6 +12,8 @@
 //! * [`node`] is the plain node itself;
 //! * [`history`] runs a list of calls, [`text`] reads and prints it,
 //!   [`definitions`] prints it for the proofs;
+//! * [`kept`] is a state that somebody else keeps, [`operation`] runs calls and
+//!   changes of it, for a program that reads them from its standard input;
 //! * [`random`] and [`generate`] make tables, values and histories.
 
 pub mod datainfo;
@@ -21,9 +23,11 @@ pub mod error;
 pub mod generate;
 pub mod history;
 pub mod json;
+pub mod kept;
 pub mod line;
 pub mod name;
 pub mod node;
+pub mod operation;
 pub mod outbox;
 pub mod random;
 pub mod refusal;

@@ -4,8 +4,9 @@
 use reference::definitions;
 use reference::error::ErrorClass;
 use reference::generate::vectors::{self, ValueCase};
-use reference::generate::{directed, encode, histories, second, small};
+use reference::generate::{calls, directed, encode, histories, second, small};
 use reference::history::History;
+use reference::operation;
 use reference::report;
 use reference::table::Table;
 use reference::text::{self, hex};
@@ -36,6 +37,10 @@ usage: reference COMMAND ...
   value-input SEED COUNT, value-output SEED COUNT
                         the same for values, with E1 to E8 and the corners
                         for each type before them
+  calls-input SEED COUNT, calls-output SEED COUNT
+                        the same for calls over a kept state: the examples,
+                        refusals, unfit states and long lines, then COUNT
+                        random histories of each sort
   run FILE              runs the histories in FILE, whatever answers it has,
                         and prints them with the answers due; - reads from
                         standard input
@@ -80,6 +85,10 @@ fn command(arguments: &[&str]) -> Result<Vec<u8>, String> {
             let tables = vectors::random_tables(number(seed)?, number(count)?);
             Ok(vectors::table_input(&tables))
         }
+        ["calls-input", seed, count] => {
+            let operations = calls::operations(number(seed)?, number(count)?);
+            Ok(operation::input(&operations))
+        }
         _ => text_command(arguments).map(String::into_bytes),
     }
 }
@@ -104,6 +113,10 @@ fn text_command(arguments: &[&str]) -> Result<String, String> {
         ["table-output", seed, count] => {
             let tables = vectors::random_tables(number(seed)?, number(count)?);
             Ok(vectors::table_output(&tables))
+        }
+        ["calls-output", seed, count] => {
+            let operations = calls::operations(number(seed)?, number(count)?);
+            Ok(operation::output(&operations))
         }
         ["run", file] => run(file),
         ["--help" | "-h" | "help"] => Ok(HELP.to_string()),

@@ -2,6 +2,7 @@
 //! from a seed; neither clock nor outside randomness plays a part.
 
 pub mod borders;
+pub mod calls;
 pub mod datainfos;
 pub mod directed;
 pub mod encode;

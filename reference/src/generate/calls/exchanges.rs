@@ -1,0 +1,312 @@
+//! The examples of document 01 that are about calls, the exchanges of SECoP
+//! 1.0 that it keeps, and the structure report.
+
+use super::course::Course;
+use crate::datainfo::Datainfo;
+use crate::generate::encode;
+use crate::generate::parts::{
+    array, command, digit, double, enumeration, module, parameter, readonly, string, structure,
+    table,
+};
+use crate::table::{Accessible, Module, Table};
+
+pub(super) fn all(course: &mut Course) {
+    examples(course);
+    outbox(course);
+    reports(course);
+    secop(course);
+    actions(course);
+    errors(course);
+}
+
+fn kelvin() -> Datainfo {
+    double((0, 0), (300, 0))
+}
+
+/// Modules `t1`, `idle` and `mf`, with parameters and commands of most kinds.
+fn lab() -> Vec<u8> {
+    let status = Datainfo::Tuple(vec![Datainfo::Int { min: 0, max: 999 }, string(0, 40)]);
+    let modes = enumeration(&[("off", 0), ("on", 1)]);
+    encode::table(&table(vec![
+        module(
+            "t1",
+            vec![
+                readonly("value", kelvin(), "295.13"),
+                parameter("target", kelvin(), "0"),
+                readonly("status", status.clone(), "[100,\"OK\"]"),
+                command("stop", None),
+            ],
+        ),
+        module("idle", Vec::new()),
+        module(
+            "mf",
+            vec![
+                parameter("target", Datainfo::Int { min: -10, max: 12 }, "-0"),
+                readonly("status", status, "[100,\"OK\"]"),
+                parameter("mode", modes, "1"),
+                command("go", Some(digit())),
+                parameter("label", string(0, 1_000), "\"\""),
+                command("stop", None),
+            ],
+        ),
+    ]))
+}
+
+/// E9 to E12.
+fn examples(course: &mut Course) {
+    course.started("E9 to E12", &lab());
+    course.open(0);
+    course.line(0, "activate t1:x");
+    course.piece_at(0, 5, "ping\n");
+    course.line(0, "");
+    course.piece(0, "ping x\r");
+    course.piece(0, "\nping");
+    course.piece(0, "");
+    course.show();
+}
+
+fn outbox(course: &mut Course) {
+    let accessibles = vec![
+        readonly("value", kelvin(), "0"),
+        parameter("target", kelvin(), "0"),
+    ];
+    let bytes = encode::table(&table(vec![module("t1", accessibles)]));
+    course.started("the outbox example", &bytes);
+    for client in [2, 3, 5] {
+        course.open(client);
+    }
+    course.line(5, "activate t1");
+    course.line(2, "activate t1");
+    course.piece_at(2, 1_500, "change t1:target 12\n");
+    course.show();
+}
+
+fn described(description: &str, accessible: Accessible) -> Accessible {
+    Accessible {
+        description: description.as_bytes().to_vec(),
+        ..accessible
+    }
+}
+
+/// The table of the whole report in document 01.
+fn report_table() -> Table {
+    let modes = enumeration(&[("off", 0), ("on", 1)]);
+    let stage = Module {
+        description: b"stage".to_vec(),
+        ..module(
+            "t1",
+            vec![
+                described("reading", readonly("value", kelvin(), "0")),
+                described("heater", parameter("mode", modes, "0")),
+                described("stop", command("stop", None)),
+            ],
+        )
+    };
+    Table {
+        equipment_id: b"demo".to_vec(),
+        description: b"one stage".to_vec(),
+        modules: vec![stage],
+    }
+}
+
+fn reports(course: &mut Course) {
+    let mut whole = report_table();
+    course.started("the whole report", &encode::table(&whole));
+    course.open(0);
+    course.lines(0, &["describe", "describe .", "describe x {"]);
+    whole.modules[0].note = Some(b"a note".to_vec());
+    whole.modules.push(module("t2", Vec::new()));
+    whole.modules[1].note = Some(Vec::new());
+    course.started("a report with notes", &encode::table(&whole));
+    course.open(0);
+    course.line(0, "describe");
+    let keys = encode::table(&table(vec![module("m", of_each_type())]));
+    course.started("the keys of each type", &keys);
+    course.open(7);
+    course.line(7, "describe");
+    course.line(7, "activate");
+}
+
+fn of_each_type() -> Vec<Accessible> {
+    let int = |min, max| Datainfo::Int { min, max };
+    let pair = Datainfo::Tuple(vec![Datainfo::Bool, array(1, 2, string(0, 3))]);
+    let nested = structure(&[("a", pair.clone()), ("B", int(i64::MIN, i64::MAX))]);
+    vec![
+        parameter("d", double((250, -2), (0, 5)), "2.5"),
+        parameter("e", double((i64::MIN, 30), (-1, -30)), "-1"),
+        parameter("i", int(-1, 0), "-1"),
+        parameter("b", Datainfo::Bool, "true"),
+        parameter("n", enumeration(&[("low", i32::MIN), ("_x", 7)]), "7"),
+        parameter("s", string(1, 65_535), "\"\\u0041\""),
+        parameter("a", array(0, 0, Datainfo::Bool), "[]"),
+        parameter("t", pair, "[true,[\"x\"]]"),
+        parameter(
+            "c",
+            nested.clone(),
+            "{\"B\":0,\"a\":[false,[\"\",\"abc\"]]}",
+        ),
+        command("go", Some(nested)),
+        command("stop", None),
+    ]
+}
+
+/// The exchanges of SECoP 1.0, over a table that has what they speak of.
+fn secop(course: &mut Course) {
+    course.started("exchanges of SECoP 1.0", &lab());
+    course.open(0);
+    let time = 1_505_396_348_188;
+    for (later, line) in (0..).zip([
+        "*IDN?",
+        "describe",
+        "activate",
+        "read mf:status",
+        "change mf:target 12",
+        "read t1:value",
+        "read t1:status",
+        "do t1:stop",
+        "do t1:stop null",
+        "read tx:target",
+        "change t1:nosuch 12",
+        "change t1:target -9",
+        "meas:volt?",
+        "ping 123",
+        "deactivate",
+        "logging  \"error\"",
+    ]) {
+        course.piece_at(0, time + later, format!("{line}\n"));
+    }
+    course.reading(0, "295.14");
+    course.line(0, "activate t1");
+    course.reading(0, "295.13");
+    course.reading(2, "[400, \"heater broken or disconnected\"]");
+    course.show();
+}
+
+/// What each action takes and ignores.
+fn actions(course: &mut Course) {
+    course.started("actions", &lab());
+    course.open(3);
+    course.open(6);
+    course.line(6, "activate mf");
+    course.lines(
+        3,
+        &[
+            "*IDN? x y z",
+            "*IDN?\r",
+            "*IDN",
+            "*idn?",
+            "ping",
+            "ping ",
+            "ping  1",
+            "ping a b",
+            "ping a:b:c {",
+            "activate ",
+            "activate  x",
+            "activate idle",
+            "activate mf:!! ?",
+            "deactivate t1:x",
+            "deactivate",
+            "deactivate t1",
+            "deactivate  x",
+            "activate t1",
+            "activate t1",
+            "deactivate mf",
+            "activate idle",
+            "read t1:value:x y",
+            "read t1:value:",
+            "change mf:target  5  ",
+            "change mf:label \" a  b \"",
+            "change mf:label \"\\u0041\\n\"",
+            "change mf:mode 0",
+            "change mf:target:x:y -10",
+            "do mf:go 3",
+            "do mf:go  9 ",
+            "do mf:stop  null ",
+            "do mf:stop:x",
+            "do mf:stop  ",
+        ],
+    );
+    course.show();
+    course.close(6);
+    course.line(3, "change t1:target 3e2");
+    course.show();
+}
+
+/// Errors of each class in their order.
+fn errors(course: &mut Course) {
+    course.started("errors", &lab());
+    course.open(1);
+    course.lines(
+        1,
+        &[
+            " ",
+            "  x",
+            " ping",
+            "\r",
+            "\r\r",
+            "x\r\r",
+            "ping\t1",
+            "ping \u{7f}",
+            "ping \u{80}",
+            "a\0",
+            "Ping",
+            "x y z",
+            "error_ x",
+            "activate :",
+            "activate 9",
+            "activate tx",
+            "activate T1",
+            "deactivate :x",
+            "deactivate nosuch:x",
+            "read",
+            "read t1",
+            "read t1:",
+            "read :value",
+            "read t1::value",
+            "read  t1:value",
+            "read nosuch:9",
+            "read nosuch:value",
+            "read t1:nosuch",
+            "read t1:stop",
+            "read mf:value",
+            "change t1:value }",
+            "change t1:nosuch }",
+            "change nosuch:value }",
+            "change 1:value 1",
+            "change t1:target",
+            "change t1:target  ",
+            "change t1:target 01",
+            "change t1:target [",
+            "change t1:target \"1\"",
+            "change t1:target 300.0000000000000000001",
+            "change t1:target -1e-99",
+            "change t1:target 0e100",
+            "change mf:target 1.0",
+            "change mf:mode \"on\"",
+            "change mf:mode 2",
+            "do t1:value",
+            "do t1:nosuch",
+            "do tx:stop",
+            "do t1:stop 1",
+            "do t1:stop x",
+            "do t1:stop nul",
+            "do t1:stop [null]",
+            "do t1:stop {}",
+            "do t1:stop true",
+            "do t1:stop \"null\"",
+            "do t1:stop nullx",
+            "do mf:go",
+            "do mf:go null",
+            "do mf:go 10",
+            "do mf:go 1.0",
+            "do mf:go x",
+            "do mf",
+        ],
+    );
+    course.line(1, &format!("activate {}", "n".repeat(63)));
+    course.line(1, &format!("activate {}", "n".repeat(64)));
+    course.line(1, &format!("change mf:label \"{}\"", "x".repeat(254)));
+    course.line(1, &format!("change mf:label  \"{}\" ", "x".repeat(255)));
+    course.line(1, "read mf:label");
+    course.show();
+}

@@ -1,0 +1,35 @@
+//! What a program that makes the calls is run on: the documents' examples and
+//! exchanges, every refusal and every unfit state for each call, long lines in
+//! all cuttings, and random histories.
+
+mod course;
+mod exchanges;
+mod long;
+mod pokes;
+mod refusals;
+mod unfit;
+
+use super::{directed, histories, small};
+use crate::operation::Operation;
+use course::Course;
+
+/// The calls of a random history.
+const CALLS: usize = 40;
+
+/// All of it, with so many random histories from a seed on.
+pub fn operations(seed: u64, count: u64) -> Vec<Operation> {
+    let mut course = Course::new();
+    exchanges::all(&mut course);
+    for scene in directed::all() {
+        course.history(scene.name, &scene.history);
+    }
+    refusals::all(&mut course);
+    unfit::all(&mut course);
+    long::all(&mut course);
+    for seed in seed..seed + count {
+        course.history(&format!("small {seed}"), &small::history(seed));
+        course.history(&format!("random {seed}"), &histories::history(seed, CALLS));
+        pokes::history(&mut course, seed);
+    }
+    course.operations()
+}

@@ -1,0 +1,311 @@
+//! States that somebody else keeps: which are unfit, and what a program that
+//! keeps one prints.
+
+use crate::build::*;
+use crate::program::{printed, printed_bytes};
+use reference::history::{Answer, Call};
+use reference::kept::Kept;
+use reference::node::MAX_TIME;
+use reference::operation::{input, output, Operation, Poke};
+
+/// Module `t1` with the parameters 0, an int from 0 to 9, and 1, a string.
+fn two_parameters() -> Vec<u8> {
+    one_module(&[
+        pa("p", "", 0, &int(0, 9), b"3"),
+        pa("l", "", 0, &string(0, 300), b"\"\""),
+    ])
+}
+
+fn start() -> Call {
+    Call::Start {
+        values_len: VALUES,
+        time: 5,
+    }
+}
+
+fn open(client: u64) -> Call {
+    Call::Open {
+        client,
+        values_len: VALUES,
+        time: 6,
+    }
+}
+
+fn close(client: u64) -> Call {
+    Call::Close {
+        client,
+        values_len: VALUES,
+        time: 6,
+    }
+}
+
+fn piece(client: u64, bytes: &str) -> Call {
+    Call::Piece {
+        client,
+        values_len: VALUES,
+        outbox_len: OUTBOX,
+        time: 7,
+        bytes: bytes.as_bytes().to_vec(),
+    }
+}
+
+fn reading(parameter: u64, text: &str) -> Call {
+    Call::Reading {
+        parameter,
+        values_len: VALUES,
+        outbox_len: OUTBOX,
+        time: 8,
+        text: text.as_bytes().to_vec(),
+    }
+}
+
+/// A state over a table with client 0 open and inside a line.
+fn begun(table: &[u8]) -> Kept {
+    let mut kept = Kept::new(VALUES);
+    for call in [start(), open(0), piece(0, "ping"), reading(0, "4")] {
+        assert_eq!(kept.call(table, &call).number, 0);
+    }
+    kept
+}
+
+fn poked(pokes: &[Poke]) -> Kept {
+    let mut kept = begun(&two_parameters());
+    pokes.iter().for_each(|poke| poke.apply(&mut kept));
+    kept
+}
+
+#[track_caller]
+fn assert_unfit(pokes: &[Poke]) {
+    let kept = poked(pokes);
+    for call in [open(1), close(0), piece(0, "\n"), reading(0, "5")] {
+        let mut after = kept.clone();
+        let unfit = Answer {
+            number: 9,
+            ..Answer::default()
+        };
+        assert_eq!(after.call(&two_parameters(), &call), unfit);
+        assert_eq!(after, kept);
+    }
+}
+
+#[track_caller]
+fn assert_fit(pokes: &[Poke]) {
+    let mut kept = poked(pokes);
+    for call in [open(1), piece(0, "\n"), reading(0, "5"), close(0)] {
+        assert_eq!(kept.call(&two_parameters(), &call).number, 0);
+    }
+}
+
+fn value(text: &str) -> [Poke; 2] {
+    [
+        Poke::Values(0, text.as_bytes().to_vec()),
+        Poke::StoredLength(0, text.len() as u16),
+    ]
+}
+
+/// Parameter 1 with a string of so many bytes.
+fn long_value(length: u16) -> [Poke; 2] {
+    let text = format!("\"{}\"", "x".repeat(usize::from(length) - 2));
+    [
+        Poke::Values(256, text.into_bytes()),
+        Poke::StoredLength(1, length),
+    ]
+}
+
+#[test]
+fn unfit_settings() {
+    assert_unfit(&long_value(257));
+    assert_fit(&long_value(256));
+    assert_unfit(&value("4 "));
+    assert_unfit(&value("04"));
+    assert_unfit(&value("10"));
+    assert_unfit(&value("true"));
+    assert_fit(&value("-0"));
+    assert_unfit(&[Poke::StoredTime(0, MAX_TIME + 1)]);
+    assert_unfit(&[Poke::StoredTime(1, MAX_TIME + 1)]);
+    assert_fit(&[Poke::StoredTime(1, MAX_TIME)]);
+    assert_fit(&[Poke::StoredLength(2, 257), Poke::StoredTime(2, u64::MAX)]);
+}
+
+#[test]
+fn unfit_clients() {
+    let line = |bytes: &str, length| {
+        [
+            Poke::Lines(0, bytes.as_bytes().to_vec()),
+            Poke::LineLength(0, length),
+        ]
+    };
+    assert_unfit(&[Poke::LineLength(0, 1_025)]);
+    assert_fit(&line(&"x".repeat(1_024), 1_024));
+    assert_unfit(&line("ping\n", 5));
+    assert_fit(&line("ping\n", 4));
+    assert_unfit(&[Poke::Overlong(0, 1)]);
+    assert_fit(&[Poke::Overlong(0, 2), Poke::LineLength(0, 0)]);
+    assert_unfit(&[Poke::Active(0, 2)]);
+    assert_fit(&[Poke::Active(0, 1)]);
+    assert_fit(&[Poke::Open(0, 255)]);
+}
+
+#[test]
+fn unfit_closed_clients() {
+    assert_unfit(&[Poke::LineLength(7, 1)]);
+    assert_unfit(&[Poke::Overlong(7, 1)]);
+    assert_unfit(&[Poke::Active(7, 1)]);
+    assert_unfit(&[Poke::Open(0, 0)]);
+    assert_fit(&[Poke::Lines(7_168, b"\n".to_vec())]);
+}
+
+/// Of the other numbers those up to 8 are lower.
+#[test]
+fn unfit_with_other_faults() {
+    let number = |table: &[u8], call| {
+        let mut kept = poked(&[Poke::Overlong(7, 1)]);
+        kept.call(table, &call).number
+    };
+    let good = two_parameters();
+    assert_eq!(number(b"", open(1)), 1);
+    let short = |values_len, outbox_len, time| Call::Piece {
+        client: 8,
+        values_len,
+        outbox_len,
+        time,
+        bytes: Vec::new(),
+    };
+    assert_eq!(
+        number(&good, short(VALUES - 1, OUTBOX - 1, MAX_TIME + 1)),
+        7
+    );
+    assert_eq!(number(&good, short(VALUES - 1, OUTBOX, MAX_TIME + 1)), 8);
+    assert_eq!(number(&good, short(VALUES, OUTBOX, MAX_TIME + 1)), 9);
+    assert_eq!(number(&good, start()), 0);
+}
+
+/// The sum of the bytes, each times a power of 257, by its remainder.
+fn digest(bytes: impl DoubleEndedIterator<Item = u8>) -> u64 {
+    let modulus = 1_099_511_627_776;
+    let mut power = 1;
+    let mut sum = 0;
+    for byte in bytes.rev() {
+        sum = (sum + power * u64::from(byte)) % modulus;
+        power = power * 257 % modulus;
+    }
+    sum
+}
+
+#[test]
+fn what_a_program_is_to_print() {
+    let operations = [
+        Operation::Note("a\tb c".to_string()),
+        Operation::Table(two_parameters()),
+        Operation::Call(start()),
+        Operation::Call(open(1)),
+        Operation::Call(close(0)),
+        Operation::Call(piece(1, "change t1:p  5 \nx")),
+        Operation::Call(piece(1, "\\")),
+        Operation::Poke(Poke::Open(3, 7)),
+        Operation::Poke(Poke::Overlong(3, 9)),
+        Operation::Show(2),
+    ];
+    let pattern = (0..40_000).map(|at| (at % 251) as u8);
+    let untouched = digest(pattern.clone());
+    let order = [&b"DR\x01\x00\x02\x005"[..], b"RP\x01\x00\x1d"].concat();
+    let written = [&order[..], b"changed t1:p [5,{\"t\":0.007}]\n"].concat();
+    assert_eq!(written.len(), 7 + 5 + 29);
+    let rest: Vec<u8> = pattern.skip(written.len()).collect();
+    let sent = digest([written, rest].concat().into_iter());
+    let values = digest([vec![b'5'], vec![0; 19_999]].concat().into_iter());
+    let expected = format!(
+        "# a\\09b c\n\
+         start 0 0 0 {untouched} 0\n\
+         open 0 0 0 {untouched} 0\n\
+         close 12 0 0 {untouched} 0 kept\n\
+         piece 0 16 41 {sent} {values} DR\\01\\00\\02\\005RP\\01\\00\\1dchanged t1:p [5,{{\"t\":0.007}}]\\0a\n\
+         piece 0 1 0 {untouched} {values}\n\
+         client 0 0 0 0 0\n\
+         client 1 1 0 0 1 \\5c\n\
+         client 2 0 0 0 0\n\
+         client 3 1 1 0 0\n\
+         client 4 0 0 0 0\n\
+         client 5 0 0 0 0\n\
+         client 6 0 0 0 0\n\
+         client 7 0 0 0 0\n\
+         parameter 0 1 7\n\
+         parameter 1 0 5\n"
+    );
+    assert_eq!(output(&operations), expected);
+}
+
+#[test]
+fn what_a_program_reads() {
+    let operations = [
+        Operation::Table(b"ND".to_vec()),
+        Operation::Call(piece(2, "ab")),
+        Operation::Poke(Poke::StoredTime(63, 258)),
+        Operation::Poke(Poke::Values(256, b"1".to_vec())),
+        Operation::Show(3),
+    ];
+    let number = |number: u8| [0, 0, 0, 0, 0, 0, 0, number];
+    let expected = [
+        &b"T"[..],
+        &number(0),
+        &number(0),
+        &[0, 0, 0, 0, 0, 2],
+        b"ND",
+        b"P",
+        &number(2),
+        &number(7),
+        &[0x40, 0, 0x80, 0, 0, 2],
+        b"ab",
+        b"t",
+        &number(63),
+        &[0, 0, 0, 0, 0, 0, 1, 2],
+        &[0; 6],
+        b"w",
+        &[0, 0, 0, 0, 0, 0, 1, 0],
+        &number(0),
+        &[0, 0, 0, 0, 0, 1],
+        b"1",
+        b"E",
+        &number(3),
+        &number(0),
+        &[0; 6],
+    ];
+    assert_eq!(input(&operations), expected.concat());
+}
+
+/// The calls of the printed output, each by its name and number.
+fn answers(printed: &str) -> Vec<(&str, u8)> {
+    const CALLS: [&str; 5] = ["start", "open", "close", "piece", "reading"];
+    fn answer(line: &str) -> Option<(&str, u8)> {
+        let mut words = line.split(' ');
+        let name = words.next().filter(|name| CALLS.contains(name))?;
+        Some((name, words.next()?.parse().expect("a number")))
+    }
+    printed.lines().filter_map(answer).collect()
+}
+
+/// Every number comes for each call that can answer with it.
+#[test]
+fn the_script_has_every_number() {
+    let printed = printed(&["calls-output", "1", "0"], "");
+    let answers = answers(&printed);
+    let all = |lowest: u8, highest: u8| (lowest..=highest).collect::<Vec<_>>();
+    let expected = [
+        ("start", [all(0, 6), vec![8, 10]].concat()),
+        ("open", [all(0, 6), all(8, 11), vec![13]].concat()),
+        ("close", [all(0, 6), all(8, 12)].concat()),
+        ("piece", all(0, 12)),
+        ("reading", [all(0, 10), vec![14, 15]].concat()),
+    ];
+    for (name, numbers) in expected {
+        let mut found: Vec<u8> = answers
+            .iter()
+            .filter(|(one, _)| *one == name)
+            .map(|(_, number)| *number)
+            .collect();
+        found.sort_unstable();
+        found.dedup();
+        assert_eq!(found, numbers, "{name}");
+    }
+    assert!(!printed_bytes(&["calls-input", "1", "0"], "").is_empty());
+}
