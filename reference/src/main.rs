@@ -4,7 +4,7 @@
 use reference::definitions;
 use reference::error::ErrorClass;
 use reference::generate::vectors::{self, ValueCase};
-use reference::generate::{calls, directed, encode, histories, second, small};
+use reference::generate::{borders, calls, directed, encode, histories, second, small};
 use reference::history::History;
 use reference::operation;
 use reference::report;
@@ -32,11 +32,14 @@ usage: reference COMMAND ...
   tables SEED COUNT     tables, each with its number and its report
   values SEED COUNT     datainfos and values, each with the judgement
   table-input SEED COUNT, table-output SEED COUNT
-                        the same tables as bytes for a program's standard
-                        input, and what it is to print
+                        tables and searches in them as bytes for a program's
+                        standard input, and what it is to print
   value-input SEED COUNT, value-output SEED COUNT
                         the same for values, with E1 to E8 and the corners
                         for each type before them
+  judge-input KILOBYTES COUNT
+                        a table of so many kilobytes for such a program, to
+                        be judged a thousand times COUNT times
   calls-input SEED COUNT, calls-output SEED COUNT
                         the same for calls over a kept state: the examples,
                         refusals, unfit states and long lines, then COUNT
@@ -82,15 +85,25 @@ fn command(arguments: &[&str]) -> Result<Vec<u8>, String> {
             Ok(vectors::value_input(&cases))
         }
         ["table-input", seed, count] => {
-            let tables = vectors::random_tables(number(seed)?, number(count)?);
-            Ok(vectors::table_input(&tables))
+            let cases = vectors::table_cases(number(seed)?, number(count)?);
+            Ok(vectors::table_input(&cases))
         }
+        ["judge-input", kilobytes, count] => judge_input(number(kilobytes)?, number(count)?),
         ["calls-input", seed, count] => {
             let operations = calls::operations(number(seed)?, number(count)?);
             Ok(operation::input(&operations))
         }
         _ => text_command(arguments).map(String::into_bytes),
     }
+}
+
+/// A table to be judged again and again, a thousand times for each count.
+fn judge_input(kilobytes: usize, count: usize) -> Result<Vec<u8>, String> {
+    if !(1..=16).contains(&kilobytes) {
+        return Err("a table has 1 to 16 kilobytes".to_string());
+    }
+    let table = encode::table(&borders::of_kilobytes(kilobytes));
+    Ok(vectors::judge_input(&table, count))
 }
 
 /// The commands that print text.
@@ -111,8 +124,8 @@ fn text_command(arguments: &[&str]) -> Result<String, String> {
             Ok(vectors::value_output(&cases))
         }
         ["table-output", seed, count] => {
-            let tables = vectors::random_tables(number(seed)?, number(count)?);
-            Ok(vectors::table_output(&tables))
+            let cases = vectors::table_cases(number(seed)?, number(count)?);
+            Ok(vectors::table_output(&cases))
         }
         ["calls-output", seed, count] => {
             let operations = calls::operations(number(seed)?, number(count)?);

@@ -1,22 +1,21 @@
 -- Modules, parameters and commands that are found in an accepted table. Assumes nothing.
-use Prim.Native.Nat.{ℕ, zero, suc, _+_, _-_, _≤_, _<_}
+use Prim.Native.Nat.{ℕ, _-_, _≤_, _<_}
 use native.Mathlib.Omega.{arith}
 use mathlib.Core.Path.{_≡_, refl, ap, subst}
 use mathlib.Core.Bool.{true}
-use mathlib.Core.List.{List, [], _∷_, _++_, map}
+use mathlib.Core.List.{List}
 use mathlib.Core.Option.{none, some}
 use lib.ListN.{length, take, drop, getElem?, length-drop}
 use lib.Seq.{length-take-le}
 use Rattle.ascii.specs.Bytes.{isSome}
 use Rattle.ascii.specs.Names.{isName}
 use Rattle.datainfo.specs.Layout.{datainfoAt}
-use Rattle.table.specs.Table.{Accessible, Parameter, Command, Module}
+use Rattle.table.specs.Table.{Parameter, Command}
 use Rattle.table.specs.Layout.{argumentAt, tableOf}
-use Rattle.table.specs.Search.{Placed, parametersOf, placedFrom, parameters, commands, findModule, findParameter, findCommand}
+use Rattle.table.specs.Search.{Placed, parameters, commands, findModule, findParameter, findCommand}
 use Rattle.table.specs.At.{bytesOf, Inside, parameterOf, commandOf}
 use Rattle.table.specs.declared.layout.ParameterAt.{ParameterAt}
 use Rattle.table.specs.declared.layout.CommandAt.{CommandAt}
-use Rattle.table.proofs.Accessibles.{in-some}
 use Rattle.report.specs.Judge.{tableNumber}
 use Rattle.search.specs.Left.{InTable}
 use Rattle.search.specs.Found.{FindsModule, FindsParameter, ParameterFound, FindsCommand, CommandFound}
@@ -24,13 +23,9 @@ use Rattle.search.specs.declared.find.FoundModule as F
 use Rattle.search.specs.declared.find.FoundParameter as P
 use Rattle.search.specs.declared.find.FoundCommand as C
 use Rattle.search.proofs.Finds.{parameter-there, parameter-named, command-there, command-named}
-use Rattle.sound.proofs.Lists.{each-at}
+use Rattle.sound.proofs.Lists.{each-at, there-low}
+use Rattle.sound.proofs.Homes.{parameter-home}
 use Rattle.sound.proofs.Accepted.{GoodParameter, GoodCommand, accepted, accepted-whole}
-
-pub there-low : {A : Type 0} (l : List A) (i : ℕ) (x : A) → getElem? l i ≡ some x → i < length l
-there-low [] i x e = let z : _≡_ {A = ℕ} 0 1 = cc in absurd (omega arith)
-there-low (y ∷ l) zero x e = omega arith
-there-low (y ∷ l) (suc i) x e = let h = there-low l i x e in omega arith
 
 -- ## Modules
 
@@ -86,24 +81,6 @@ module _ (s : List ℕ) (e : tableNumber s ≡ 0) (m a : List ℕ) (r : C.FoundC
 
 -- ## Parameters
 
--- the module of a parameter or a command is one of the table's
-module _ {A : Type 0} (of : List Accessible → List A) where
-  home-of : (n : ℕ) (name : List ℕ) (l : List A) (more : List (Placed A)) (b : ℕ) → n < b
-      → ((i : ℕ) (x : Placed A) → getElem? more i ≡ some x → x .home < b) → (i : ℕ) (x : Placed A)
-      → getElem? (map (λ (a : A). record { home = n; moduleName = name; it = a }) l ++ more) i ≡ some x → x .home < b
-  home-of n name [] more b h f i x e = f i x e
-  home-of n name (a ∷ l) more b h f zero x e =
-      let q : _≡_ {A = Placed A} (record { home = n; moduleName = name; it = a }) x = in-some e in
-      omega (arith, ap (λ (y : Placed A). y .home) q)
-  home-of n name (a ∷ l) more b h f (suc i) x e = home-of n name l more b h f i x e
-
-  home-low : (ms : List Module) (n i : ℕ) (x : Placed A) → getElem? (placedFrom of n ms) i ≡ some x → x .home < n + length ms
-  unfolding placedFrom
-  home-low [] n i x e = let z : _≡_ {A = ℕ} 0 1 = cc in absurd (omega arith)
-  home-low (m ∷ ms) n i x e =
-      home-of n (m .name) (of (m .accessibles)) (placedFrom of (suc n) ms) (n + suc (length ms)) (omega arith)
-      (λ j y q. omega (arith, home-low ms (suc n) j y q)) i x e
-
 -- parameter k of an accepted table, of the module of number h, whose names are m and a, and of which q has the positions
 pub record ParameterKnown (s m a : List ℕ) (k h : ℕ) (q : ParameterAt) : Type 0 where
   pub it : Placed Parameter
@@ -151,7 +128,7 @@ module _ (s : List ℕ) (e : tableNumber s ≡ 0) (m a : List ℕ) (r : P.FoundP
         there = there;
         low = omega (arith, there-low (parameters (tableOf s)) k it there);
         home = refl;
-        homeLow = omega (arith, home-low parametersOf (tableOf s .modules) 0 k it there);
+        homeLow = omega (arith, parameter-home (tableOf s) k it there);
         moduleNamed = refl;
         named = named .1;
         goodModule = names .0;

@@ -18,9 +18,9 @@ use Rattle.sound.proofs.Records.{Fine, Written, name-short, says-changed, writt
 use Rattle.sound.proofs.Room.{room-after, puts-after, puts-none}
 use Rattle.state.specs.declared.Clients.{Clients}
 use Rattle.state.specs.View.{clientAt, withStored}
+use Rattle.state.proofs.Forms.{put-stored, stands}
 use Rattle.outcome.specs.declared.Outcome.the-variants.{Stored}
 use Rattle.access.specs.Set.{setRecords, Settable, Accepts, IsSet}
-use Rattle.access.proofs.Orders.{put-stored, stands}
 
 -- ## The order, the updates and the reply, with a value of at most 256 bytes
 

@@ -4,5 +4,7 @@ pub mod Lent
 pub mod Opens
 pub mod Reading
 pub mod Refused
+pub mod Shows
 pub mod Taken
 pub mod Takes
+pub mod Ties

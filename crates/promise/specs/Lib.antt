@@ -2,3 +2,4 @@ pub mod Leaves
 pub mod Lent
 pub mod Promise
 pub mod Run
+pub mod Shown

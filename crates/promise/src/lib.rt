@@ -9,3 +9,14 @@ pub struct Done {
     pub written: usize,
     pub state: State,
 }
+
+// A call's number (0: accepted), whether the value shown is a stored one (0: it isn't), where its part of the values area or of the table
+// begins, how many bytes it has, and its time.
+#[repr(C)]
+pub struct Shown {
+    pub number: u8,
+    pub stored: u8,
+    pub from: usize,
+    pub size: usize,
+    pub time: u64,
+}

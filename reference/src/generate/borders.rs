@@ -138,6 +138,23 @@ fn of_length(length: usize) -> Table {
     table
 }
 
+/// A good table of so many kilobytes, 1 to 16, with four accessibles in each.
+pub fn of_kilobytes(count: usize) -> Table {
+    let names: Vec<String> = (0..8).map(|at| format!("m{at}")).collect();
+    let members = names.iter().map(|name| (name.as_str(), parts::digit()));
+    let datainfo = parts::structure(&members.collect::<Vec<_>>());
+    let initial: Vec<String> = names.iter().map(|name| format!("\"{name}\":7")).collect();
+    let initial = format!("{{{}}}", initial.join(","));
+    let parameters = (0..4 * count).map(|at| {
+        let name = format!("parameter_{at}");
+        parameter(&name, datainfo.clone(), &initial)
+    });
+    let mut table = table(parameters.collect());
+    let missing = 1_024 * count - encode::table(&table).len();
+    lengthen_descriptions(&mut table, missing);
+    table
+}
+
 /// A short table with a report of so many bytes.
 fn with_report(length: usize) -> Table {
     let bulky = |name| command(name, Some(datainfos::bulky(4)));

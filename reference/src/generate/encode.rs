@@ -13,6 +13,8 @@ pub struct Encoded {
     pub flags: Vec<usize>,
     /// Where the types of datainfos stand.
     pub types: Vec<usize>,
+    /// Where initial values begin.
+    pub initials: Vec<usize>,
 }
 
 /// A table's bytes.
@@ -71,6 +73,7 @@ impl Encoded {
                 self.flag(*readonly);
                 self.datainfo(datainfo);
                 self.add(&(initial.len() as u16).to_be_bytes());
+                self.initials.push(self.bytes.len());
                 self.add(initial);
             }
             Kind::Command { argument } => {

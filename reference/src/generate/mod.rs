@@ -11,6 +11,7 @@ pub mod lines;
 pub mod names;
 mod parts;
 mod script;
+pub mod searches;
 pub mod second;
 pub mod small;
 pub mod tables;

@@ -1,7 +1,12 @@
 //! Values and tables for programs that read them from their standard input,
 //! and the lines that such a program is to print.
 
-use super::parts::{array, digit, double, enumeration, string, structure};
+use super::borders;
+use super::parts::{
+    self, array, command, digit, double, enumeration, module, parameter, readonly, string,
+    structure,
+};
+use super::searches::{self, Search};
 use super::{datainfos, encode, tables, values};
 use crate::datainfo::Datainfo;
 use crate::error::ErrorClass;
@@ -12,6 +17,14 @@ use crate::value;
 
 /// The longest text and the longest datainfo that are given to a program.
 const MAX_PART: usize = 2_000;
+
+/// The longest random table that is given to a program, if it needn't be long.
+const MAX_TABLE: usize = 400;
+
+/// How many tables there are for each number, and for each combination of two
+/// to four.
+const ALONE: usize = 10;
+const COMBINED: usize = 3;
 
 /// A text to be judged for a datainfo.
 #[derive(Clone, Debug, PartialEq)]
@@ -133,23 +146,124 @@ pub fn value_output(cases: &[ValueCase]) -> String {
         .collect()
 }
 
-/// For each table its length in three bytes, then its bytes.
-pub fn table_input(tables: &[Vec<u8>]) -> Vec<u8> {
+/// A table and searches in it, if it is accepted.
+#[derive(Clone, Debug, PartialEq)]
+pub struct TableCase {
+    pub bytes: Vec<u8>,
+    pub searches: Vec<Search>,
+}
+
+/// The borders, each combination of faults, a table cut and changed at each
+/// place, then random tables; of those the long ones are left out.
+pub fn table_cases(seed: u64, count: usize) -> Vec<TableCase> {
+    let mut random = Random::new(seed);
+    let borders = borders::all().into_iter().map(|border| border.bytes);
+    let mut all: Vec<Vec<u8>> = borders.collect();
+    all.extend(combined(&mut random));
+    all.extend(changed(&encode::table(&sample())));
+    let mut others = random_tables(seed, count);
+    others.retain(|bytes| bytes.len() <= MAX_TABLE);
+    all.extend(others);
+    let case = |bytes: Vec<u8>| TableCase {
+        searches: match Table::judge(&bytes) {
+            Ok(table) => searches::of_table(&mut random.branch(), &table),
+            Err(_) => Vec::new(),
+        },
+        bytes,
+    };
+    all.into_iter().map(case).collect()
+}
+
+/// Tables with one to four faults of different numbers, in each combination.
+/// A report that is too long needs a table that isn't short.
+fn combined(random: &mut Random) -> Vec<Vec<u8>> {
+    let mut all = Vec::new();
+    for faults in 1..64_u8 {
+        let numbers: Vec<u8> = (1..=6).filter(|at| faults >> (at - 1) & 1 == 1).collect();
+        let longest = if numbers.contains(&6) { 3_500 } else { 1_000 };
+        let is_short = |bytes: &Vec<u8>| bytes.len() <= longest;
+        if numbers.len() <= 4 {
+            let count = if numbers.len() == 1 { ALONE } else { COMBINED };
+            let made = || tables::with_faults(&mut random.branch(), &numbers).bytes;
+            let made = std::iter::repeat_with(made).filter(is_short);
+            all.extend(made.take(count));
+        }
+    }
+    all
+}
+
+/// A table, cut at each place, and with the byte at each place raised by one.
+fn changed(table: &[u8]) -> Vec<Vec<u8>> {
+    let cut = |at: usize| table[..at].to_vec();
+    let raised = |at: usize| {
+        let mut bytes = table.to_vec();
+        bytes[at] = bytes[at].wrapping_add(1);
+        bytes
+    };
+    let places = 0..table.len();
+    let cuts = places.clone().map(cut);
+    cuts.chain(places.map(raised)).collect()
+}
+
+/// A small table with a record and a datainfo of each kind.
+fn sample() -> Table {
+    let pair = Datainfo::Tuple(vec![Datainfo::Bool, array(0, 2, digit())]);
+    let mut first = module(
+        "t1",
+        vec![
+            readonly("value", double((0, 0), (300, 0)), "3e2"),
+            parameter("mode", enumeration(&[("off", 0), ("on", 1)]), "1"),
+            command("stop", None),
+        ],
+    );
+    first.description = b"stage".to_vec();
+    first.note = Some(b"cold".to_vec());
+    let second = module(
+        "t2",
+        vec![
+            command("go", Some(structure(&[("a", string(0, 3))]))),
+            parameter("value", pair, "[true,[1,2]]"),
+        ],
+    );
+    parts::table(vec![first, second])
+}
+
+/// For each table its length in three bytes, its bytes, the searches and a
+/// byte 0 after them.
+pub fn table_input(cases: &[TableCase]) -> Vec<u8> {
     let mut input = Vec::new();
-    for table in tables {
-        input.extend_from_slice(&(table.len() as u32).to_be_bytes()[1..]);
-        input.extend(table);
+    for TableCase { bytes, searches } in cases {
+        input.extend_from_slice(&(bytes.len() as u32).to_be_bytes()[1..]);
+        input.extend(bytes);
+        searches
+            .iter()
+            .for_each(|search| input.extend(search.encode()));
+        input.push(0);
     }
     input
 }
 
-/// A line for each table: its number, and its report if that is 0.
-pub fn table_output(tables: &[Vec<u8>]) -> String {
-    tables
-        .iter()
-        .map(|table| match Table::judge(table) {
-            Ok(table) => format!("0 {}\n", String::from_utf8_lossy(&report::write(&table))),
-            Err(refusal) => format!("{}\n", refusal.number()),
-        })
-        .collect()
+/// A line for each table: its number, and if that is 0 its report's length and
+/// its report; then the searches' lines.
+pub fn table_output(cases: &[TableCase]) -> String {
+    let lines = |case: &TableCase| match Table::judge(&case.bytes) {
+        Ok(table) => {
+            let report = report::write(&table);
+            let found = searches::lines(&table, &case.searches);
+            let text = String::from_utf8_lossy(&report);
+            format!("0 {} {text}\n{found}", report.len())
+        }
+        Err(refusal) => format!("{}\n", refusal.number()),
+    };
+    cases.iter().map(lines).collect()
+}
+
+/// A table that is to be judged so many times a thousand times, to measure how
+/// long that takes.
+pub fn judge_input(table: &[u8], count: usize) -> Vec<u8> {
+    let mut input = (table.len() as u32).to_be_bytes()[1..].to_vec();
+    input.extend(table);
+    input.extend(vec![b'j'; count]);
+    input.push(0);
+    input
 }

@@ -87,6 +87,16 @@ fn faulty_tables_have_the_number_they_are_made_for() {
 }
 
 #[test]
+fn tables_of_some_kilobytes_are_good_and_full() {
+    for count in 1..=16 {
+        let table = borders::of_kilobytes(count);
+        let bytes = encode::table(&table);
+        assert_eq!((bytes.len(), number(&bytes)), (1_024 * count, 0));
+        assert_eq!(table.parameters().len(), 4 * count);
+    }
+}
+
+#[test]
 fn borders_have_the_number_due() {
     for border in borders::all() {
         assert_eq!(number(&border.bytes), border.number, "{}", border.name);

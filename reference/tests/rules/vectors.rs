@@ -3,7 +3,10 @@
 
 use crate::build::double;
 use crate::program::{printed, printed_bytes};
+use reference::generate::searches::{self, Search};
 use reference::generate::values::CORNERS;
+use reference::generate::{borders, encode};
+use reference::table::Table;
 use reference::text::from_hex;
 
 /// A datainfo, a text and the line due.
@@ -128,24 +131,187 @@ fn values_follow_but_for_those_too_long() {
     assert!(left_out > 0);
 }
 
-#[test]
-fn tables_are_those_of_tables() {
-    let mut longest = 0;
-    for seed in ["1", "3"] {
-        let input = printed_bytes(&["table-input", seed, "300"], "");
-        let output = printed(&["table-output", seed, "300"], "");
-        let expected = printed(&["tables", seed, "300"], "");
-        assert_eq!(output.lines().count(), 300);
-        let mut rest = &input[..];
-        for (line, expected) in output.lines().zip(expected.lines()) {
-            let length = take_number(&mut rest, 3);
-            longest = longest.max(length);
-            let (front, due) = expected.split_once(" = ").expect("an answer");
-            let hex = front.strip_prefix("table ").expect("a table");
-            assert_eq!(Some(take(&mut rest, length)), from_hex(hex));
-            assert_eq!(line, due.strip_suffix(" -").unwrap_or(due));
+/// A table and the lines due: its own, and one for each search.
+struct TableCase {
+    bytes: Vec<u8>,
+    lines: Vec<String>,
+}
+
+/// Takes a search from the front; the byte 0 after the last is taken too.
+fn take_search(rest: &mut &[u8]) -> Option<Vec<u8>> {
+    let mut length = 1;
+    let names = match rest[0] {
+        0 | b'k' => 0,
+        b'n' => {
+            length += 1;
+            0
         }
-        assert!(rest.is_empty(), "as many tables as lines");
+        b'm' => 1,
+        b'p' | b'c' => 2,
+        other => panic!("{other} is no search"),
+    };
+    for _ in 0..names {
+        length += 1 + usize::from(rest[length]);
     }
-    assert_eq!(longest, 16_385);
+    let search = take(rest, length);
+    (search != [0]).then_some(search)
+}
+
+fn table_cases(seed: &str, count: &str) -> Vec<TableCase> {
+    let input = printed_bytes(&["table-input", seed, count], "");
+    let output = printed(&["table-output", seed, count], "");
+    let mut rest = &input[..];
+    let mut lines = output.lines().map(str::to_string);
+    let mut cases = Vec::new();
+    while !rest.is_empty() {
+        let length = take_number(&mut rest, 3);
+        let bytes = take(&mut rest, length);
+        let searches = std::iter::from_fn(|| take_search(&mut rest)).count();
+        let lines = lines.by_ref().take(1 + searches).collect();
+        cases.push(TableCase { bytes, lines });
+    }
+    assert_eq!(lines.next(), None, "as many lines as asked for");
+    cases
+}
+
+#[test]
+fn borders_come_first_and_random_tables_last() {
+    let borders = borders::all();
+    for seed in ["1", "3"] {
+        let cases = table_cases(seed, "300");
+        for (case, border) in cases.iter().zip(&borders) {
+            assert_eq!(case.bytes, border.bytes, "{}", border.name);
+            assert_eq!(case.lines[0].as_bytes()[0], b'0' + border.number);
+        }
+        let expected = printed(&["tables", seed, "300"], "");
+        let short: Vec<(Vec<u8>, &str)> = expected
+            .lines()
+            .filter_map(|line| line.strip_prefix("table ")?.split_once(" = "))
+            .map(|(table, due)| (from_hex(table).expect("hexadecimal"), due))
+            .filter(|(table, _)| table.len() <= 400)
+            .collect();
+        let random = &cases[cases.len() - short.len()..];
+        for (case, (table, due)) in random.iter().zip(short) {
+            assert_eq!(case.bytes, table);
+            let due = match due.split_once(' ') {
+                Some(("0", report)) => format!("0 {} {report}", report.len()),
+                _ => due.strip_suffix(" -").expect("no report").to_string(),
+            };
+            assert_eq!(case.lines[0], due);
+        }
+    }
+}
+
+#[test]
+fn each_combination_of_faults_is_there() {
+    let cases = table_cases("1", "0");
+    let combined = &cases[borders::all().len()..];
+    let numbers: Vec<u8> = combined
+        .iter()
+        .map(|one| one.lines[0].as_bytes()[0])
+        .collect();
+    // Ten with each number alone, and three with each combination of two to
+    // four, of which the lowest number is told.
+    let count = |number: u8| {
+        numbers[..6 * 10 + 50 * 3]
+            .iter()
+            .filter(|one| **one == b'0' + number)
+            .count()
+    };
+    assert_eq!([1, 2, 3, 4, 5, 6].map(count), [85, 52, 31, 19, 13, 10]);
+    let cut = &combined[6 * 10 + 50 * 3..];
+    let (cuts, raised) = cut.split_at(cut.len() / 2);
+    for (at, one) in cuts.iter().enumerate() {
+        assert_eq!(
+            (one.bytes.len(), &one.lines[..]),
+            (at, &["1".to_string()][..])
+        );
+        assert_eq!(raised[at].bytes.len(), cuts.len());
+        assert_eq!(raised[at].bytes[..at], cuts[at].bytes);
+    }
+}
+
+#[test]
+fn searches_find_where_things_lie() {
+    // A module m with a parameter b, a bool, and a command c; and a module n
+    // with a readonly parameter b, an int, and a command d that takes a bool.
+    let table = [
+        &b"ND\0\0"[..],
+        b"MO\x01m\0",
+        b"PA\x01b\0\0\x03\0\x05false",
+        b"CM\x01c\0\0",
+        b"MO\x01n\0",
+        b"PA\x01b\0\x01\x02\0\0\0\0\0\0\0\0\0\0\0\0\0\0\0\x09\0\x017",
+        b"CM\x01d\0\x01\x03",
+        b"EN",
+    ]
+    .concat();
+    let table = Table::judge(&table).expect("a good table");
+    let module = |name: &str| Search::Module(name.into());
+    let parameter = |module: &str, name: &str| Search::Parameter(module.into(), name.into());
+    let command = |module: &str, name: &str| Search::Command(module.into(), name.into());
+    let cases = [
+        (Search::Modules, "modules 2"),
+        (module("m"), "module 0 at 4"),
+        (module("n"), "module 1 at 29"),
+        (module("N"), "none"),
+        (
+            parameter("m", "b"),
+            "parameter 0 of 0 datainfo 15 initial 18 to 23",
+        ),
+        (
+            parameter("n", "b"),
+            "parameter 1 of 1 readonly datainfo 40 initial 59 to 60",
+        ),
+        (parameter("m", "c"), "none"),
+        (parameter("m", "B"), "none"),
+        (command("m", "c"), "command 0 of 0"),
+        (command("n", "d"), "command 1 of 1 argument 66"),
+        (command("n", "c"), "none"),
+        (command("m", "b"), "none"),
+        (
+            Search::Number(0),
+            "parameter 0 of 0 datainfo 15 initial 18 to 23",
+        ),
+        (
+            Search::Number(1),
+            "parameter 1 of 1 readonly datainfo 40 initial 59 to 60",
+        ),
+        (Search::Number(2), "none"),
+        (Search::Number(255), "none"),
+    ];
+    for (search, line) in cases {
+        assert_eq!(
+            searches::lines(&table, &[search.clone()]),
+            format!("{line}\n"),
+            "{search:?}"
+        );
+    }
+}
+
+#[test]
+fn everything_in_a_good_table_is_sought() {
+    let cases = table_cases("1", "300");
+    let good = cases.iter().filter(|case| case.lines[0].starts_with("0 "));
+    for case in good {
+        let table = Table::judge(&case.bytes).expect("a good table");
+        assert_eq!(
+            encode::table(&table),
+            case.bytes,
+            "places are those of these bytes"
+        );
+        let answered = |word: &str| {
+            let mut lines: Vec<&String> = case.lines[1..]
+                .iter()
+                .filter(|line| line.starts_with(word))
+                .collect();
+            lines.sort();
+            lines.dedup();
+            lines.len()
+        };
+        assert_eq!(answered("module "), table.modules.len());
+        assert_eq!(answered("parameter "), table.parameters().len());
+        assert_eq!(answered("command "), table.commands().len());
+        assert!(case.lines.contains(&"none".to_string()));
+    }
 }

@@ -1,0 +1,73 @@
+-- The contracts that the check generates from src/ promise what runs of calls are made of: `Reads.Post` of a function is what its `ensures`
+-- says, as the logic reads it. Where a contract and the runs of demand 3 drift apart, this file is refused. Assumes nothing.
+use denote.Ref.{now}
+use denote.Triple.Clauses.{AtExit}
+use contract.Lifetimes.{Lfts}
+use borrow.Fn.Kinds.{Dens, resT, endedOf}
+use mathlib.Core.List.{[]}
+use lib.ListN.{length}
+use Rattle.plain.specs.Calls.{Open, Close, Piece, Reading}
+use Rattle.promise.specs.Promise.{Begins}
+use Rattle.promise.specs.Run.{kit, hears, Called, by-open, by-close, by-piece, by-reading}
+use Rattle.node.proofs.start.jihfasul_start.Kinds as start-kinds
+use Rattle.node.proofs.start.jihfasul_start.Reads as start-reads
+use Rattle.node.proofs.clients.jihfasul_open.Kinds as open-kinds
+use Rattle.node.proofs.clients.jihfasul_open.Reads as open-reads
+use Rattle.node.proofs.clients.jihfasul_close.Kinds as close-kinds
+use Rattle.node.proofs.clients.jihfasul_close.Reads as close-reads
+use Rattle.node.proofs.pieces.jihfasul_piece.Kinds as piece-kinds
+use Rattle.node.proofs.pieces.jihfasul_piece.Reads as piece-reads
+use Rattle.node.proofs.readings.jihfasul_reading.Kinds as reading-kinds
+use Rattle.node.proofs.readings.jihfasul_reading.Reads as reading-reads
+
+-- ## Table and values area are lent
+
+module _ (κs : Lfts 2) where
+  start-begins : (a : Dens κs start-kinds.ps) (r : resT start-kinds.r κs .Denot) (x : AtExit (endedOf 2 start-kinds.ps start-kinds.r) κs)
+      → start-reads.Post κs a r x → Begins (now (a .0)) (now (a .1 .0)) (a .1 .1 .0) r
+  start-begins a r x k = k
+
+  open-called : (a : Dens κs open-kinds.ps) (r : resT open-kinds.r κs .Denot) (x : AtExit (endedOf 2 open-kinds.ps open-kinds.r) κs)
+      → open-reads.Post κs a r x
+      → Called
+      (now (a .0))
+      (kit (a .1 .1 .0) (now (a .1 .0)))
+      (Open (a .1 .1 .1 .0) (a .1 .1 .1 .1 .0) (length (now (a .1 .0))))
+      (kit (r .state) (now (a .1 .0)))
+      (hears r [])
+  open-called a r x k = by-open (a .1 .1 .0) (now (a .1 .0)) (a .1 .1 .1 .0) (a .1 .1 .1 .1 .0) r k
+
+  close-called : (a : Dens κs close-kinds.ps) (r : resT close-kinds.r κs .Denot) (x : AtExit (endedOf 2 close-kinds.ps close-kinds.r) κs)
+      → close-reads.Post κs a r x
+      → Called
+      (now (a .0))
+      (kit (a .1 .1 .0) (now (a .1 .0)))
+      (Close (a .1 .1 .1 .0) (a .1 .1 .1 .1 .0) (length (now (a .1 .0))))
+      (kit (r .state) (now (a .1 .0)))
+      (hears r [])
+  close-called a r x k = by-close (a .1 .1 .0) (now (a .1 .0)) (a .1 .1 .1 .0) (a .1 .1 .1 .1 .0) r k
+
+-- ## Outbox and bytes are lent, too
+
+module _ (κs : Lfts 4) where
+  piece-called : (a : Dens κs piece-kinds.ps) (r : resT piece-kinds.r κs .Denot) (x : AtExit (endedOf 4 piece-kinds.ps piece-kinds.r) κs)
+      → piece-reads.Post κs a r x
+      → Called
+      (now (a .0))
+      (kit (a .1 .1 .1 .0) (now (a .1 .0)))
+      (Piece (a .1 .1 .1 .1 .0) (now (a .1 .1 .1 .1 .1 .1 .0)) (a .1 .1 .1 .1 .1 .0) (length (now (a .1 .0))) (length (now (a .1 .1 .0))))
+      (kit (r .state) (now (x .1 .0)))
+      (hears r (now (x .1 .1 .0)))
+  piece-called a r x k =
+      by-piece (a .1 .1 .1 .0) (now (a .1 .0)) (now (a .1 .1 .0)) (a .1 .1 .1 .1 .0) (now (a .1 .1 .1 .1 .1 .1 .0)) (a .1 .1 .1 .1 .1 .0) r (now (x .1 .0)) (now (x .1 .1 .0)) k
+
+  reading-called : (a : Dens κs reading-kinds.ps) (r : resT reading-kinds.r κs .Denot) (x : AtExit (endedOf 4 reading-kinds.ps reading-kinds.r) κs)
+      → reading-reads.Post κs a r x
+      → Called
+      (now (a .0))
+      (kit (a .1 .1 .1 .0) (now (a .1 .0)))
+      (Reading (a .1 .1 .1 .1 .0) (now (a .1 .1 .1 .1 .1 .1 .0)) (a .1 .1 .1 .1 .1 .0) (length (now (a .1 .0))) (length (now (a .1 .1 .0))))
+      (kit (r .state) (now (x .1 .0)))
+      (hears r (now (x .1 .1 .0)))
+  reading-called a r x k =
+      by-reading (a .1 .1 .1 .0) (now (a .1 .0)) (now (a .1 .1 .0)) (a .1 .1 .1 .1 .0) (now (a .1 .1 .1 .1 .1 .1 .0)) (a .1 .1 .1 .1 .1 .0) r (now (x .1 .0)) (now (x .1 .1 .0)) k

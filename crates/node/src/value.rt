@@ -1,0 +1,71 @@
+// The value that a parameter shows.
+use crate::judge::lent_number;
+use promise::Shown;
+use search::cursor::NextParameter;
+use search::find::parameter_by_number;
+use state::Settings;
+use state::State;
+use table::layout::Part;
+ghost use Prim.Native.Nat.{_≤_, _<_};
+ghost use mathlib.Core.Path.{_≡_};
+ghost use Rattle.promise.specs.Shown.{Shows};
+ghost use Rattle.node.specs.Part.{partShown};
+
+// A refusal.
+fn not_shown(number: u8) -> Shown
+    ensures { λ r. ⌜ r ≡ record { number = number; stored = 0; from = 0; size = 0; time = 0 } ⌝ }
+{
+    Shown {
+        number,
+        stored: 0,
+        from: 0,
+        size: 0,
+        time: 0,
+    }
+}
+
+// "Length 0 means never set: the value shown is then the part of the table that holds its initial value, otherwise the part of the values
+// area that holds the stored one, no copy.": of parameter k.
+fn part_shown(settings: Settings, k: usize, initial: Part) -> Shown
+    requires { ⌜ (k < 64) × (initial .from ≤ initial .to) ⌝ }
+    ensures { λ r. ⌜ r ≡ partShown settings k initial ⌝ }
+{
+    let size = settings.length[k] as usize;
+    let time = settings.time[k];
+    if size == 0 {
+        let from = initial.from;
+        return Shown {
+            number: 0,
+            stored: 0,
+            from,
+            size: initial.to - from,
+            time,
+        };
+    }
+    Shown {
+        number: 0,
+        stored: 1,
+        from: 256 * k,
+        size,
+        time,
+    }
+}
+
+// A parameter's number is "from 0 in table order over parameters only"; a table has 64 at most. Number 14: "no such parameter number".
+#[no_mangle]
+pub extern "C" fn jihfasul_value(table: &[u8], values: &[u8], state: State, parameter: u64) -> Shown
+    ensures { λ r. ⌜ Shows (now (table .entry)) (now (values .entry)) state parameter r ⌝ }
+{
+    let number = lent_number(table, values, 32768, state, 0);
+    if number != 0 {
+        return not_shown(number);
+    }
+    if parameter > 63 {
+        return not_shown(14);
+    }
+    let k = parameter as usize;
+    let NextParameter::At(p, _) = parameter_by_number(table, k) else {
+        return not_shown(14);
+    };
+    part_shown(state.settings, k, p.initial)
+}

@@ -1,0 +1,39 @@
+-- What the call that shows a parameter's value promises. Assumes nothing.
+use Prim.Native.Nat.{ℕ, _+_, _≤_}
+use mathlib.Core.Bool.{cond, not}
+use mathlib.Core.List.{List, [], _∷_}
+use mathlib.Core.Logic.{_≢_}
+use mathlib.Core.Path.{_≡_}
+use lib.Dec.{eqb}
+use lib.ListN.{length, take, drop, getElem?}
+use Rattle.ascii.specs.Bytes.{isSome}
+use Rattle.table.specs.Layout.{tableOf}
+use Rattle.table.specs.Search.{parameters}
+use Rattle.report.specs.Judge.{fault, lowest}
+use Rattle.plain.specs.Node.{Value}
+use Rattle.state.specs.declared.State.{State}
+use Rattle.state.specs.View.{view}
+use Rattle.promise.specs.declared.Shown.{Shown}
+use Rattle.promise.specs.Lent.{lentNumber}
+
+-- the lowest number: of what every call judges (no outbox and no time are lent), and 14, "no such parameter number"
+unfoldable pub valueNumber : List ℕ → List ℕ → State → ℕ → ℕ
+valueNumber table values s p =
+    lowest (lentNumber table values 32768 s 0 ∷ fault 14 (not (isSome (getElem? (parameters (tableOf table)) p))) ∷ [])
+
+-- the buffer that the answer's part lies in: the table, or the values area where the value is a stored one
+unfoldable pub heldIn : List ℕ → List ℕ → Shown → List ℕ
+heldIn table values r = cond (eqb (r .stored) 0) table values
+
+-- the value that parameter p shows
+abbrev pub valueOf : List ℕ → List ℕ → State → ℕ → Value
+valueOf table values s p = view table s values .values p
+
+-- "the value shown is then the part of the table that holds its initial value, otherwise the part of the values area that holds the stored
+-- one, no copy": asked for parameter p, the call answers r; it writes nothing, and a refusal answers its number only
+pub record Shows (table values : List ℕ) (s : State) (p : ℕ) (r : Shown) : Type 0 where
+  pub number : r .number ≡ valueNumber table values s p
+  pub within : r .number ≡ 0 → r .from + r .size ≤ length (heldIn table values r)
+  pub text : r .number ≡ 0 → take (r .size) (drop (r .from) (heldIn table values r)) ≡ valueOf table values s p .text
+  pub time : r .number ≡ 0 → r .time ≡ valueOf table values s p .time
+  pub refused : r .number ≢ 0 → r ≡ record { number = r .number; stored = 0; from = 0; size = 0; time = 0 }
