@@ -1,0 +1,43 @@
+-- `calls::say::fill` is safe and ends: the measure is the number of bytes that are left. Assumes nothing.
+use borrow.Author.Needs.{needs}
+use native.Mathlib.Omega.{arith}
+use Prim.Native.Nat.{_-_, _≤_}
+use mathlib.Core.Path.{_≡_, refl}
+use lib.ListN.{length, length-set}
+use Rattle.calls.proofs.say.fill.Statement.{statement}
+use Rattle.calls.proofs.say.fill.Tie as tie
+
+abbrev Inv-loop : tie.InvT-loop
+Inv-loop outbox₀ i₀ outbox i = length outbox ≡ length outbox₀
+
+abbrev μ-loop : tie.MeasureT-loop
+μ-loop outbox₀ i₀ outbox i = length outbox₀ - i
+
+loop-holds : tie.Need-loop-holds Inv-loop μ-loop
+loop-holds c = refl
+
+cast-outbox : tie.Need-cast-outbox Inv-loop μ-loop
+cast-outbox c = search needs
+
+slice-write-outbox : tie.Need-slice-write-outbox Inv-loop μ-loop
+slice-write-outbox c = omega arith
+
+add-i : tie.Need-add-i Inv-loop μ-loop
+add-i c = omega arith
+
+loop-less : tie.Need-loop-less Inv-loop μ-loop
+loop-less c = omega arith
+
+loop-again : tie.Need-loop-again Inv-loop μ-loop
+loop-again c = simp length-set (c .before .loop .inv)
+
+same-length : tie.Need-same-length Inv-loop μ-loop
+same-length c = search needs
+
+returns : tie.Need-returns Inv-loop μ-loop
+returns c = search needs
+
+pub fill-spec : {M : Type 1} → statement M
+fill-spec =
+    tie.close
+    (tie.spec Inv-loop μ-loop loop-holds cast-outbox slice-write-outbox add-i loop-less loop-again same-length returns)

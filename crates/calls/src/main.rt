@@ -1,0 +1,205 @@
+// Runs the five calls of a node over a script from standard input and writes what each answers. `script` says what a script is made of,
+// `say` what is written.
+mod poke;
+mod say;
+mod script;
+
+use libc::STDIN_FILENO;
+use node::clients::jihfasul_close;
+use node::clients::jihfasul_open;
+use node::pieces::jihfasul_piece;
+use node::readings::jihfasul_reading;
+use node::start::jihfasul_start;
+use poke::blank;
+use poke::poked;
+use poke::put_within;
+use promise::Done;
+use say::fill;
+use say::write_answer;
+use say::write_note;
+use say::write_state;
+use script::Operation;
+use script::is_call;
+use script::read_operation;
+use state::State;
+
+// What is kept from operation to operation: the length of the table, and the state. `more` says whether the script may go on.
+struct Kept {
+    more: bool,
+    table: usize,
+    state: State,
+}
+
+// The call that an operation names.
+fn call(
+    table: &[u8],
+    values: &mut [u8],
+    outbox: &mut [u8],
+    state: State,
+    o: Operation,
+    bytes: &[u8],
+) -> Done {
+    let code = o.code;
+    match code {
+        b'S' => jihfasul_start(table, values, o.time),
+        b'O' => jihfasul_open(table, values, state, o.number, o.time),
+        b'C' => jihfasul_close(table, values, state, o.number, o.time),
+        b'P' => jihfasul_piece(table, values, outbox, state, o.number, o.time, bytes),
+        _ => jihfasul_reading(table, values, outbox, state, o.number, o.time, bytes),
+    }
+}
+
+// A call that is lent the fronts of both areas, and the line about its answer; the outbox then has its pattern again.
+fn answered(
+    table: &[u8],
+    values: &mut [u8],
+    outbox: &mut [u8],
+    state: State,
+    o: Operation,
+    bytes: &[u8],
+) -> State {
+    let most = o.values;
+    let room = o.outbox;
+    if values.len() < most {
+        return state;
+    }
+    if outbox.len() < room {
+        return state;
+    }
+    let done = call(
+        table,
+        &mut values[..most],
+        &mut outbox[..room],
+        state,
+        o,
+        bytes,
+    );
+    write_answer(values, outbox, state, o, done);
+    fill(outbox);
+    done.state
+}
+
+// An operation that is not a table.
+fn carried_out(
+    table: &[u8],
+    values: &mut [u8],
+    outbox: &mut [u8],
+    state: State,
+    o: Operation,
+    bytes: &[u8],
+) -> State {
+    let code = o.code;
+    if is_call(code) {
+        return answered(table, values, outbox, state, o, bytes);
+    }
+    match code {
+        b'N' => {
+            write_note(bytes);
+            state
+        }
+        b'E' => {
+            write_state(state, o.number);
+            state
+        }
+        b'w' => {
+            put_within(values, o.number, bytes);
+            state
+        }
+        _ => poked(state, o, bytes),
+    }
+}
+
+// The script's end, or an operation that the buffers have no room for.
+fn ended(kept: Kept) -> Kept {
+    let mut last = kept;
+    last.more = false;
+    last
+}
+
+// A table, read into a lent buffer.
+fn with_table(table: &mut [u8], kept: Kept, size: usize) -> Kept {
+    if table.len() < size {
+        return ended(kept);
+    }
+    let mut next = kept;
+    next.table = io::read_full(STDIN_FILENO, &mut table[..size]);
+    next
+}
+
+// Another operation, its bytes read into a lent buffer.
+fn operate(
+    table: &[u8],
+    values: &mut [u8],
+    outbox: &mut [u8],
+    bytes: &mut [u8],
+    kept: Kept,
+    o: Operation,
+) -> Kept {
+    let size = o.size;
+    let held = kept.table;
+    if bytes.len() < size {
+        return ended(kept);
+    }
+    if table.len() < held {
+        return ended(kept);
+    }
+    io::read_full(STDIN_FILENO, &mut bytes[..size]);
+    let state = carried_out(
+        &table[..held],
+        values,
+        outbox,
+        kept.state,
+        o,
+        &bytes[..size],
+    );
+    Kept {
+        more: true,
+        table: held,
+        state,
+    }
+}
+
+// The next operation. It is lent arrays, since a loop that lends slices has to keep account of their lengths.
+fn step(
+    head: &mut [u8; 23],
+    table: &mut [u8; 65536],
+    values: &mut [u8; 20000],
+    outbox: &mut [u8; 40000],
+    bytes: &mut [u8; 65536],
+    kept: Kept,
+) -> Kept {
+    let o = read_operation(head);
+    let code = o.code;
+    match code {
+        0 => ended(kept),
+        b'T' => with_table(table, kept, o.size),
+        _ => operate(table, values, outbox, bytes, kept, o),
+    }
+}
+
+// The loop counts its turns down, since a proved loop has to end: there are far fewer operations.
+fn main() {
+    let mut head = [0u8; 23];
+    let mut table = io::large_buffer();
+    let mut values = [0u8; 20000];
+    let mut outbox = [0u8; 40000];
+    let mut bytes = io::large_buffer();
+    fill(&mut outbox);
+    let mut kept = Kept {
+        more: true,
+        table: 0,
+        state: blank(),
+    };
+    let mut turns: u32 = 1000000;
+    while turns > 0 && kept.more {
+        kept = step(
+            &mut head,
+            &mut table,
+            &mut values,
+            &mut outbox,
+            &mut bytes,
+            kept,
+        );
+        turns -= 1;
+    }
+}
