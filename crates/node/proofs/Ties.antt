@@ -1,5 +1,6 @@
 -- The contracts that the check generates from src/ promise what runs of calls are made of: `Reads.Post` of a function is what its `ensures`
--- says, as the logic reads it. Where a contract and the runs of demand 3 drift apart, this file is refused. Assumes nothing.
+-- says, as the logic reads it, and `Reads.Pre` what it asks of its caller. Where a contract and the runs of demand 3 drift apart, this file
+-- is refused. Assumes nothing.
 use denote.Ref.{now}
 use denote.Triple.Clauses.{AtExit}
 use contract.Lifetimes.{Lfts}
@@ -23,9 +24,15 @@ use Rattle.node.proofs.readings.jihfasul_reading.Reads as reading-reads
 -- ## Table and values area are lent
 
 module _ (κs : Lfts 2) where
+  start-asks-nothing : (a : Dens κs start-kinds.ps) → start-reads.Pre κs a
+  start-asks-nothing a = tt
+
   start-begins : (a : Dens κs start-kinds.ps) (r : resT start-kinds.r κs .Denot) (x : AtExit (endedOf 2 start-kinds.ps start-kinds.r) κs)
       → start-reads.Post κs a r x → Begins (now (a .0)) (now (a .1 .0)) (a .1 .1 .0) r
   start-begins a r x k = k
+
+  open-asks-nothing : (a : Dens κs open-kinds.ps) → open-reads.Pre κs a
+  open-asks-nothing a = tt
 
   open-called : (a : Dens κs open-kinds.ps) (r : resT open-kinds.r κs .Denot) (x : AtExit (endedOf 2 open-kinds.ps open-kinds.r) κs)
       → open-reads.Post κs a r x
@@ -36,6 +43,9 @@ module _ (κs : Lfts 2) where
       (kit (r .state) (now (a .1 .0)))
       (hears r [])
   open-called a r x k = by-open (a .1 .1 .0) (now (a .1 .0)) (a .1 .1 .1 .0) (a .1 .1 .1 .1 .0) r k
+
+  close-asks-nothing : (a : Dens κs close-kinds.ps) → close-reads.Pre κs a
+  close-asks-nothing a = tt
 
   close-called : (a : Dens κs close-kinds.ps) (r : resT close-kinds.r κs .Denot) (x : AtExit (endedOf 2 close-kinds.ps close-kinds.r) κs)
       → close-reads.Post κs a r x
@@ -50,6 +60,9 @@ module _ (κs : Lfts 2) where
 -- ## Outbox and bytes are lent, too
 
 module _ (κs : Lfts 4) where
+  piece-asks-nothing : (a : Dens κs piece-kinds.ps) → piece-reads.Pre κs a
+  piece-asks-nothing a = tt
+
   piece-called : (a : Dens κs piece-kinds.ps) (r : resT piece-kinds.r κs .Denot) (x : AtExit (endedOf 4 piece-kinds.ps piece-kinds.r) κs)
       → piece-reads.Post κs a r x
       → Called
@@ -60,6 +73,9 @@ module _ (κs : Lfts 4) where
       (hears r (now (x .1 .1 .0)))
   piece-called a r x k =
       by-piece (a .1 .1 .1 .0) (now (a .1 .0)) (now (a .1 .1 .0)) (a .1 .1 .1 .1 .0) (now (a .1 .1 .1 .1 .1 .1 .0)) (a .1 .1 .1 .1 .1 .0) r (now (x .1 .0)) (now (x .1 .1 .0)) k
+
+  reading-asks-nothing : (a : Dens κs reading-kinds.ps) → reading-reads.Pre κs a
+  reading-asks-nothing a = tt
 
   reading-called : (a : Dens κs reading-kinds.ps) (r : resT reading-kinds.r κs .Denot) (x : AtExit (endedOf 4 reading-kinds.ps reading-kinds.r) κs)
       → reading-reads.Post κs a r x

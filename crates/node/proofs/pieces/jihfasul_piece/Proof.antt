@@ -1,63 +1,45 @@
+-- `node::pieces::jihfasul_piece` meets its contract. Assumes nothing.
 use borrow.Author.Needs.{needs}
 use Rattle.node.proofs.Taken.{piece-lent, piece-high, piece-closed, piece-ready, piece-timely, piece-good}
 use Rattle.node.proofs.pieces.jihfasul_piece.Statement.{statement}
 use Rattle.node.proofs.pieces.jihfasul_piece.Tie as tie
-use Rattle.node.proofs.pieces.jihfasul_piece.Reads as reads
-use Rattle.node.proofs.pieces.jihfasul_piece.Lts as lts
-use Rattle.node.proofs.judge.lent_number.Reads as lent-number-reads
-use Rattle.node.proofs.judge.quiet.Reads as quiet-reads
-use Rattle.node.proofs.pieces.take_piece.Reads as take-piece-reads
-use Rattle.state.proofs.client.is_open.Reads as is-open-reads
 
--- src/pieces.rt:106:9
 lent-number-requires : tie.Need-lent-number-requires
 lent-number-requires c κs = search needs
 
--- src/pieces.rt:108:9
 quiet-requires : tie.Need-quiet-requires
 quiet-requires c κs = search needs
 
--- src/pieces.rt:108:9
 same-length : tie.Need-same-length
 same-length c = search needs
 
--- src/pieces.rt:108:9
 returns : tie.Need-returns
 returns c = search piece-lent
 
--- src/pieces.rt:111:9
 quiet-requires-2 : tie.Need-quiet-requires-2
 quiet-requires-2 c κs = search needs
 
--- src/pieces.rt:111:9
 same-length-2 : tie.Need-same-length-2
 same-length-2 c = search needs
 
--- src/pieces.rt:111:9
 returns-2 : tie.Need-returns-2
 returns-2 c = search piece-high
 
--- src/pieces.rt:114:9
 is-open-requires : tie.Need-is-open-requires
 is-open-requires c κs = search needs
 
--- src/pieces.rt:115:9
 quiet-requires-3 : tie.Need-quiet-requires-3
 quiet-requires-3 c κs = search needs
 
--- src/pieces.rt:115:9
 same-length-3 : tie.Need-same-length-3
 same-length-3 c = search needs
 
--- src/pieces.rt:115:9
 returns-3 : tie.Need-returns-3
 returns-3 c = search piece-closed
 
--- src/pieces.rt:117:46
 cast-take-piece : tie.Need-cast-take-piece
 cast-take-piece c = search needs
 
--- src/pieces.rt:117:5
 take-piece-requires : tie.Need-take-piece-requires
 take-piece-requires c κs =
     let start = c .before .before .before .before .before .before .before .before .before .before .before .before .before in (
@@ -65,15 +47,12 @@ take-piece-requires c κs =
       search piece-timely,
     )
 
--- src/pieces.rt:94:1
 same-length-4 : tie.Need-same-length-4
 same-length-4 c = search needs
 
--- src/pieces.rt:94:1
 same-length-5 : tie.Need-same-length-5
 same-length-5 c = search needs
 
--- src/pieces.rt:94:1
 returns-4 : tie.Need-returns-4
 returns-4 c = search piece-good
 

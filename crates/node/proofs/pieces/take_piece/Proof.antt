@@ -1,25 +1,18 @@
+-- `node::pieces::take_piece` meets its contract. Assumes nothing.
+use native.Mathlib.Omega.{arith}
 use borrow.Author.Needs.{needs}
 use Rattle.promise.proofs.Held.{lines-fit}
 use Rattle.switch.proofs.Switches.{clients-sized}
 use Rattle.node.proofs.Taken.{taken-length, piece-more, piece-joins, piece-held, piece-feeds}
 use Rattle.node.proofs.pieces.take_piece.Statement.{statement}
 use Rattle.node.proofs.pieces.take_piece.Tie as tie
-use Rattle.node.proofs.pieces.take_piece.Reads as reads
-use Rattle.node.proofs.pieces.take_piece.Lts as lts
-use Rattle.node.proofs.feed.feed_at.Reads as feed-at-reads
-use Rattle.node.proofs.pieces.answer_held.Reads as answer-held-reads
-use Rattle.state.proofs.client.joined.Reads as joined-reads
-use Rattle.node.proofs.feed.past_feed.Reads as past-feed-reads
 
--- src/pieces.rt:71:9
 feed-at-requires : tie.Need-feed-at-requires
 feed-at-requires c κs = search needs
 
--- src/pieces.rt:73:58
 slice-aggregate-joined : tie.Need-slice-aggregate-joined
 slice-aggregate-joined c = taken-length _ _ _ _ _ 0 (c .before .before .before .before .before .before .before .args .bytes .now) (c .before .before .before .before .before .before .before .pre .0) (c .before .before .feed-at .ensures)
 
--- src/pieces.rt:73:9
 joined-requires : tie.Need-joined-requires
 joined-requires c κs =
     let start = c .before .before .before .before .before .before .before in
@@ -27,35 +20,29 @@ joined-requires c κs =
     let z = clients-sized (start .args .state .clients) (fs .0 .1 .0 .1) (fs .1 .0 .1 .0 .1) (fs .1 .1 .0 .1 .0 .1) (fs .1 .1 .1 .0 .1 .0 .1) (fs .1 .1 .1 .1 .0 .1 .0 .1) in
     (start .pre .0 .lent .low, lines-fit _ (start .args .state) _ _ _ (start .pre .0) z)
 
--- src/pieces.rt:76:9
 returns : tie.Need-returns
 returns c =
     let start = c .before .before .before .before .before .before .before .before .before in
     piece-joins _ (start .args .state) _ _ _ _ (start .args .bytes .now) (start .pre .0) (c .before .before .before .before .feed-at .ensures) (c .before .joined .ensures) (search needs)
 
--- src/pieces.rt:84:9
 past-feed-requires : tie.Need-past-feed-requires
 past-feed-requires c κs =
     let start = c .before .before .before .before .before .before .before .before .before in
     piece-more _ (start .args .state) _ _ _ 0 (start .args .bytes .now) (start .pre .0) (c .before .before .before .before .feed-at .ensures) (search needs)
 
--- src/pieces.rt:83:9
 answer-held-requires : tie.Need-answer-held-requires
 answer-held-requires c κs =
     let start = c .before .before .before .before .before .before .before .before .before .before .before .before in (
       piece-held _ (start .args .state) _ _ _ 0 (start .args .bytes .now) (start .pre .0) (c .before .before .before .before .before .before .before .feed-at .ensures) (c .before .before .before .before .joined .ensures),
-      start .pre .1,
+      omega (arith, start .pre .1),
     )
 
--- src/pieces.rt:59:1
 same-length : tie.Need-same-length
 same-length c = search needs
 
--- src/pieces.rt:59:1
 same-length-2 : tie.Need-same-length-2
 same-length-2 c = search needs
 
--- src/pieces.rt:59:1
 returns-2 : tie.Need-returns-2
 returns-2 c =
     let start = c .before .before .before .before .before .before .before .before .before .before .before .before .before .before .before .before .before .before in
