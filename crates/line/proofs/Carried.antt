@@ -1,5 +1,5 @@
 -- Laws of requests that are carried out: replies of one record, data that is missing, and a client's active modules. Assumes nothing.
-use Prim.Native.Nat.{ℕ, _+_, _≤_}
+use Prim.Native.Nat.{ℕ, _≤_}
 use native.Mathlib.Omega.{arith}
 use mathlib.Core.Path.{_≡_, refl, sym, _∙_}
 use mathlib.Core.Bool.{Bool, true, false}
@@ -9,6 +9,7 @@ use Rattle.ascii.specs.Numbers.{twoBytes, latest}
 use Rattle.ascii.specs.Text.{bytes}
 use Rattle.ascii.specs.Bytes.{all, isSpace}
 use Rattle.ascii.specs.Writer.{Puts}
+use Rattle.ascii.proofs.Decimal.{seconds-latest}
 use Rattle.message.specs.Error.{Class}
 use Rattle.message.specs.Reply.{Reply, identification, pong, error, replyLine}
 use Rattle.message.specs.Request as R
@@ -23,7 +24,6 @@ use Rattle.outbox.specs.Written.{RoomFor}
 use Rattle.plain.specs.Node.{Node, isActive}
 use Rattle.plain.specs.Answer as Plain
 use Rattle.plain.specs.Answer.{carried, outcome}
-use Rattle.sound.proofs.Records.{seconds-short}
 use Rattle.sound.proofs.Room.{puts-after, puts-none}
 use Rattle.state.specs.declared.State.{State}
 use Rattle.state.specs.View.{bit, clientAt, view}
@@ -49,7 +49,7 @@ module _ (d : List ℕ) (c : ℕ) (room : 32768 ≤ length d) where
 
   pub pong-room : (t : ℕ) → t ≤ latest → (token : List ℕ) → length token ≤ 1024 → RoomFor d 0 (final c (pong token t))
   unfolding bytes
-  pong-room t h token k = final-room (pong token t) (omega (arith, pong-length token t, data-length (bytes "null") t, seconds-short t h))
+  pong-room t h token k = final-room (pong token t) (omega (arith, pong-length token t, data-length (bytes "null") t, seconds-latest t h))
 
   pub error-room : (a s : List ℕ) (e : Class) → length a ≤ 1024 → length s ≤ 1024 → RoomFor d 0 (final c (error a s e))
   error-room a s e h k = final-room (error a s e) (omega (arith, error-length a s e, error-short e))

@@ -16,6 +16,7 @@ use Rattle.table.specs.Table.{Parameter, Table}
 use Rattle.table.specs.Layout.{readTable, orEmpty, tableOf}
 use Rattle.table.specs.Search.{Placed, placedFrom, parameters}
 use Rattle.report.specs.Judge.{lowest, tableNumber}
+use Rattle.report.proofs.Faults.{lowest-first}
 use Rattle.plain.specs.Node.{Client, closed, initially, begin, clientNumbers}
 use Rattle.plain.specs.Calls.{startNumber, started}
 use Rattle.state.specs.declared.Clients.{Clients}
@@ -30,7 +31,6 @@ use Rattle.state.proofs.Views.{begun-view}
 use Rattle.sound.proofs.Accepted.{accepted}
 use Rattle.promise.specs.declared.Done.{Done}
 use Rattle.promise.specs.Promise.{blank, Begins}
-use Rattle.node.proofs.Lent.{lowest-first}
 use Rattle.node.proofs.Refused.{Quiet}
 
 -- ## What the places of a blank state hold

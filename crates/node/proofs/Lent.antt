@@ -1,22 +1,17 @@
 -- The number of what every call judges, one law for each way through the code. Assumes nothing.
-use Prim.Native.Nat.{ℕ, zero, suc, _≤_, _<_}
+use Prim.Native.Nat.{ℕ, _≤_, _<_}
 use borrow.Author.Tests.{lt-ltb, le-ltb}
 use mathlib.Core.Bool.{Bool, true, false}
-use mathlib.Core.List.{List, _∷_}
+use mathlib.Core.List.{List}
 use mathlib.Core.Path.{_≡_, refl, sym, _∙_}
 use lib.ListN.{length}
 use Rattle.ascii.specs.Numbers.{latest}
 use Rattle.table.specs.Layout.{tableOf}
 use Rattle.report.specs.Judge.{lowest, tableNumber}
+use Rattle.report.proofs.Faults.{lowest-first}
 use Rattle.state.specs.declared.State.{State}
 use Rattle.state.specs.Fit.{isUnfit}
 use Rattle.promise.specs.Lent.{lentNumber}
-
--- a fault stands before those after it
-pub lowest-first : (k : ℕ) (ks : List ℕ) → (k ≡ 0 → ⊥) → lowest (k ∷ ks) ≡ k
-unfolding lowest
-lowest-first zero ks h = absurd (h refl)
-lowest-first (suc k) ks h = refl
 
 module _ (table values : List ℕ) (o : ℕ) (s : State) (t : ℕ) where
   pub lent-table : {k : ℕ} → k ≡ tableNumber table → (k ≡ 0 → ⊥) → k ≡ lentNumber table values o s t

@@ -1,19 +1,18 @@
 -- An open and a close, one law for each way through the code. Assumes nothing.
 use Prim.Native.Nat.{ℕ, _≤_, _<_}
 use borrow.Author.Tests.{lt-ltb, le-ltb, not-true, not-false}
-use mathlib.Core.Bool.{Bool, true, false, cond, not}
+use mathlib.Core.Bool.{Bool, true, false, not}
 use mathlib.Core.List.{List, []}
 use mathlib.Core.Logic.{_≢_}
 use mathlib.Core.Path.{_≡_, refl, sym, ap, subst, _∙_}
 use lib.ListN.{length}
-use Rattle.message.specs.Line.{Line}
 use Rattle.table.specs.Layout.{tableOf}
 use Rattle.report.specs.Judge.{fault}
-use Rattle.plain.specs.Node.{closed, connected, fresh, isOpen}
+use Rattle.plain.specs.Node.{closed, fresh, isOpen}
 use Rattle.plain.specs.Calls.{Call, Open, Close, fault11}
 use Rattle.state.specs.declared.Clients.{Clients}
 use Rattle.state.specs.declared.State.{State}
-use Rattle.state.specs.View.{isSet, clientAt, view}
+use Rattle.state.specs.View.{isSet, view}
 use Rattle.state.specs.Fit.{isUnfit}
 use Rattle.state.specs.Becomes.{Becomes, Always}
 use Rattle.promise.specs.declared.Done.{Done}
@@ -22,16 +21,13 @@ use Rattle.promise.specs.Lent.{lentNumber}
 use Rattle.promise.proofs.Numbers.{open-number, close-number, good}
 use Rattle.promise.proofs.Answers.{accepts}
 use Rattle.promise.proofs.Clients.{opens, closes}
+use Rattle.promise.proofs.Held.{open-is}
 use Rattle.node.proofs.Refused.{Quiet, Numbered, refused-lent, refused-first, refused-second, not-refused}
 
 -- whether a client of the view is open
 pub open-in-view : (table : List ℕ) (s : State) (values : List ℕ) (c : ℕ) → isOpen (view table s values .clients c) ≡ isSet (s .clients .open) c
-unfolding view clientAt isOpen
-open-in-view table s values c = go (isSet (s .clients .open) c) _ _
-  where
-    go : (b : Bool) (l : Line) (a : ℕ → Bool) → isOpen (cond b (connected l a) closed) ≡ b
-    go true l a = refl
-    go false l a = refl
+unfolding view
+open-in-view table s values c = open-is (s .clients) c
 
 pub too-high : {c : ℕ} → 7 < c → fault11 c ≡ 11
 too-high {c} h = rw (lt-ltb 7 c h) refl

@@ -7,6 +7,7 @@ use mathlib.Core.Logic.{_≢_}
 use mathlib.Core.Path.{_≡_, refl, sym, subst, _∙_}
 use Rattle.table.specs.Layout.{tableOf}
 use Rattle.report.specs.Judge.{lowest}
+use Rattle.report.proofs.Faults.{lowest-first}
 use Rattle.plain.specs.Calls.{Call, callNumber}
 use Rattle.state.specs.declared.State.{State}
 use Rattle.state.specs.View.{view}
@@ -14,7 +15,6 @@ use Rattle.state.specs.Fit.{isUnfit}
 use Rattle.promise.specs.declared.Done.{Done}
 use Rattle.promise.specs.Promise.{Kept}
 use Rattle.promise.proofs.Answers.{refuses}
-use Rattle.node.proofs.Lent.{lowest-first}
 
 -- an answer that uses 0 bytes and writes 0
 abbrev pub Quiet : Done → ℕ → State → Type 0

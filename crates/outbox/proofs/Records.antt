@@ -34,7 +34,7 @@ body-read (orderCommand c p v) h = refl
 
 -- ## The first record of some bytes, and what follows it
 
-two-bytes : (r : Record) → length (mark r) ≡ 2
+pub two-bytes : (r : Record) → length (mark r) ≡ 2
 unfolding mark bytes
 two-bytes (final c r) = refl
 two-bytes (update c r) = refl

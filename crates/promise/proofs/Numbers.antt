@@ -1,10 +1,9 @@
 -- The number of each call, from what every call judges and what it judges by itself. Assumes nothing.
-use Prim.Native.Nat.{ℕ, zero, suc, _≤_, _<_}
-use native.Mathlib.Omega.{arith}
+use Prim.Native.Nat.{ℕ, zero, suc, _≤_}
 use borrow.Author.Tests.{ltb-false}
-use mathlib.Core.Bool.{Bool, true, false, cond, not}
-use mathlib.Core.List.{List, [], _∷_, _++_}
-use mathlib.Core.Path.{_≡_, refl, sym, ap, _∙_}
+use mathlib.Core.Bool.{false, not}
+use mathlib.Core.List.{List, [], _∷_}
+use mathlib.Core.Path.{_≡_, refl, sym, _∙_}
 use lib.Dec.{ltb}
 use lib.ListN.{length, getElem?}
 use Rattle.ascii.specs.Bytes.{isSome}
@@ -13,20 +12,13 @@ use Rattle.fit.specs.Fit.{isFit}
 use Rattle.table.specs.Layout.{tableOf}
 use Rattle.table.specs.Search.{parameters}
 use Rattle.report.specs.Judge.{fault, lowest, tableNumber}
+use Rattle.report.proofs.Faults.{no-fault, lowest-none, lowest-both}
 use Rattle.plain.specs.Node.{isOpen}
 use Rattle.plain.specs.Calls.{Call, Open, Close, Piece, Reading, fault7, fault8, fault9, fault10, fault11, callNumber, readingVerdict}
 use Rattle.state.specs.declared.State.{State}
 use Rattle.state.specs.View.{view}
 use Rattle.state.specs.Fit.{isUnfit}
-use Rattle.sound.proofs.Accepted.{lowest-none, no-fault}
 use Rattle.promise.specs.Lent.{lentNumber}
-
--- the lowest of some faults stands for them
-lowest-first : (xs ys : List ℕ) → lowest (lowest xs ∷ ys) ≡ lowest (xs ++ ys)
-unfolding lowest
-lowest-first [] ys = refl
-lowest-first (zero ∷ xs) ys = lowest-first xs ys
-lowest-first (suc k ∷ xs) ys = refl
 
 module _ (table : List ℕ) (s : State) (values : List ℕ) where
   abbrev number : Call → ℕ
@@ -44,17 +36,17 @@ module _ (table : List ℕ) (s : State) (values : List ℕ) where
   pub open-number : (c t : ℕ) → number (Open c t (length values))
       ≡ lowest (lentNumber table values 32768 s t ∷ fault11 c ∷ fault 13 (isOpen (view table s values .clients c)) ∷ [])
   unfolding callNumber lentNumber
-  open-number c t = sym (no-outbox (tableNumber table) _) ∙ sym (lowest-first (lent 32768 t) _)
+  open-number c t = sym (no-outbox (tableNumber table) _) ∙ sym (lowest-both (lent 32768 t) _)
 
   pub close-number : (c t : ℕ) → number (Close c t (length values))
       ≡ lowest (lentNumber table values 32768 s t ∷ fault11 c ∷ fault 12 (not (isOpen (view table s values .clients c))) ∷ [])
   unfolding callNumber lentNumber
-  close-number c t = sym (no-outbox (tableNumber table) _) ∙ sym (lowest-first (lent 32768 t) _)
+  close-number c t = sym (no-outbox (tableNumber table) _) ∙ sym (lowest-both (lent 32768 t) _)
 
   pub piece-number : (c : ℕ) (bs : List ℕ) (t o : ℕ) → number (Piece c bs t (length values) o)
       ≡ lowest (lentNumber table values o s t ∷ fault11 c ∷ fault 12 (not (isOpen (view table s values .clients c))) ∷ [])
   unfolding callNumber lentNumber
-  piece-number c bs t o = sym (lowest-first (lent o t) _)
+  piece-number c bs t o = sym (lowest-both (lent o t) _)
 
   pub reading-number : (p : ℕ) (bs : List ℕ) (t o : ℕ) → number (Reading p bs t (length values) o)
       ≡ lowest
@@ -63,7 +55,7 @@ module _ (table : List ℕ) (s : State) (values : List ℕ) where
       ∷ fault 15 (not (isFit (readingVerdict (getElem? (parameters (tableOf table)) p) bs)))
       ∷ [])
   unfolding callNumber lentNumber
-  reading-number p bs t o = sym (lowest-first (lent o t) _)
+  reading-number p bs t o = sym (lowest-both (lent o t) _)
 
   -- what is known where all that is lent is good
   pub record Good (o t : ℕ) : Type 0 where

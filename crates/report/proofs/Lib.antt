@@ -1,5 +1,6 @@
 pub mod Lists
 pub mod Numbers
+pub mod Faults
 pub mod Read
 pub mod Trees
 pub mod Plain

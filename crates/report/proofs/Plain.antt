@@ -1,7 +1,6 @@
 -- The report of an accepted table is a plain value: its names and texts have no quote. Assumes nothing.
-use Prim.Native.Nat.{ℕ, zero, suc}
-use native.Mathlib.Omega.{arith}
-use mathlib.Core.Bool.{Bool, true, false, not, _&&_}
+use Prim.Native.Nat.{ℕ}
+use mathlib.Core.Bool.{true, not, _&&_}
 use mathlib.Core.List.{List, [], _∷_, map}
 use mathlib.Core.Option.{Option, none, some}
 use mathlib.Core.Path.{_≡_, refl}
@@ -19,8 +18,9 @@ use Rattle.table.specs.Table.{Accessible, parameter, command, Module, Table}
 use Rattle.table.specs.Rules.{accessibleName, ifAny, noteGood, accessibleNamesGood, moduleNamesGood, namesGood}
 use Rattle.report.specs.Report.{variantValues, datainfoValue, elementValues, fieldValues, argumentMember, accessibleMember, accessibleMembers}
 use Rattle.report.specs.Report.{noteMember, moduleMembers, reportValue}
-use Rattle.report.specs.Judge.{fault, lowest, treeNumber}
+use Rattle.report.specs.Judge.{treeNumber}
 use Rattle.report.proofs.Lists.{both, all-parts, Lacks, lacks}
+use Rattle.report.proofs.Faults.{no-fault, lowest-none}
 use Rattle.report.proofs.Numbers.{natural-number, integer-number, decimal-number}
 use Rattle.report.proofs.Read.{Plain, PlainItems, PlainMembers}
 
@@ -140,18 +140,7 @@ names-plain t h =
 
 -- ## Accepted tables
 
--- where the lowest of some faults is none, neither the first nor the lowest of the others is there
-later : (k : ℕ) (ks : List ℕ) → lowest (k ∷ ks) ≡ 0 → (k ≡ 0) × (lowest ks ≡ 0)
-unfolding lowest
-later zero ks e = (refl, e)
-later (suc k) ks e = absurd (omega arith)
-
-no-fault : (k : ℕ) (b : Bool) → fault (suc k) b ≡ 0 → b ≡ false
-no-fault k true e = absurd (omega arith)
-no-fault k false e = refl
-
 pub report-plain : (t : Table) → treeNumber t ≡ 0 → Plain (reportValue t)
 unfolding treeNumber
 report-plain t e =
-    let h = later _ _ (later _ _ e .1) .0 in
-    names-plain t (not-false (namesGood t) (no-fault 2 (not (namesGood t)) h))
+    names-plain t (not-false (namesGood t) (no-fault 2 (not (namesGood t)) (lowest-none _ e 1)))

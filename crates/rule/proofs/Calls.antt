@@ -1,25 +1,26 @@
 -- What a call does: it writes nothing, or it is an accepted reading, or it has a line carried out. Assumes nothing.
 use Prim.Native.Nat.{ℕ, zero, suc, _+_}
-use mathlib.Core.Bool.{Bool, true, false, cond, not, false≢true}
+use mathlib.Core.Bool.{Bool, true, false, not, false≢true}
 use mathlib.Core.List.{List, [], _∷_, _++_, List·Memᴰ, List·Memᴰ·append-cases, List·Memᴰ·not-nil, List·Memᴰ·eq-of-singleton}
 use mathlib.Core.Logic.{_⊎_, inl, inr, ⊎-elim}
 use mathlib.Core.Option.{Option, none, some}
 use mathlib.Core.Path.{_≡_, refl, sym, _∙_, ap, ap₂, subst}
 use lib.ListN.{getElem?}
 use native.Mathlib.Omega.{arith}
+use borrow.Author.Tests.{not-false}
 use Rattle.ascii.specs.Bytes.{isSome}
 use Rattle.fit.specs.Fit.{Verdict, fits, rangeError, wrongType, badJSON, severity, isFit, verdict, storedForm}
 use Rattle.table.specs.Table.{Parameter, Table}
 use Rattle.table.specs.Layout.{tableOf}
 use Rattle.table.specs.Search.{Placed, parameters}
-use Rattle.report.specs.Judge.{fault, lowest, tableNumber}
-use Rattle.message.specs.Line.{Line, Parts, content, partsOf}
-use Rattle.message.specs.Request.{Request, request}
-use Rattle.message.specs.Reply.{Report, Reply, error}
+use Rattle.report.proofs.Faults.{no-fault, lowest-none}
+use Rattle.message.specs.Line.{Parts, content, partsOf}
+use Rattle.message.specs.Request.{Request}
+use Rattle.message.specs.Reply.{Reply, error}
 use Rattle.outbox.specs.Outbox.{Record, final}
-use Rattle.plain.specs.Node.{Client, closed, fresh, Value, Node, put, withClient, withValue, isOpen, lineOf, receive, emptied, reportOf, clientNumbers, updatesTo}
+use Rattle.plain.specs.Node.{Client, closed, fresh, Node, put, withClient, withValue, isOpen, lineOf, receive, emptied, reportOf, clientNumbers, updatesTo}
 use Rattle.plain.specs.Answer.{Outcome, refused, carried, outcome, activates, deactivates, reads, sets, conclude, answerParts, answer}
-use Rattle.plain.specs.Calls.{Call, Open, Close, Piece, Reading, Answer, callNumber, readingVerdict, beforeFeed, hasFeed, ended, pieceEffect, readingEffect, effect, settle, stepIf}
+use Rattle.plain.specs.Calls.{Call, Open, Close, Piece, Reading, callNumber, readingVerdict, beforeFeed, hasFeed, ended, pieceEffect, readingEffect, effect, settle, stepIf}
 use Rattle.plain.specs.History.{step}
 use Rattle.rule.specs.Theorems.{requestOf, Refused, RefusalsAlterNothing}
 use Rattle.rule.proofs.Laws.{put-same, put-put, emptied-received, NoFinal, final-not-in, updates-to-no-final, updates-of-no-final}
@@ -125,17 +126,10 @@ answered w n c bs t h =
 -- ## Numbers of accepted calls
 
 -- an accepted piece's client is open
-lowest-last : (ks : List ℕ) (b : Bool) → lowest (ks ++ (fault 12 (not b) ∷ [])) ≡ 0 → b ≡ true
-unfolding lowest
-lowest-last [] true e = refl
-lowest-last [] false e = absurd (omega arith)
-lowest-last (zero ∷ ks) b e = lowest-last ks b e
-lowest-last (suc k ∷ ks) b e = absurd (omega arith)
-
 piece-open : (table : List ℕ) (n : Node) (c : ℕ) (bs : List ℕ) (t a o : ℕ)
     → callNumber table false n (Piece c bs t a o) ≡ 0 → isOpen (n .clients c) ≡ true
 unfolding callNumber
-piece-open table n c bs t a o e = lowest-last (_ ∷ _ ∷ _ ∷ _ ∷ _ ∷ _ ∷ []) (isOpen (n .clients c)) e
+piece-open table n c bs t a o e = not-false (isOpen (n .clients c)) (no-fault 11 (not (isOpen (n .clients c))) (lowest-none _ e 6))
 
 -- an accepted reading's parameter is there, and its value fits
 fit-is : (v : Verdict) → isFit v ≡ true → v ≡ fits
@@ -145,18 +139,9 @@ fit-is rangeError e = absurd (false≢true e)
 fit-is wrongType e = absurd (false≢true e)
 fit-is badJSON e = absurd (false≢true e)
 
-lowest-reading : (ks : List ℕ) (x : Option (Placed Parameter)) (v : Verdict)
-    → lowest (ks ++ (fault 14 (not (isSome x)) ∷ fault 15 (not (isFit v)) ∷ [])) ≡ 0
-    → ((p : Placed Parameter) × (x ≡ some p)) × (v ≡ fits)
-unfolding lowest
-lowest-reading [] none v e = absurd (omega arith)
-lowest-reading [] (some p) v e = ((p, refl), fit-is v (go (isFit v) e))
-  where
-    go : (q : Bool) → lowest (fault 15 (not q) ∷ []) ≡ 0 → q ≡ true
-    go true e′ = refl
-    go false e′ = absurd (omega arith)
-lowest-reading (zero ∷ ks) x v e = lowest-reading ks x v e
-lowest-reading (suc k ∷ ks) x v e = absurd (omega arith)
+there-is : (x : Option (Placed Parameter)) → isSome x ≡ true → (p : Placed Parameter) × (x ≡ some p)
+there-is none e = absurd (false≢true e)
+there-is (some p) e = (p, refl)
 
 did-reading : (w : Table) (n : Node) (k : ℕ) (bs : List ℕ) (t a o : ℕ) (x : Option (Placed Parameter)) (p : Placed Parameter)
     → getElem? (parameters w) k ≡ x → x ≡ some p → readingVerdict x bs ≡ fits
@@ -179,8 +164,10 @@ did table n (Close c t a) h = shut
 did table n (Piece c bs t a o) h = did-piece (tableOf table) n c bs t a o (hasFeed bs) refl (piece-open table n c bs t a o h)
 did table n (Reading k bs t a o) h =
     let x = getElem? (parameters (tableOf table)) k in
-    let q = lowest-reading (_ ∷ _ ∷ _ ∷ _ ∷ _ ∷ []) x (readingVerdict x bs) h in
-    did-reading (tableOf table) n k bs t a o x (q .0 .0) refl (q .0 .1) (q .1)
+    let b = isFit (readingVerdict x bs) in
+    let p = there-is x (not-false (isSome x) (no-fault 13 (not (isSome x)) (lowest-none _ h 5))) in
+    did-reading (tableOf table) n k bs t a o x (p .0) refl (p .1)
+    (fit-is (readingVerdict x bs) (not-false b (no-fault 14 (not b) (lowest-none _ h 6))))
 
 -- ## Steps
 

@@ -15,6 +15,7 @@ use Rattle.table.specs.Table.{Table}
 use Rattle.table.specs.Layout.{tableOf}
 use Rattle.table.specs.Search.{parameters}
 use Rattle.report.specs.Judge.{fault, lowest, tableNumber}
+use Rattle.report.proofs.Faults.{lowest-none}
 use Rattle.outbox.specs.Outbox.{Record}
 use Rattle.plain.specs.Node.{Client, closed, connected, Node, put, withClient, isOpen, receive}
 use Rattle.plain.specs.Answer.{answer}
@@ -89,18 +90,13 @@ module _ (table : List ℕ) where
       let x = getElem? (parameters (tableOf table)) p in
       rw z (roomier o a t 13 14 (not (isSome x)) (not (isFit (readingVerdict x bs))))
 
--- where there is no fault the first is none, and that is the table's
-pub lowest-first : (k : ℕ) (ks : List ℕ) → lowest (k ∷ ks) ≡ 0 → k ≡ 0
-unfolding lowest
-lowest-first zero ks e = refl
-lowest-first (suc k) ks e = e
-
+-- where there is no fault the table has none
 good-table : (table : List ℕ) (n : Node) (e : Call) → callNumber table false n e ≡ 0 → tableNumber table ≡ 0
 unfolding callNumber
-good-table table n (Open c t a) = lowest-first (tableNumber table) _
-good-table table n (Close c t a) = lowest-first (tableNumber table) _
-good-table table n (Piece c bs t a o) = lowest-first (tableNumber table) _
-good-table table n (Reading p bs t a o) = lowest-first (tableNumber table) _
+good-table table n (Open c t a) h = lowest-none _ h 0
+good-table table n (Close c t a) h = lowest-none _ h 0
+good-table table n (Piece c bs t a o) h = lowest-none _ h 0
+good-table table n (Reading p bs t a o) h = lowest-none _ h 0
 
 -- ## Items of an accepted call
 

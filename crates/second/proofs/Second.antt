@@ -7,14 +7,15 @@ use lib.Dec.{ltb}
 use Rattle.ascii.specs.Bytes.{all}
 use Rattle.table.specs.Layout.{tableOf}
 use Rattle.report.specs.Judge.{tableNumber}
+use Rattle.report.proofs.Faults.{lowest-none}
 use Rattle.outbox.specs.Outbox.{Record, encodeAll}
 use Rattle.plain.specs.Node.{Node, begin, isOpen}
-use Rattle.plain.specs.Calls.{Call, Piece, fault8, fault10, startNumber}
+use Rattle.plain.specs.Calls.{Call, Piece, startNumber}
 use Rattle.plain.specs.History.{step, answers, finish, sent, sentBytes, AllAccepted, Item, own, marks, standing, itemsOf, items, kept, taken, AllRoomy, IsSecond, Alike}
 use Rattle.second.specs.Theorems.{SecondHistoriesAreAlike}
 use Rattle.second.proofs.Items.{own-append, standing-append, inOrder, own-both, marks-both, order-small}
 use Rattle.second.proofs.Runs.{run, run-append, same-run, run-open}
-use Rattle.second.proofs.Calls.{readable, permitted, accepts, lowest-first, order-call, Used, none-used, step-number, step-used}
+use Rattle.second.proofs.Calls.{readable, permitted, accepts, order-call, Used, none-used, step-number, step-used}
 
 module _ (table : List ℕ) where
   -- ## Items that were used
@@ -119,7 +120,7 @@ module _ (table : List ℕ) where
 
 pub good-table : (table : List ℕ) (area time : ℕ) → startNumber table area time ≡ 0 → tableNumber table ≡ 0
 unfolding startNumber
-good-table table area time = lowest-first (tableNumber table) (fault8 area ∷ fault10 time ∷ [])
+good-table table area time e = lowest-none _ e 0
 
 pub second-histories-are-alike : SecondHistoriesAreAlike
 unfolding begin isOpen

@@ -1,13 +1,13 @@
 -- What an accepted call says of its table and its time, and what an accepted table says of its parameters and commands.
 -- Assumes nothing.
-use Prim.Native.Nat.{ℕ, zero, suc, _≤_}
+use Prim.Native.Nat.{ℕ, suc, _≤_}
 use mathlib.Core.Bool.{Bool, true, false, cond, not, _&&_}
 use mathlib.Core.List.{List, [], _∷_, map}
 use mathlib.Core.Option.{Option, none, some}
 use mathlib.Core.Path.{_≡_, refl}
 use native.Mathlib.Omega.{arith}
 use lib.Dec.{leb, ltb}
-use lib.ListN.{length, getD, length-append, length-map}
+use lib.ListN.{length, length-append, length-map}
 use borrow.Author.Tests.{leb-true, ltb-false, not-false}
 use Rattle.ascii.specs.Bytes.{all}
 use Rattle.ascii.specs.Names.{isName, isText, unique}
@@ -19,23 +19,12 @@ use Rattle.table.specs.Layout.{wholeTable, readTable, orEmpty, tableOf}
 use Rattle.table.specs.Rules.{accessibleName, accessibleCount, countsGood, noteGood, accessibleNamesGood, moduleNamesGood, namesGood, initialGood, initialsGood}
 use Rattle.table.specs.Search.{Placed, parametersOf, commandsOf, placedFrom, parameters, commands}
 use Rattle.report.specs.Report.{report}
-use Rattle.report.specs.Judge.{fault, lowest, treeNumber, numberOf, tableNumber}
+use Rattle.report.specs.Judge.{treeNumber, numberOf, tableNumber}
+use Rattle.report.proofs.Faults.{no-fault, lowest-none}
 use Rattle.plain.specs.Calls.{fault10, fault11}
 use Rattle.sound.proofs.Lists.{both, Each, each-append, each-both, each-all, each-map, map-each}
 
 -- ## Numbers
-
--- where the lowest fault is none, none is there
-pub lowest-none : (ks : List ℕ) → lowest ks ≡ 0 → (j : ℕ) → getD ks j 0 ≡ 0
-unfolding lowest
-lowest-none [] e j = refl
-lowest-none (zero ∷ ks) e zero = refl
-lowest-none (zero ∷ ks) e (suc j) = lowest-none ks e j
-lowest-none (suc k ∷ ks) e j = absurd (omega arith)
-
-pub no-fault : (k : ℕ) (b : Bool) → fault (suc k) b ≡ 0 → b ≡ false
-no-fault k true e = absurd (omega arith)
-no-fault k false e = refl
 
 pub client-low : (c : ℕ) → fault11 c ≡ 0 → c ≤ 7
 client-low c e = ltb-false 7 c (no-fault 10 (ltb 7 c) e)

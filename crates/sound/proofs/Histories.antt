@@ -3,11 +3,12 @@ use Prim.Native.Nat.{ℕ}
 use mathlib.Core.List.{List, [], _∷_}
 use mathlib.Core.Path.{_≡_}
 use Rattle.table.specs.Layout.{tableOf}
+use Rattle.report.proofs.Faults.{lowest-none}
 use Rattle.plain.specs.Node.{Node, begin}
 use Rattle.plain.specs.Calls.{Call, startNumber}
 use Rattle.plain.specs.History.{step, answers, finish}
 use Rattle.sound.specs.Theorems.{Sound, AllShort, AllAnswersWellFormed, AlwaysSound, WritesAreShort, WritesAreWellFormed, CallsKeepSound}
-use Rattle.sound.proofs.Accepted.{Accepted, accepted, lowest-none, time-low}
+use Rattle.sound.proofs.Accepted.{Accepted, accepted, time-low}
 use Rattle.sound.proofs.Held.{begun}
 use Rattle.sound.proofs.Steps.{stepped}
 

@@ -2,8 +2,8 @@ pub mod Lists
 pub mod Accepted
 pub mod Homes
 pub mod Values
-pub mod Records
 pub mod Room
+pub mod Records
 pub mod Lines
 pub mod Held
 pub mod Steps

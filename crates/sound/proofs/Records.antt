@@ -1,45 +1,32 @@
 -- Records that are well formed, and the bytes that they take. Assumes nothing.
-use Prim.Native.Nat.{ℕ, zero, suc, _+_, _*_, _/_, _^_, _≤_, _<_}
+use Prim.Native.Nat.{ℕ, suc, _+_, _*_, _≤_}
 use mathlib.Core.Bool.{Bool, true, false, cond, not, _&&_}
 use mathlib.Core.List.{List, [], _∷_, _++_}
 use mathlib.Core.Option.{Option, none, some}
 use mathlib.Core.Path.{_≡_, refl, subst}
 use native.Mathlib.Nat.{add-zero}
 use native.Mathlib.Omega.{arith}
-use lib.Dec.{leb, ltb}
+use lib.Dec.{leb}
 use lib.ListN.{length, getElem?, length-append}
-use borrow.Author.Tests.{leb-true, ltb-false}
+use borrow.Author.Tests.{leb-true}
 use Rattle.ascii.specs.Text.{bytes}
 use Rattle.ascii.specs.Bytes.{all, head, isDigit}
 use Rattle.ascii.specs.Names.{isName, isNameByte}
-use Rattle.ascii.specs.Numbers.{twoBytes, digitsIn, decimal, seconds, latest}
+use Rattle.ascii.specs.Numbers.{twoBytes, latest}
+use Rattle.ascii.proofs.Decimal.{seconds-latest}
 use Rattle.message.specs.Error.{Class, ProtocolError, NoSuchModule, NoSuchParameter, NoSuchCommand, ReadOnly, BadJSON, WrongType, RangeError, className, classText}
 use Rattle.message.specs.Reply.{Report, Reply, identification, describing, pong, active, inactive, reply, changed, done, error, dataReport, reportText, errorReport, optionally, replyLine, updateLine}
-use Rattle.outbox.specs.Outbox.{Record, final, update, orderChange, orderCommand, mark, body, encode, encodeAll}
+use Rattle.outbox.specs.Outbox.{Record, final, update, body, encode, encodeAll}
 use Rattle.outbox.specs.Theorems.{Word, Named, WellFormed, WellFormedReply, AllWellFormed}
+use Rattle.outbox.proofs.Records.{two-bytes}
 use Rattle.table.specs.Table.{Parameter}
 use Rattle.table.specs.Search.{Placed}
 use Rattle.plain.specs.Node.{Client, Value, isActive, reportOf, updatesTo, updatesOf}
 use Rattle.sound.proofs.Lists.{both}
 use Rattle.sound.proofs.Accepted.{GoodNames}
+use Rattle.sound.proofs.Room.{encode-append}
 
 -- ## Texts
-
-digits-short : (k j n : ℕ) → n < 10 ^ suc j → length (digitsIn k n) ≤ suc j
-unfolding digitsIn
-digits-short zero j n h = omega arith
-digits-short (suc k) j n h = go (ltb n 10) refl j h (digits-short k)
-  where
-    go : (b : Bool) → ltb n 10 ≡ b → (j : ℕ) → n < 10 ^ suc j
-        → ((j m : ℕ) → m < 10 ^ suc j → length (digitsIn k m) ≤ suc j)
-        → length (digitsIn (suc k) n) ≤ suc j
-    go true e j h f = rw (e, digitsIn) (omega arith)
-    go false e zero h f = absurd (omega (arith, ltb-false n 10 e))
-    go false e (suc j) h f = rw (e, digitsIn) (simp length-append (omega (arith, f j (n / 10) (omega arith))))
-
-pub seconds-short : (t : ℕ) → t ≤ latest → length (seconds t) ≤ 14
-unfolding seconds decimal bytes
-seconds-short t h = simp length-append (omega (arith, digits-short (suc (t / 1000)) 9 (t / 1000) (omega arith)))
 
 pub name-short : (xs : List ℕ) → isName xs ≡ true → length xs ≤ 63
 unfolding isName
@@ -56,7 +43,7 @@ pub record Fine (r : Report) : Type 0 where
 
 data-short : (v : List ℕ) (t : ℕ) → t ≤ latest → length (dataReport v t) ≤ length v + 23
 unfolding dataReport bytes
-data-short v t h = simp length-append (omega (arith, seconds-short t h))
+data-short v t h = simp length-append (omega (arith, seconds-latest t h))
 
 report-short : (r : Report) → Fine r → length (reportText r) ≤ 407
 unfolding reportText bytes
@@ -141,26 +128,15 @@ written-none = record { formed = tt; short = omega arith }
 
 pub written-one : (r : Record) (k : ℕ) → WellFormed r → length (body r) + 5 ≤ k → Written (r ∷ []) k
 unfolding encodeAll encode twoBytes
-written-one r k w h = record { formed = (w, tt); short = simp length-append (omega (arith, mark-two r)) }
-  where
-    mark-two : (r : Record) → length (mark r) ≡ 2
-    mark-two (final c r) = unfold mark bytes in refl
-    mark-two (update c r) = unfold mark bytes in refl
-    mark-two (orderChange c p v) = unfold mark bytes in refl
-    mark-two (orderCommand c p v) = unfold mark bytes in refl
+written-one r k w h = record { formed = (w, tt); short = simp length-append (omega (arith, two-bytes r)) }
 
 formed-append : (rs ss : List Record) → AllWellFormed rs → AllWellFormed ss → AllWellFormed (rs ++ ss)
 formed-append [] ss h k = k
 formed-append (r ∷ rs) ss h k = (h .0, formed-append rs ss (h .1) k)
 
-encode-append : (rs ss : List Record) → length (encodeAll (rs ++ ss)) ≡ length (encodeAll rs) + length (encodeAll ss)
-unfolding encodeAll
-encode-append [] ss = omega arith
-encode-append (r ∷ rs) ss = simp length-append (omega (arith, encode-append rs ss))
-
 pub written-append : (rs ss : List Record) (j k : ℕ) → Written rs j → Written ss k → Written (rs ++ ss) (j + k)
 written-append rs ss j k h i =
-    record { formed = formed-append rs ss (h .formed) (i .formed); short = rw encode-append (omega (arith, h .short, i .short)) }
+    record { formed = formed-append rs ss (h .formed) (i .formed); short = rw (encode-append rs ss, length-append) (omega (arith, h .short, i .short)) }
 
 pub written-within : {rs : List Record} {j : ℕ} (k : ℕ) → j ≤ k → Written rs j → Written rs k
 written-within k e h = record { formed = h .formed; short = omega (arith, h .short) }

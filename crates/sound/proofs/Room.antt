@@ -2,6 +2,7 @@
 use Prim.Native.Nat.{ℕ, _+_, _≤_}
 use mathlib.Core.List.{List, [], _∷_, _++_, append-nil, append-assoc}
 use mathlib.Core.Path.{_≡_, refl, sym, ap, _∙_}
+use native.Mathlib.Nat.{add-zero}
 use native.Mathlib.Omega.{arith}
 use lib.ListN.{length, length-append}
 use Rattle.ascii.specs.Writer.{Puts}
@@ -9,11 +10,18 @@ use Rattle.ascii.proofs.Puts.{puts-length, puts-both}
 use Rattle.outbox.specs.Outbox.{Record, body, encode, encodeAll}
 use Rattle.outbox.specs.Written.{RoomFor}
 
--- the bytes of a list with one record more
-pub encoded-after : (rs : List Record) (r : Record) → encodeAll (rs ++ (r ∷ [])) ≡ encodeAll rs ++ encode r
+-- the bytes of records one after another
+pub encode-append : (rs ss : List Record) → encodeAll (rs ++ ss) ≡ encodeAll rs ++ encodeAll ss
 unfolding encodeAll
-encoded-after [] r = append-nil (encode r)
-encoded-after (s ∷ rs) r = ap (λ (l : List ℕ). encode s ++ l) (encoded-after rs r) ∙ sym (append-assoc (encode s) (encodeAll rs) (encode r))
+encode-append [] ss = refl
+encode-append (r ∷ rs) ss = ap (λ (l : List ℕ). encode r ++ l) (encode-append rs ss) ∙ sym (append-assoc (encode r) (encodeAll rs) (encodeAll ss))
+
+pub encode-one : (r : Record) → encodeAll (r ∷ []) ≡ encode r
+unfolding encodeAll
+encode-one r = append-nil (encode r)
+
+encoded-after : (rs : List Record) (r : Record) → encodeAll (rs ++ (r ∷ [])) ≡ encodeAll rs ++ encode r
+encoded-after rs r = encode-append rs (r ∷ []) ∙ ap (λ (l : List ℕ). encodeAll rs ++ l) (encode-one r)
 
 body-short : (r : Record) → length (body r) ≤ length (encode r)
 unfolding encode
@@ -32,6 +40,6 @@ module _ (rs : List Record) (r : Record) (d e : List ℕ) (p : ℕ) (x : Puts d 
   puts-after f q y = rw (encoded-after rs r) (puts-both x y)
 
 -- nothing is written yet
-pub puts-none : (d : List ℕ) → Puts d 0 (encodeAll []) d 0
+pub puts-none : (d : List ℕ) {at : ℕ} → Puts d at (encodeAll []) d at
 unfolding encodeAll
-puts-none d = record { is = refl; ends = refl }
+puts-none d {at} = record { is = refl; ends = sym (add-zero at) }

@@ -24,13 +24,14 @@ use Rattle.table.specs.Table.{Parameter, Command, Table}
 use Rattle.table.specs.Layout.{tableOf}
 use Rattle.table.specs.Search.{Placed, parameters, commands, first, findModule, findParameter, findCommand}
 use Rattle.report.specs.Report.{report}
+use Rattle.report.proofs.Faults.{no-fault, lowest-none}
 use Rattle.plain.specs.Node.{closed, Value, Node, withClient, withValue, fresh, lineOf, receive, emptied, reportOf, clientNumbers, updatesTo}
 use Rattle.plain.specs.Answer.{Outcome, refused, carried, found, letIn, argumentVerdict, argumentForm, activates, deactivates, inScope, reads, sets, changes, does, outcome, conclude, answerParts, answer}
 use Rattle.plain.specs.Calls.{Call, Open, Close, Piece, Reading, readingVerdict, callNumber, beforeFeed, hasFeed, ended, pieceEffect, readingEffect, effect, settle, stepIf}
 use Rattle.plain.specs.History.{step}
 use Rattle.sound.specs.Theorems.{ValueHeld, Sound}
 use Rattle.sound.proofs.Lists.{either, each-at, first-at}
-use Rattle.sound.proofs.Accepted.{Accepted, GoodParameter, GoodCommand, lowest-none, no-fault, client-low, time-low}
+use Rattle.sound.proofs.Accepted.{Accepted, GoodParameter, GoodCommand, client-low, time-low}
 use Rattle.sound.proofs.Values.{stored, stored-short, short-stored}
 use Rattle.sound.proofs.Records.{Fine, Says, says-identification, says-describing, says-pong, says-active, says-inactive, says-reply, says-changed, says-done, says-error, Written, written-none, written-one, written-append, written-within, written-final, written-to, written-of}
 use Rattle.sound.proofs.Lines.{before-feed, received, content-short, ShortWord, parts-words, Asked, asked}

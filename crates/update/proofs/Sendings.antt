@@ -1,6 +1,5 @@
 -- Laws of records that are written one after another, and of updates to clients. Assumes nothing.
 use Prim.Native.Nat.{ℕ, suc, _+_, _^_, _≤_, _<_}
-use native.Mathlib.Nat.{add-zero}
 use native.Mathlib.Numerals.{add-one}
 use native.Mathlib.Omega.{arith}
 use mathlib.Core.Path.{_≡_, refl, sym, ap, _∙_}
@@ -19,6 +18,7 @@ use Rattle.message.proofs.Said.{data-length, report-length}
 use Rattle.outbox.specs.Outbox.{Record, update, body, encode, encodeAll}
 use Rattle.outbox.specs.Written.{RoomFor}
 use Rattle.plain.specs.Node.{Client, isActive, clientNumbers, updatesTo}
+use Rattle.sound.proofs.Room.{encode-append, encode-one, puts-none}
 use Rattle.state.proofs.Judged.{number-at}
 use Rattle.update.specs.declared.Scope.{Scope}
 use Rattle.update.specs.declared.Scope.the-variants.{Module}
@@ -26,24 +26,14 @@ use Rattle.update.specs.Scope.{wanted}
 
 -- ## Records one after another
 
-pub encode-append : (rs ss : List Record) → encodeAll (rs ++ ss) ≡ encodeAll rs ++ encodeAll ss
-unfolding encodeAll
-encode-append [] ss = refl
-encode-append (r ∷ rs) ss = ap (λ (l : List ℕ). encode r ++ l) (encode-append rs ss) ∙ sym (append-assoc (encode r) (encodeAll rs) (encodeAll ss))
-
 -- of all records some are written, and the others are left
 pub record Going (d : List ℕ) (at : ℕ) (all left : List Record) (e : List ℕ) (p : ℕ) : Type 0 where
   pub written : List Record
   pub puts : Puts d at (encodeAll written) e p
   pub is : all ≡ written ++ left
 
--- no record is written
-pub none-put : (d : List ℕ) (at : ℕ) → Puts d at (encodeAll []) d at
-unfolding encodeAll
-none-put d at = record { is = refl; ends = sym (add-zero at) }
-
 pub going-start : (d : List ℕ) (at : ℕ) (all : List Record) → Going d at all all d at
-going-start d at all = record { written = []; puts = none-put d at; is = refl }
+going-start d at all = record { written = []; puts = puts-none d; is = refl }
 
 module _ {d : List ℕ} {at : ℕ} {all : List Record} {e : List ℕ} {p : ℕ} where
   pub going-room : (rs left : List Record) → Going d at all (rs ++ left) e p → at + length (encodeAll all) ≤ length d → p + length (encodeAll rs) ≤ length e
@@ -77,15 +67,11 @@ update-short : (m a v : List ℕ) (t : ℕ) → length m + length a + length v �
 unfolding updateLine bytes
 update-short m a v t h k = simp length-append (omega (arith, seconds-low t k, data-length v t, report-length m a v t))
 
-pub one : (r : Record) → encodeAll (r ∷ []) ≡ encode r
-unfolding encodeAll
-one r = append-nil (encode r)
-
 pub room-update :
     (d : List ℕ) (at c : ℕ) (m a v : List ℕ) (t : ℕ) → length m + length a + length v ≤ 1024 → t < 2 ^ 64
     → at + length (encodeAll (update c (reportOf m a v t) ∷ [])) ≤ length d → RoomFor d at (update c (reportOf m a v t))
 unfolding body
-room-update d at c m a v t h k l = record { fits = rw (one (update c (reportOf m a v t))) at l; short = update-short m a v t h k }
+room-update d at c m a v t h k l = record { fits = rw (encode-one (update c (reportOf m a v t))) at l; short = update-short m a v t h k }
 
 -- ## Updates to one client and the next
 
@@ -118,10 +104,10 @@ module _ (f : ℕ → Client) (i c : ℕ) (b : Bool) (h : b ≡ isActive (f c) i
 
   pub to-active : (r : Report) {d e : List ℕ} {at p : ℕ} → b ≡ true → Puts d at (encode (update c r)) e p
       → Puts d at (encodeAll (updatesTo f i r (c ∷ []))) e p
-  to-active r e x = rw (is-update r e, one (update c r)) x
+  to-active r e x = rw (is-update r e, encode-one (update c r)) x
 
   pub to-none : (r : Report) (d : List ℕ) (at : ℕ) → b ≡ false → Puts d at (encodeAll (updatesTo f i r (c ∷ []))) d at
-  to-none r d at e = rw (updates-cond f i r c, ← h, e) (none-put d at)
+  to-none r d at e = rw (updates-cond f i r c, ← h, e) (puts-none d)
 
 -- ## Updates to all clients, of which the first c have theirs
 

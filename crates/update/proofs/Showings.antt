@@ -33,6 +33,7 @@ use Rattle.sound.specs.Theorems.{Sound}
 use Rattle.sound.proofs.Accepted.{accepted, accepted-whole}
 use Rattle.sound.proofs.Records.{Fine, name-short, written-of}
 use Rattle.sound.proofs.Steps.{fine}
+use Rattle.sound.proofs.Room.{encode-one, puts-none}
 use Rattle.state.specs.declared.Settings.{Settings}
 use Rattle.state.specs.declared.State.{State}
 use Rattle.state.specs.View.{placeOf, storedText, shown, valueAt}
@@ -45,7 +46,7 @@ use Rattle.outcome.specs.Ready.{Ready}
 use Rattle.update.specs.declared.Scope.{Scope}
 use Rattle.update.specs.Scope.{wanted}
 use Rattle.update.specs.Shown.{shownReport, Shows}
-use Rattle.update.proofs.Sendings.{Going, going-start, going-room, going-on, going-end, going-length, none-put, one, room-update}
+use Rattle.update.proofs.Sendings.{Going, going-start, going-room, going-on, going-end, going-length, room-update}
 
 -- ## One parameter
 
@@ -56,7 +57,7 @@ updateIf scope c e r = cond (wanted scope (e .modules - 1)) (update c r ∷ []) 
 module _ (table : List ℕ) (s : Settings) (values out : List ℕ) (at c : ℕ) (scope : Scope) (k : ℕ) (q : ParameterAt) (e : Cursor)
     (b : Bool) (h : b ≡ wanted scope (e .modules - 1)) where
   pub unwanted : not b ≡ true → Puts out at (encodeAll (updateIf scope c e (shownReport table s values k q e))) out at
-  unwanted z = rw (← h, not-true b z) (none-put out at)
+  unwanted z = rw (← h, not-true b z) (puts-none out)
 
   -- what the code has for the names
   module _ (z : not b ≡ false) (m a : List ℕ) (hm : m ≡ bytesOf table (e .name)) (ha : a ≡ bytesOf table (q .name)) where
@@ -71,7 +72,7 @@ module _ (table : List ℕ) (s : Settings) (values out : List ℕ) (at c : ℕ) 
 
       own-put : {f : List ℕ} {p : ℕ} → Puts out at (encode (update c (reportOf m a v (getD (s .time) k 0)))) f p
           → Puts out at (encodeAll (updateIf scope c e (shownReport table s values k q e))) f p
-      own-put x = rw (← h, not-false b z, one (update c (shownReport table s values k q e)), same-report) x
+      own-put x = rw (← h, not-false b z, encode-one (update c (shownReport table s values k q e)), same-report) x
 
     module _ (n : getD (s .length) k 0 ≡ 0) (v : List ℕ) (hv : v ≡ bytesOf table (q .initial)) where
       is-initial : v ≡ cond (eqb (getD (s .length) k 0) 0) (bytesOf table (q .initial)) (take (getD (s .length) k 0) (drop (placeOf k) values))

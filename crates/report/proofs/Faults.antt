@@ -1,0 +1,35 @@
+-- The lowest of some faults. Assumes nothing.
+use Prim.Native.Nat.{ℕ, zero, suc}
+use native.Mathlib.Omega.{arith}
+use mathlib.Core.Bool.{Bool, true, false}
+use mathlib.Core.List.{List, [], _∷_, _++_}
+use mathlib.Core.Logic.{_≢_}
+use mathlib.Core.Path.{_≡_, refl}
+use lib.ListN.{getD}
+use Rattle.report.specs.Judge.{fault, lowest}
+
+-- a fault whose number is none is not there
+pub no-fault : (k : ℕ) (b : Bool) → fault (suc k) b ≡ 0 → b ≡ false
+no-fault k true e = absurd (omega arith)
+no-fault k false e = refl
+
+-- where the lowest fault is none, none is there
+pub lowest-none : (ks : List ℕ) → lowest ks ≡ 0 → (j : ℕ) → getD ks j 0 ≡ 0
+unfolding lowest
+lowest-none [] e j = refl
+lowest-none (zero ∷ ks) e zero = refl
+lowest-none (zero ∷ ks) e (suc j) = lowest-none ks e j
+lowest-none (suc k ∷ ks) e j = absurd (omega arith)
+
+-- a fault that is there is lower than those after it
+pub lowest-first : (k : ℕ) (ks : List ℕ) → k ≢ 0 → lowest (k ∷ ks) ≡ k
+unfolding lowest
+lowest-first zero ks h = absurd (h refl)
+lowest-first (suc k) ks h = refl
+
+-- the lowest of some faults may be said in their place
+pub lowest-both : (xs ys : List ℕ) → lowest (lowest xs ∷ ys) ≡ lowest (xs ++ ys)
+unfolding lowest
+lowest-both [] ys = refl
+lowest-both (zero ∷ xs) ys = lowest-both xs ys
+lowest-both (suc k ∷ xs) ys = refl
