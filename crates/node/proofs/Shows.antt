@@ -32,7 +32,7 @@ use Rattle.promise.specs.Shown.{valueNumber, heldIn, Shows}
 use Rattle.promise.proofs.Numbers.{Good, good}
 use Rattle.promise.proofs.Clients.{fit-parts}
 use Rattle.node.specs.Part.{partShown}
-use Rattle.node.proofs.Lent.{lowest-first}
+use Rattle.report.proofs.Faults.{lowest-first}
 use Rattle.node.proofs.Reading.{parameter-at, none-past, none-found, is-there}
 
 -- ## The part
