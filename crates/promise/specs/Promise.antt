@@ -36,7 +36,8 @@ unfoldable pub areaAfter : List ℕ → Call → Answer → List ℕ
 areaAfter values e a = cond (eqb (a .number) 0) (areaOf values e (a .records)) values
 
 -- What the call e promises: handed the state s, the values area and the outbox, it answers r, and leaves values′ and outbox′. Left free of a
--- state are the bytes of a line's place past the line, what stands for "yes" in a flag, and what is past the last parameter.
+-- state are the bytes of a line's place past the line, what stands for "yes" in a flag, what is past the last parameter, and whether a
+-- parameter that shows its initial value has it stored or was never set.
 pub record Kept (table : List ℕ) (e : Call) (s : State) (values outbox : List ℕ) (r : Done) (values′ outbox′ : List ℕ) : Type 0 where
   pub number : r .number ≡ stepFrom table s values e .1 .number
   pub used : r .used ≡ stepFrom table s values e .1 .used
