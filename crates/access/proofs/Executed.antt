@@ -26,7 +26,7 @@ use Rattle.outbox.specs.Outbox.{orderCommand, encodeAll}
 use Rattle.plain.specs.Node.{Node}
 use Rattle.plain.specs.Answer.{Outcome, refused, carried, found, letIn, argumentVerdict, does, outcome}
 use Rattle.outcome.specs.Ready.{Lent}
-use Rattle.outcome.specs.Area.{withSetting}
+use Rattle.outcome.specs.Setting.{settingIn}
 use Rattle.outcome.specs.Outcome.{ComesAtAny}
 use Rattle.outcome.specs.declared.Outcome.the-variants.{Refused, Sent}
 use Rattle.access.specs.Argument.{JudgesArgument, formOf, Ordered, Reported, orderRecords}
@@ -88,7 +88,7 @@ module _ (s out : List ℕ) (c t : ℕ) (m a xs : List ℕ) where
       pub execute-sent : v ≡ Fits → (after : List ℕ) (written : ℕ)
           → Puts out 0 (encodeAll (orderRecords c k (formOf (q .argument) xs) m a t)) after written
           → ComesAtAny s out c t (Sent written) after (execute m a xs)
-      unfolding letIn orderRecords withSetting
+      unfolding letIn orderRecords settingIn
       execute-sent z after written p n values =
           record {
             carries =
@@ -97,7 +97,7 @@ module _ (s out : List ℕ) (c t : ℕ) (m a xs : List ℕ) where
                   reply = done (reportOf m a (bytes "null") t);
                   is = let-in n ∙ rw z;
                   puts = p;
-                  area = refl;
+                  sets = refl;
                 };
             unstored = refl;
           }

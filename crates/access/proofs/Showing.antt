@@ -33,7 +33,7 @@ use Rattle.state.proofs.Flags.{neither}
 use Rattle.state.proofs.Settled.{shows-initial, shows-stored, each-fit, fit-parts}
 use Rattle.state.proofs.Stands.{value-held}
 use Rattle.outcome.specs.Ready.{Ready}
-use Rattle.outcome.specs.Area.{withSetting}
+use Rattle.outcome.specs.Setting.{settingIn}
 use Rattle.outcome.specs.Outcome.{Comes}
 use Rattle.outcome.specs.declared.Outcome.the-variants.{Refused, Sent}
 use Rattle.access.specs.Shown.{shownBytes, shownReply, Shows}
@@ -125,7 +125,7 @@ module _ (s : List ℕ) (st : State) (values out : List ℕ) (c : ℕ) (g : Read
   pub read-sent : isSome (findModule (tableOf s) m) ≡ true → (after : List ℕ) (written : ℕ)
       → Puts out 0 (encode (shownReply s (st .settings) values k (q .initial) c m a)) after written
       → (t : ℕ) → Comes s st values out c t (Sent written) values after (read m a)
-  unfolding outcome found reads withSetting
+  unfolding outcome found reads settingIn
   read-sent e after written x t =
       record {
         carries =
@@ -134,7 +134,7 @@ module _ (s : List ℕ) (st : State) (values out : List ℕ) (c : ℕ) (g : Read
               reply = reply own;
               is = past-module Error.NoSuchModule (findModule (tableOf s) m) _ e ∙ rw (p .is);
               puts = puts-after [] (final c (reply own)) out out 0 (puts-none out) after written (rw own-is x);
-              area = refl;
+              sets = refl;
             };
         unstored = refl;
       }

@@ -1,9 +1,10 @@
 -- Laws of a line that is answered: from what a request comes to, and what follows from it, to what the plain node answers. Assumes nothing.
 use Prim.Native.Nat.{ℕ, _≤_, _<_}
 use native.Mathlib.Omega.{arith}
-use mathlib.Core.Path.{_≡_, refl, sym, ap₂, subst, _∙_}
+use mathlib.Core.Path.{_≡_, refl, sym, ap, ap₂, subst, _∙_}
 use mathlib.Core.Bool.{false}
 use mathlib.Core.List.{List, [], _∷_, append-nil}
+use mathlib.Core.Option.{Option, none, some}
 use lib.ListN.{length}
 use Rattle.ascii.specs.Numbers.{latest}
 use Rattle.ascii.specs.Bytes.{any, takeWhile, dropWhile, tail, same}
@@ -31,7 +32,7 @@ use Rattle.sound.proofs.Values.{short-stored}
 use Rattle.state.specs.declared.Clients.{Clients}
 use Rattle.state.specs.declared.Settings.{Settings}
 use Rattle.state.specs.declared.State.{State}
-use Rattle.state.specs.View.{view, withStored}
+use Rattle.state.specs.View.{view, withStored, withLength}
 use Rattle.state.specs.Fit.{settingsUnfit, clientUnfit, isUnfit}
 use Rattle.state.proofs.Flags.{neither, nor}
 use Rattle.state.proofs.Kept.{still-fit}
@@ -39,7 +40,7 @@ use Rattle.state.proofs.Settled as Settled
 use Rattle.state.proofs.Settled.{some-stored, stored-fit}
 use Rattle.sound.proofs.Lists.{there-low}
 use Rattle.state.proofs.Views.{client-view, value-view}
-use Rattle.outcome.specs.Area.{withSetting}
+use Rattle.outcome.specs.Setting.{Setting, settingIn, areaWith, settingsWith}
 use Rattle.outcome.specs.Outcome.{Carries, Refuses, Sends, Activates, Stores, OutcomeIs, Comes, Answers}
 use Rattle.outcome.specs.Ready.{Ready}
 use Rattle.outcome.specs.declared.Outcome.{Outcome}
@@ -80,71 +81,79 @@ module _ (table : List ℕ) (s : State) (values before : List ℕ) (c t : ℕ) (
   error-answered :
       (p : Parts) (after : List ℕ) (r : Answered) (e : Class) → r .state ≡ s
       → Puts before 0 (encode (final c (error (p .action) (p .specifier) (classOf e)))) after (r .written)
-      → Answers table values before r values after (conclude w n c t p (refused (classOf e)))
-  unfolding conclude withSetting
+      → Answers table (s .settings) values before t r values after (conclude w n c t p (refused (classOf e)))
+  unfolding conclude settingIn areaWith settingsWith
   error-answered p after r e same puts =
       record {
         node = rw same;
         fit = rw same (given .fit);
         puts = subst (λ (l : List ℕ). Puts before 0 l after (r .written)) (encoded-one _) puts;
         area = refl;
+        settings = rw same;
       }
 
   module _ (p : Parts) (mid stored : List ℕ) (o : Plain.Outcome) (after : List ℕ) (r : Answered) where
     -- what was carried out: its records were written before
     carried-answered :
-        (next : Node) (written : ℕ) → Carries w n c t before mid values stored o next written → Keeps mid after s c t r written
+        (next : Node) (written : ℕ) (set : Option Setting) → Carries w n c t before mid values stored o next written set → Keeps mid after s c t r written
         → view table (r .state) stored ≡ next → isUnfit w (r .state) stored ≡ false
-        → Answers table values before r stored after (conclude w n c t p o)
+        → stored ≡ areaWith values set → r .state .settings ≡ settingsWith (s .settings) t set
+        → Answers table (s .settings) values before t r stored after (conclude w n c t p o)
     unfolding conclude
-    carried-answered next written x k node fit =
+    carried-answered next written set x k node fit area settings =
         rw (x .is)
         (record {
           node = node;
           fit = fit;
           puts = rw (k .size, k .quiet) (x .puts);
-          area = x .area;
+          area = area ∙ ap (areaWith values) (sym (x .sets));
+          settings = settings ∙ ap (settingsWith (s .settings) t) (sym (x .sets));
         })
 
     refused-answered : (e : Class) → Refuses w n c t before mid values stored o (refused (classOf e)) → Denies mid after s c t r (p .action) (p .specifier) e
-        → Answers table values before r stored after (conclude w n c t p o)
+        → Answers table (s .settings) values before t r stored after (conclude w n c t p o)
     refused-answered e x k =
         rw (x .is, x .area)
         (error-answered p after r e (k .state) (subst (λ (l : List ℕ). Puts l 0 (encode (final c (error (p .action) (p .specifier) (classOf e)))) after (r .written)) (x .quiet) (k .puts)))
 
     sent-answered : (written : ℕ) → Sends w n c t before mid values stored o written → Passes mid after s c t r written
-        → Answers table values before r stored after (conclude w n c t p o)
+        → Answers table (s .settings) values before t r stored after (conclude w n c t p o)
+    unfolding areaWith settingsWith
     sent-answered written x k =
-        carried-answered n written (x .carries) (k .keeps) (rw (k .state, x .unstored)) (rw (k .state, x .unstored) (given .fit))
+        carried-answered n written none (x .carries) (k .keeps) (rw (k .state, x .unstored)) (rw (k .state, x .unstored) (given .fit)) (x .unstored) (rw (k .state))
 
     active-answered : (mask written : ℕ) → Activates w n c t before mid values stored o mask written → Switches mid after s c t r mask written
-        → Answers table values before r stored after (conclude w n c t p o)
-    unfolding isUnfit view
+        → Answers table (s .settings) values before t r stored after (conclude w n c t p o)
+    unfolding isUnfit view areaWith settingsWith
     active-answered mask written x k =
         let fit = still-fit (length (w .modules)) (k .clients) (record { isOpen = given .isOpen; within = x .low }) clients-fit in
-        carried-answered _ written (x .carries) (k .keeps)
+        carried-answered _ written none (x .carries) (k .keeps)
         (rw (x .unstored) (parts-view table values (r .state) refl (k .settings) ∙ client-view table s values (k .clients)))
         (rw (x .unstored) (rw (k .settings) (nor settings-fit fit)))
+        (x .unstored)
+        (k .settings)
 
     stored-answered : Settled.Sized (s .settings) → t ≤ latest
         → (k size written : ℕ) → Stores w n c t before mid values stored o k size written → Sets mid after s c t r k size written
-        → Answers table values before r stored after (conclude w n c t p o)
-    unfolding isUnfit
+        → Answers table (s .settings) values before t r stored after (conclude w n c t p o)
+    unfolding isUnfit areaWith settingsWith
     stored-answered z h k size written x y =
         let d = x .parameter .it .datainfo in
         let low : k < 64 = omega (arith, there-low (parameters w) k (x .parameter) (x .there), accepted table (given .lent .accepted) .few) in
         let short = short-stored d (x .text) (x .fits) in
         let long = some-stored d (x .text) (x .fits) in
-        let settings : r .state .settings ≡ Settled.withSetting (s .settings) k (length (x .text)) t = rw (← (x .long)) (y .settings) in
+        let settings : r .state .settings ≡ withLength (s .settings) k (length (x .text)) t = rw (← (x .long)) (y .settings) in
         let same = parts-view table (withStored values k (x .text)) (r .state) (y .clients) settings in
-        carried-answered _ written (x .carries) (y .keeps)
+        carried-answered _ written (some (k, x .text)) (x .carries) (y .keeps)
         (rw (x .area) (same ∙ value-view table s z values (given .area) k low (x .text) long short t settings-fit (x .parameter) (x .there)))
         (rw (x .area, settings, y .clients)
         (nor (stored-fit (s .settings) z values (given .area) k low (x .text) long short t (parameters w) settings-fit (x .parameter) (x .there) (x .fits) h) clients-fit))
+        (x .area)
+        settings
 
     answered : Settled.Sized (s .settings) → t ≤ latest
         → (came : Outcome) → OutcomeIs w n c t before mid values stored came o → Concludes mid after s c t r (p .action) (p .specifier) came
-        → Answers table values before r stored after (conclude w n c t p o)
+        → Answers table (s .settings) values before t r stored after (conclude w n c t p o)
     answered z h (Refused e) x k = refused-answered e x k
     answered z h (Sent written) x k = sent-answered written x k
     answered z h (Active mask written) x k = active-answered mask written x k
@@ -156,7 +165,7 @@ module _ (table : List ℕ) (s : State) (values before : List ℕ) (c t : ℕ) (
   pub bad-answered :
       (xs : List ℕ) → content (whole xs) ≡ [] → (after : List ℕ) (r : Answered) → r .state ≡ s
       → Puts before 0 (encode (final c (error [] [] (classOf ProtocolError)))) after (r .written)
-      → Answers table values before r values after (answerParts w n c t (partsOf (content (whole xs))))
+      → Answers table (s .settings) values before t r values after (answerParts w n c t (partsOf (content (whole xs))))
   unfolding answerParts partsOf beforeSpace afterSpace takeWhile dropWhile tail request same bytes outcome
   bad-answered xs e after r same puts = rw e (error-answered (record { action = []; specifier = []; payload = [] }) after r ProtocolError same puts)
 
@@ -181,7 +190,7 @@ module _ (table : List ℕ) (s : State) (values before : List ℕ) (c t : ℕ) (
         → (mid stored after : List ℕ) (came : Outcome) (r : Answered)
         → Comes table s values before c t came stored mid (meaning xs (part xs p) (part xs d) asked)
         → Concludes mid after s c t r (part xs a) (part xs p) came
-        → Answers table values before r stored after (answerParts w n c t (partsOf (content (whole xs))))
+        → Answers table (s .settings) values before t r stored after (answerParts w n c t (partsOf (content (whole xs))))
     unfolding answerParts
     line-answered asked k z l mid stored after came r x y =
         answered (partsOf (content (whole xs))) mid stored (outcome w n c t (request (partsOf (content (whole xs))))) after r z l came

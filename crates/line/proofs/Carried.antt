@@ -31,7 +31,7 @@ use Rattle.state.specs.Fit.{pastLast, isUnfit, settingsUnfit}
 use Rattle.state.proofs.Flags.{neither}
 use Rattle.state.proofs.Kept.{each-fit}
 use Rattle.state.proofs.Cells.{fit-at}
-use Rattle.outcome.specs.Area.{withSetting}
+use Rattle.outcome.specs.Setting.{settingIn}
 use Rattle.outcome.specs.Outcome.{Sends, ComesAtAny}
 use Rattle.outcome.specs.Ready.{Ready}
 use Rattle.outcome.specs.declared.Outcome.the-variants.{Sent}
@@ -63,7 +63,7 @@ part-short xs p w h = let i = w .within in rw length-take (omega arith)
 module _ {before after : List ℕ} {c written : ℕ} where
   pub sends : (w : Table) (n : Node) (t : ℕ) (values : List ℕ) (o : Plain.Outcome) (r : Reply) → o ≡ carried n [] r
       → Puts before 0 (encode (final c r)) after written → Sends w n c t before after values values o written
-  unfolding withSetting
+  unfolding settingIn
   sends w n t values o r e x =
       record {
         carries = record {
@@ -71,7 +71,7 @@ module _ {before after : List ℕ} {c written : ℕ} where
           reply = r;
           is = e;
           puts = puts-after [] (final c r) before before 0 (puts-none before) after written x;
-          area = refl;
+          sets = refl;
         };
         unstored = refl;
       }

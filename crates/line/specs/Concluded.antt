@@ -3,7 +3,7 @@
 use Prim.Native.Nat.{ℕ, _≤_, _<_}
 use mathlib.Core.Path.{_≡_}
 use mathlib.Core.List.{List}
-use lib.ListN.{length, set}
+use lib.ListN.{length}
 use Rattle.ascii.specs.Writer.{Puts}
 use Rattle.message.specs.Reply.{error}
 use Rattle.message.specs.Said.{classOf}
@@ -11,7 +11,7 @@ use Rattle.message.specs.declared.say.Class.{Class}
 use Rattle.outbox.specs.Outbox.{final, encode}
 use Rattle.plain.specs.Node.{activated}
 use Rattle.state.specs.declared.State.{State}
-use Rattle.state.specs.View.{bit, clientAt}
+use Rattle.state.specs.View.{bit, clientAt, withLength}
 use Rattle.state.specs.Becomes.{Becomes, Activatable}
 use Rattle.outcome.specs.declared.Outcome.{Outcome}
 use Rattle.outcome.specs.declared.Outcome.the-variants.{Refused, Sent, Active, Stored}
@@ -57,7 +57,7 @@ module _ (before after : List ℕ) (s : State) (c t : ℕ) (r : Answered) where
   pub record Sets (k size written : ℕ) : Type 0 where
     pub keeps : Keeps written
     pub clients : r .state .clients ≡ s .clients
-    pub settings : r .state .settings ≡ record { length = set (s .settings .length) k size; time = set (s .settings .time) k t }
+    pub settings : r .state .settings ≡ withLength (s .settings) k size t
 
   abbrev pub Concludes : List ℕ → List ℕ → Outcome → Type 0
   Concludes action specifier (Refused e) = Denies action specifier e

@@ -35,7 +35,7 @@ pub fn answer_line(
     line: &[u8],
 ) -> Answered
     requires { ⌜ Ready (now table) state (now values) (now out) client × ((time ≤ latest) × (length (now line) ≤ 1024)) ⌝ }
-    ensures { λ r. ⌜ Answers (now (table .entry)) (now (values .entry)) (now (out .entry)) r (now (values .exit)) (now (out .exit)) (answerParts (tableOf (now (table .entry))) (view (now (table .entry)) state (now (values .entry))) client time (partsOf (content (whole (now (line .entry)))))) ⌝ }
+    ensures { λ r. ⌜ Answers (now (table .entry)) (state .settings) (now (values .entry)) (now (out .entry)) time r (now (values .exit)) (now (out .exit)) (answerParts (tableOf (now (table .entry))) (view (now (table .entry)) state (now (values .entry))) client time (partsOf (content (whole (now (line .entry)))))) ⌝ }
 {
     let Parsed::Line {
         action,

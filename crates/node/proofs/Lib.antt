@@ -1,10 +1,8 @@
 pub mod Begun
-pub mod Feeds
 pub mod Lent
 pub mod Opens
 pub mod Reading
 pub mod Refused
 pub mod Shows
 pub mod Taken
-pub mod Takes
 pub mod Ties

@@ -1,5 +1,6 @@
 -- An open and a close, one law for each way through the code. Assumes nothing.
 use Prim.Native.Nat.{ℕ, _≤_, _<_}
+use native.Mathlib.Omega.{arith}
 use borrow.Author.Tests.{lt-ltb, le-ltb, not-true, not-false}
 use mathlib.Core.Bool.{Bool, true, false, not}
 use mathlib.Core.List.{List, []}
@@ -89,6 +90,7 @@ module _ (table : List ℕ) (s : State) (values : List ℕ) (c t : ℕ) where
             subst (Answers opening) (sym q)
             (accepts table s values opening [] (record { number = 0; used = 0; written = 0; state = next x }) values []
             (not-refused table s values [] opening numbered-open lent ok (not-high h) (ap (fault 13) (is-open judged y)))
+            (omega arith)
             (opens table s values (fit lent ok) c t x d))
 
         pub close-good : {x : Clients} → not b ≡ false → Becomes (s .clients) c closed Always x → Quiet r 0 (next x) → Answers closing r
@@ -96,4 +98,5 @@ module _ (table : List ℕ) (s : State) (values : List ℕ) (c t : ℕ) where
             subst (Answers closing) (sym q)
             (accepts table s values closing [] (record { number = 0; used = 0; written = 0; state = next x }) values []
             (not-refused table s values [] closing numbered-close lent ok (not-high h) (ap (λ (z : Bool). fault 12 (not z)) (is-open judged (not-false b y))))
+            (omega arith)
             (closes table s values (fit lent ok) c t x d))

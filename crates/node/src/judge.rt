@@ -7,7 +7,7 @@ ghost use mathlib.Core.Path.{_≡_};
 ghost use Rattle.promise.specs.Lent.{lentNumber};
 
 // An answer that uses 0 bytes and writes 0.
-pub fn quiet(number: u8, state: State) -> Done
+pub(crate) fn quiet(number: u8, state: State) -> Done
     ensures { λ r. ⌜ r ≡ record { number = number; used = 0; written = 0; state = state } ⌝ }
 {
     Done {
@@ -20,7 +20,7 @@ pub fn quiet(number: u8, state: State) -> Done
 
 // The lowest number of what every call judges: the table, the outbox (32,768 where a call is lent none), the values area, the state and
 // the time.
-pub fn lent_number(table: &[u8], values: &[u8], outbox: usize, state: State, time: u64) -> u8
+pub(crate) fn lent_number(table: &[u8], values: &[u8], outbox: usize, state: State, time: u64) -> u8
     ensures { λ r. ⌜ r ≡ lentNumber (now (table .entry)) (now (values .entry)) outbox state time ⌝ }
 {
     let number = table_number(table);

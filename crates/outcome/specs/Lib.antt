@@ -1,3 +1,3 @@
-pub mod Area
+pub mod Setting
 pub mod Outcome
 pub mod Ready

@@ -2,7 +2,7 @@
 use Prim.Native.Nat.{ℕ}
 use mathlib.Core.Bool.{true, false}
 use mathlib.Core.List.{List, [], _∷_, _++_}
-use mathlib.Core.Option.{some}
+use mathlib.Core.Option.{Option, none, some}
 use mathlib.Core.Path.{_≡_}
 use lib.ListN.{length, getElem?}
 use Rattle.ascii.specs.Writer.{Puts}
@@ -17,10 +17,11 @@ use Rattle.plain.specs.Node.{Node, withClient, withValue, isActive, activated}
 use Rattle.plain.specs.Answer as Plain
 use Rattle.plain.specs.Answer.{refused, carried, outcome}
 use Rattle.message.specs.Request.{Request}
+use Rattle.state.specs.declared.Settings.{Settings}
 use Rattle.state.specs.declared.State.{State}
 use Rattle.state.specs.View.{bit, view, withStored}
 use Rattle.state.specs.Fit.{isUnfit, pastLast}
-use Rattle.outcome.specs.Area.{withSetting}
+use Rattle.outcome.specs.Setting.{Setting, settingIn, areaWith, settingsWith}
 use Rattle.outcome.specs.declared.Outcome.{Outcome}
 use Rattle.outcome.specs.declared.Outcome.the-variants.{Refused, Sent, Active, Stored}
 use Rattle.outcome.specs.declared.Answered.{Answered}
@@ -28,13 +29,13 @@ use Rattle.outcome.specs.declared.Answered.{Answered}
 -- On the table w, at the plain node n, for client c at the time t: the outbox held `before` and holds `after`, the values area held `values` and
 -- holds `stored`.
 module _ (w : Table) (n : Node) (c t : ℕ) (before after values stored : List ℕ) where
-  -- the request o is carried out: the node becomes `next`, and so many bytes are written
-  pub record Carries (o : Plain.Outcome) (next : Node) (written : ℕ) : Type 0 where
+  -- the request o is carried out: the node becomes `next`, so many bytes are written, and this is set
+  pub record Carries (o : Plain.Outcome) (next : Node) (written : ℕ) (set : Option Setting) : Type 0 where
     pub records : List Record
     pub reply : Reply
     pub is : o ≡ carried next records reply
     pub puts : Puts before 0 (encodeAll (records ++ (final c reply ∷ []))) after written
-    pub area : stored ≡ withSetting values (records ++ (final c reply ∷ []))
+    pub sets : settingIn (records ++ (final c reply ∷ [])) ≡ set
 
   -- the request o is refused, and nothing is altered
   pub record Refuses (o : Plain.Outcome) (e : Plain.Outcome) : Type 0 where
@@ -44,12 +45,12 @@ module _ (w : Table) (n : Node) (c t : ℕ) (before after values stored : List �
 
   -- the request o is answered, and alters nothing
   pub record Sends (o : Plain.Outcome) (written : ℕ) : Type 0 where
-    pub carries : Carries o n written
+    pub carries : Carries o n written none
     pub unstored : stored ≡ values
 
   -- client c's active modules become those of a mask, of which none is past the last
   pub record Activates (o : Plain.Outcome) (mask written : ℕ) : Type 0 where
-    pub carries : Carries o (withClient n c (activated (bit mask) (n .clients c))) written
+    pub carries : Carries o (withClient n c (activated (bit mask) (n .clients c))) written none
     pub unstored : stored ≡ values
     pub low : pastLast mask (length (w .modules)) ≡ false
 
@@ -60,7 +61,7 @@ module _ (w : Table) (n : Node) (c t : ℕ) (before after values stored : List �
     pub there : getElem? (parameters w) p ≡ some parameter
     pub fits : isStored (parameter .it .datainfo) text ≡ true
     pub long : size ≡ length text
-    pub carries : Carries o (withValue n p (record { text = text; time = t })) written
+    pub carries : Carries o (withValue n p (record { text = text; time = t })) written (some (p, text))
     pub area : stored ≡ withStored values p text
 
   -- the code's outcome r stands for the plain node's outcome o
@@ -87,9 +88,11 @@ abbrev pub ComesWith : ℕ → List ℕ → List ℕ → ℕ → ℕ → Outcome
 ComesWith mask table before c t r after q = (n : Node) (values : List ℕ) → ((i : ℕ) → isActive (n .clients c) i ≡ bit mask i)
     → OutcomeIs (tableOf table) n c t before after values values r (outcome (tableOf table) n c t q)
 
--- A line is answered as the plain node has it, o: on the table's bytes, by the state r, from the values area and the outbox as they were.
-pub record Answers (table values before : List ℕ) (r : Answered) (stored after : List ℕ) (o : Node × List Record) : Type 0 where
+-- A line is answered at the time t as the plain node has it, o: on the table's bytes, from the settings, the values area and the outbox as
+-- they were.
+pub record Answers (table : List ℕ) (s : Settings) (values before : List ℕ) (t : ℕ) (r : Answered) (stored after : List ℕ) (o : Node × List Record) : Type 0 where
   pub node : view table (r .state) stored ≡ o .0
   pub fit : isUnfit (tableOf table) (r .state) stored ≡ false
   pub puts : Puts before 0 (encodeAll (o .1)) after (r .written)
-  pub area : stored ≡ withSetting values (o .1)
+  pub area : stored ≡ areaWith values (settingIn (o .1))
+  pub settings : r .state .settings ≡ settingsWith s t (settingIn (o .1))

@@ -4,6 +4,7 @@ use native.Mathlib.Omega.{arith}
 use native.Mathlib.Nat.{add-zero}
 use mathlib.Core.Bool.{Bool, true, false, cond, _||_, true≢false}
 use mathlib.Core.List.{List, [], _∷_}
+use mathlib.Core.Option.{none}
 use mathlib.Core.Path.{_≡_, refl, sym, ap, _∙_}
 use lib.Dec.{eqb}
 use lib.ListN.{length, take}
@@ -22,9 +23,9 @@ use Rattle.state.specs.Becomes.{Becomes, Always, Joinable}
 use Rattle.state.proofs.Flags.{neither}
 use Rattle.state.proofs.Kept.{still-fit}
 use Rattle.state.proofs.Views.{client-view}
-use Rattle.outcome.specs.Area.{withSetting}
+use Rattle.outcome.specs.Setting.{settingIn, areaWith, settingsWith}
 use Rattle.promise.specs.declared.Done.{Done}
-use Rattle.promise.specs.Promise.{areaOf}
+use Rattle.promise.specs.Promise.{setBy, timeOf}
 use Rattle.promise.specs.Leaves.{Leaves}
 
 -- ## Fitness
@@ -106,16 +107,17 @@ module _ (table : List ℕ) (s : State) (values : List ℕ) (fit : isUnfit (tabl
   quiet : (e : Call) (x : Client) (u : ℕ) (condition : ℕ → Type 0) → Becomes (s .clients) c x condition r
       → condition (length (tableOf table .modules))
       → effect (tableOf table) (view table s values) e ≡ record { next = withClient (view table s values) c x; used = u; records = [] }
-      → areaOf values e [] ≡ values → (outbox : List ℕ)
+      → setBy e [] ≡ none → (outbox : List ℕ)
       → Leaves table s values e outbox (record { number = 0; used = u; written = 0; state = next }) values outbox
-  unfolding written outboxAfter encodeAll
+  unfolding written outboxAfter encodeAll areaWith settingsWith
   quiet e x u condition b h f g outbox =
       record {
         number = refl;
         used = ap (λ (y : Effect). y .used) (sym f);
         writes = ap (λ (y : Effect). written (y .records)) (sym f);
         sends = ap (λ (y : Effect). outboxAfter outbox (y .records)) (sym f);
-        area = sym g ∙ ap (λ (y : Effect). areaOf values e (y .records)) (sym f);
+        area = ap (areaWith values) (sym g ∙ ap (λ (y : Effect). setBy e (y .records)) (sym f));
+        settings = ap (settingsWith (s .settings) (timeOf e)) (sym g ∙ ap (λ (y : Effect). setBy e (y .records)) (sym f));
         node = client-view table s values b ∙ ap (λ (y : Effect). y .next) (sym f);
         fit = with-clients (tableOf table) s values r fit
             (still-fit (length (tableOf table .modules)) b h (fit-parts (tableOf table) s values fit .1));
@@ -123,22 +125,22 @@ module _ (table : List ℕ) (s : State) (values : List ℕ) (fit : isUnfit (tabl
 
   pub opens : Becomes (s .clients) c fresh Always r
       → Leaves table s values (Open c t (length values)) [] (record { number = 0; used = 0; written = 0; state = next }) values []
-  unfolding effect areaOf
+  unfolding effect setBy
   opens b = quiet (Open c t (length values)) fresh 0 Always b tt refl refl []
 
   pub closes : Becomes (s .clients) c closed Always r
       → Leaves table s values (Close c t (length values)) [] (record { number = 0; used = 0; written = 0; state = next }) values []
-  unfolding effect areaOf
+  unfolding effect setBy
   closes b = quiet (Close c t (length values)) closed 0 Always b tt refl refl []
 
   pub joins : (bs outbox : List ℕ) → isSet (s .clients .open) c ≡ true → hasFeed bs ≡ false
       → Becomes (s .clients) c (receive (clientAt (s .clients) c) (beforeFeed bs)) (Joinable (s .clients) c (beforeFeed bs)) r
       → Leaves table s values (Piece c bs t (length values) (length outbox)) outbox
       (record { number = 0; used = length (beforeFeed bs); written = 0; state = next }) values outbox
-  unfolding effect areaOf pieceEffect usedOf ended view
+  unfolding effect setBy pieceEffect usedOf ended view
   joins bs outbox o f b =
       quiet (Piece c bs t (length values) (length outbox)) (receive (clientAt (s .clients) c) (beforeFeed bs)) (length (beforeFeed bs)) (Joinable (s .clients) c (beforeFeed bs)) b
       (record { isOpen = o; noFeed = no-feed-before bs })
       (rw f (ap (λ (k : ℕ). record { next = withClient (view table s values) c (receive (clientAt (s .clients) c) (beforeFeed bs)); used = k; records = [] }) (add-zero (length (beforeFeed bs)))))
-      (unfold withSetting in refl)
+      (unfold settingIn in refl)
       outbox

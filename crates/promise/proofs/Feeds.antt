@@ -21,11 +21,11 @@ use Rattle.state.specs.View.{isSet, lineBytes, lineAt, clientAt, view, outboxAf
 use Rattle.state.specs.Fit.{clientUnfit, isUnfit}
 use Rattle.state.specs.Becomes.{Becomes, Always, Joinable}
 use Rattle.state.proofs.Views.{client-view}
-use Rattle.outcome.specs.Area.{withSetting}
+use Rattle.outcome.specs.Setting.{settingIn, areaWith, settingsWith}
 use Rattle.outcome.specs.declared.Answered.{Answered}
 use Rattle.outcome.specs.Outcome.{Answers}
 use Rattle.promise.specs.declared.Done.{Done}
-use Rattle.promise.specs.Promise.{areaOf}
+use Rattle.promise.specs.Promise.{setBy, timeOf}
 use Rattle.promise.specs.Leaves.{Leaves}
 
 -- a client inside an overlong line keeps no bytes of it, and an overlong line says what an empty one does
@@ -63,21 +63,22 @@ module _ (table : List ℕ) (s : State) (values outbox : List ℕ) (c t : ℕ) (
   pub feeds : (bs : List ℕ) (condition : ℕ → Type 0) → hasFeed bs ≡ true
       → Becomes (s .clients) c (receive (clientAt (s .clients) c) (beforeFeed bs)) condition r
       → (a : Answered) (values′ outbox′ : List ℕ)
-      → Answers table values outbox a values′ outbox′ (answer (tableOf table) (view table (record { clients = r; settings = s .settings }) values) c t)
+      → Answers table (s .settings) values outbox t a values′ outbox′ (answer (tableOf table) (view table (record { clients = r; settings = s .settings }) values) c t)
       → Leaves table s values (Piece c bs t (length values) (length outbox)) outbox
       (record { number = 0; used = length (beforeFeed bs) + 1; written = a .written; state = a .state }) values′ outbox′
-  unfolding areaOf outboxAfter written view
+  unfolding setBy timeOf outboxAfter written view
   feeds bs condition f b a values′ outbox′ x =
       let n = view table s values in
       let g = sym (fed bs n f) in
-      let y = subst (λ (m : Node). Answers table values outbox a values′ outbox′ (answer (tableOf table) m c t)) (client-view table s values b) x in
+      let y = subst (λ (m : Node). Answers table (s .settings) values outbox t a values′ outbox′ (answer (tableOf table) m c t)) (client-view table s values b) x in
       let m = withClient n c (receive (clientAt (s .clients) c) (beforeFeed bs)) in
       record {
         number = refl;
         used = ap (λ (z : Effect). z .used) g;
         writes = y .puts .ends ∙ zero-add _ ∙ ap (λ (z : Effect). written (z .records)) g;
         sends = y .puts .is ∙ ap (λ (z : Effect). outboxAfter outbox (z .records)) g;
-        area = y .area ∙ ap (λ (z : Effect). withSetting values (z .records)) g;
+        area = y .area ∙ ap (λ (z : Effect). areaWith values (settingIn (z .records))) g;
+        settings = y .settings ∙ ap (λ (z : Effect). settingsWith (s .settings) t (settingIn (z .records))) g;
         node = y .node ∙ ap (λ (z : Effect). z .next) g;
         fit = y .fit;
       }

@@ -1,8 +1,9 @@
 -- What the five calls promise, for all inputs and all refusals, by the plain node's own step. Assumes nothing.
-use Prim.Native.Nat.{ℕ}
+use Prim.Native.Nat.{ℕ, _≤_}
 use mathlib.Core.Bool.{false, cond}
 use mathlib.Core.List.{List}
 use mathlib.Core.Logic.{_≢_}
+use mathlib.Core.Option.{Option, none, some}
 use mathlib.Core.Path.{_≡_}
 use lib.Dec.{eqb}
 use lib.ListN.{length, replicate}
@@ -12,9 +13,9 @@ use Rattle.outbox.specs.Outbox.{Record}
 use Rattle.plain.specs.Node.{Node}
 use Rattle.plain.specs.Calls.{Call, Open, Close, Piece, Reading, Answer, startNumber, started, stepIf}
 use Rattle.state.specs.declared.State.{State}
-use Rattle.state.specs.View.{view, withStored, outboxAfter, written}
+use Rattle.state.specs.View.{view, outboxAfter, written}
 use Rattle.state.specs.Fit.{isUnfit}
-use Rattle.outcome.specs.Area.{withSetting}
+use Rattle.outcome.specs.Setting.{Setting, settingIn, areaWith, settingsWith}
 use Rattle.promise.specs.declared.Done.{Done}
 
 -- ## After a start
@@ -23,27 +24,35 @@ use Rattle.promise.specs.declared.Done.{Done}
 abbrev pub stepFrom : List ℕ → State → List ℕ → Call → Node × Answer
 stepFrom table s values e = stepIf table (isUnfit (tableOf table) s values) (view table s values) e
 
--- "An accepted setting writes its stored form at the front of them and no other byte.": the values area after an accepted call that
--- wrote these records
-unfoldable pub areaOf : List ℕ → Call → List Record → List ℕ
-areaOf values (Open c t a) rs = values
-areaOf values (Close c t a) rs = values
-areaOf values (Piece c bs t a o) rs = withSetting values rs
-areaOf values (Reading p bs t a o) rs = withStored values p (storedForm bs)
+-- what an accepted call sets that wrote these records: a line that changes a parameter, or a reading
+unfoldable pub setBy : Call → List Record → Option Setting
+setBy (Open c t a) rs = none
+setBy (Close c t a) rs = none
+setBy (Piece c bs t a o) rs = settingIn rs
+setBy (Reading p bs t a o) rs = some (p, storedForm bs)
 
--- a refused call leaves it as it was
-unfoldable pub areaAfter : List ℕ → Call → Answer → List ℕ
-areaAfter values e a = cond (eqb (a .number) 0) (areaOf values e (a .records)) values
+-- a refused call sets nothing
+unfoldable pub setting : Call → Answer → Option Setting
+setting e a = cond (eqb (a .number) 0) (setBy e (a .records)) none
 
--- What the call e promises: handed the state s, the values area and the outbox, it answers r, and leaves values′ and outbox′. Left free of a
--- state are the bytes of a line's place past the line, what stands for "yes" in a flag, what is past the last parameter, and whether a
--- parameter that shows its initial value has it stored or was never set.
+-- the time that a call is given
+unfoldable pub timeOf : Call → ℕ
+timeOf (Open c t a) = t
+timeOf (Close c t a) = t
+timeOf (Piece c bs t a o) = t
+timeOf (Reading p bs t a o) = t
+
+-- What the call e promises: handed the state s, the values area and the outbox, it answers r, and leaves values′ and outbox′. Of the next
+-- state two things are left free: the bytes of a line's place past the line, and what stands for "yes" in a flag.
 pub record Kept (table : List ℕ) (e : Call) (s : State) (values outbox : List ℕ) (r : Done) (values′ outbox′ : List ℕ) : Type 0 where
   pub number : r .number ≡ stepFrom table s values e .1 .number
   pub used : r .used ≡ stepFrom table s values e .1 .used
   pub writes : r .written ≡ written (stepFrom table s values e .1 .records)
   pub sends : outbox′ ≡ outboxAfter outbox (stepFrom table s values e .1 .records)
-  pub area : values′ ≡ areaAfter values e (stepFrom table s values e .1)
+  -- "No accepted call writes more than 32,019 bytes."
+  pub short : r .written ≤ 32019
+  pub area : values′ ≡ areaWith values (setting e (stepFrom table s values e .1))
+  pub settings : r .state .settings ≡ settingsWith (s .settings) (timeOf e) (setting e (stepFrom table s values e .1))
   pub node : view table (r .state) values′ ≡ stepFrom table s values e .0
   pub fit : r .number ≡ 0 → isUnfit (tableOf table) (r .state) values′ ≡ false
   pub refused : r .number ≢ 0 → r .state ≡ s

@@ -22,7 +22,7 @@ use Rattle.table.specs.At.{bytesOf}
 use Rattle.table.proofs.Accessibles.{in-some}
 use Rattle.plain.specs.Node.{put}
 use Rattle.state.specs.declared.Settings.{Settings}
-use Rattle.state.specs.View.{placeOf, storedText, shown, valueAt, withStored}
+use Rattle.state.specs.View.{placeOf, storedText, shown, valueAt, withStored, withLength}
 use Rattle.state.specs.Fit.{settingUnfit, settingsUnfit}
 use Rattle.state.proofs.Flags.{neither, nor}
 use Rattle.state.proofs.Areas.{other-value, written}
@@ -95,9 +95,6 @@ pub record Sized (s : Settings) : Type 0 where
   pub size : length (s .length) ≡ 64
   pub time : length (s .time) ≡ 64
 
-abbrev pub withSetting : Settings → ℕ → ℕ → ℕ → Settings
-withSetting s k size time = record { length = set (s .length) k size; time = set (s .time) k time }
-
 module _ (s : Settings) (z : Sized s) (values : List ℕ) (room : 16384 ≤ length values) (k : ℕ) (h : k < 64) (text : List ℕ) (some-bytes : 0 < length text) (short : length text ≤ 256) (time : ℕ) where
   lengths : Changed (s .length) (set (s .length) k (length text)) k (length text)
   lengths = changed (s .length) k (length text) (rw (z .size) h)
@@ -105,57 +102,57 @@ module _ (s : Settings) (z : Sized s) (values : List ℕ) (room : 16384 ≤ leng
   times : Changed (s .time) (set (s .time) k time) k time
   times = changed (s .time) k time (rw (z .time) h)
 
-  own-text : storedText (withSetting s k (length text) time) (withStored values k text) k ≡ text
+  own-text : storedText (withLength s k (length text) time) (withStored values k text) k ≡ text
   unfolding storedText withStored
   own-text =
       let e = written text values (256 * k) 0 (omega arith) in
       rw (lengths .own) (rw (add-zero, zero-add) at e)
 
-  other-text : (p : ℕ) → (p ≡ k → ⊥) → getD (s .length) p 0 ≤ 256 → storedText (withSetting s k (length text) time) (withStored values k text) p ≡ storedText s values p
+  other-text : (p : ℕ) → (p ≡ k → ⊥) → getD (s .length) p 0 ≤ 256 → storedText (withLength s k (length text) time) (withStored values k text) p ≡ storedText s values p
   unfolding storedText withStored
   other-text p n l =
       let e = other-value text values k 0 p (getD (s .length) p 0) n (omega arith) l in
       rw (lengths .others p n) (rw add-zero at e)
 
   -- the value that is shown, and the others
-  own-value : (table : List ℕ) (x : Placed Parameter) → valueAt table (withSetting s k (length text) time) (withStored values k text) k (some x) ≡ record { text = text; time = time }
+  own-value : (table : List ℕ) (x : Placed Parameter) → valueAt table (withLength s k (length text) time) (withStored values k text) k (some x) ≡ record { text = text; time = time }
   unfolding valueAt shown
   own-value table x = rw (lengths .own, ne-eqb (length text) 0 (λ e. omega arith), own-text, times .own)
 
-  other-value-at : (table : List ℕ) (p : ℕ) (x : Placed Parameter) → (p ≡ k → ⊥) → getD (s .length) p 0 ≤ 256 → valueAt table (withSetting s k (length text) time) (withStored values k text) p (some x) ≡ valueAt table s values p (some x)
+  other-value-at : (table : List ℕ) (p : ℕ) (x : Placed Parameter) → (p ≡ k → ⊥) → getD (s .length) p 0 ≤ 256 → valueAt table (withLength s k (length text) time) (withStored values k text) p (some x) ≡ valueAt table s values p (some x)
   unfolding valueAt shown
   other-value-at table p x n l = rw (lengths .others p n, other-text p n l, times .others p n)
 
   module _ (ps : List (Placed Parameter)) (fit : settingsUnfit s values 0 ps ≡ false) (x : Placed Parameter) (at : getElem? ps k ≡ some x) where
     -- the values of the plain node that the state stands for
     pub stored-view : (table : List ℕ) (p : ℕ)
-        → valueAt table (withSetting s k (length text) time) (withStored values k text) p (getElem? ps p)
+        → valueAt table (withLength s k (length text) time) (withStored values k text) p (getElem? ps p)
         ≡ put (λ q. valueAt table s values q (getElem? ps q)) k (record { text = text; time = time }) p
     unfolding put valueAt
     stored-view table p = go (eqb p k) (eqb-true p k) (eqb-false p k)
       where
-        other : (p ≡ k → ⊥) → (o : Option (Placed Parameter)) → getElem? ps p ≡ o → valueAt table (withSetting s k (length text) time) (withStored values k text) p o ≡ valueAt table s values p o
+        other : (p ≡ k → ⊥) → (o : Option (Placed Parameter)) → getElem? ps p ≡ o → valueAt table (withLength s k (length text) time) (withStored values k text) p o ≡ valueAt table s values p o
         other n none e = refl
         other n (some y) e = other-value-at table p y n (fit-parts s values p y (each-fit s values ps fit p y e) .short)
 
         go : (t : Bool) → (t ≡ true → p ≡ k) → (t ≡ false → p ≡ k → ⊥)
-            → valueAt table (withSetting s k (length text) time) (withStored values k text) p (getElem? ps p)
+            → valueAt table (withLength s k (length text) time) (withStored values k text) p (getElem? ps p)
             ≡ cond t (record { text = text; time = time }) (valueAt table s values p (getElem? ps p))
         go true a b = rw (a refl, at) (own-value table x)
         go false a b = other (b refl) (getElem? ps p) refl
 
-    pub stored-fit : isStored (x .it .datainfo) text ≡ true → time ≤ latest → settingsUnfit (withSetting s k (length text) time) (withStored values k text) 0 ps ≡ false
+    pub stored-fit : isStored (x .it .datainfo) text ≡ true → time ≤ latest → settingsUnfit (withLength s k (length text) time) (withStored values k text) 0 ps ≡ false
     unfolding settingUnfit
-    stored-fit st tm = all-fit (withSetting s k (length text) time) (withStored values k text) ps (λ p y e. go p y e (eqb p k) (eqb-true p k) (eqb-false p k))
+    stored-fit st tm = all-fit (withLength s k (length text) time) (withStored values k text) ps (λ p y e. go p y e (eqb p k) (eqb-true p k) (eqb-false p k))
       where
-        own : FitAt (withSetting s k (length text) time) (withStored values k text) k x
+        own : FitAt (withLength s k (length text) time) (withStored values k text) k x
         own = rw (lengths .own, own-text, times .own, st, le-ltb 256 (length text) short, le-ltb latest time tm, ne-eqb (length text) 0 (λ e. omega arith))
 
-        go : (p : ℕ) (y : Placed Parameter) → getElem? ps p ≡ some y → (t : Bool) → (t ≡ true → p ≡ k) → (t ≡ false → p ≡ k → ⊥) → FitAt (withSetting s k (length text) time) (withStored values k text) p y
+        go : (p : ℕ) (y : Placed Parameter) → getElem? ps p ≡ some y → (t : Bool) → (t ≡ true → p ≡ k) → (t ≡ false → p ≡ k → ⊥) → FitAt (withLength s k (length text) time) (withStored values k text) p y
         go p y e true a b =
             let same : x ≡ y = in-some (sym at ∙ ap (getElem? ps) (sym (a refl)) ∙ e) in
-            subst (λ (q : ℕ). FitAt (withSetting s k (length text) time) (withStored values k text) q y) (sym (a refl))
-            (subst (FitAt (withSetting s k (length text) time) (withStored values k text) k) same own)
+            subst (λ (q : ℕ). FitAt (withLength s k (length text) time) (withStored values k text) q y) (sym (a refl))
+            (subst (FitAt (withLength s k (length text) time) (withStored values k text) k) same own)
         go p y e false a b =
             let old = each-fit s values ps fit p y e in
             let n = b refl in

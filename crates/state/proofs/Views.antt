@@ -14,10 +14,10 @@ use Rattle.sound.proofs.Lists.{there-low}
 use Rattle.state.specs.declared.Clients.{Clients}
 use Rattle.state.specs.declared.Settings.{Settings}
 use Rattle.state.specs.declared.State.{State}
-use Rattle.state.specs.View.{shown, valueAt, clientAt, view, withStored}
+use Rattle.state.specs.View.{shown, valueAt, clientAt, view, withStored, withLength}
 use Rattle.state.specs.Fit.{settingsUnfit}
 use Rattle.state.specs.Becomes.{Becomes}
-use Rattle.state.proofs.Settled.{Sized, withSetting, stored-view}
+use Rattle.state.proofs.Settled.{Sized, stored-view}
 
 -- one client becomes another
 pub client-view : (table : List ℕ) (s : State) (values : List ℕ) {r : Clients} {c : ℕ} {x : Client} {condition : ℕ → Type 0} → Becomes (s .clients) c x condition r
@@ -28,7 +28,7 @@ client-view table s values b = ap (λ (f : ℕ → Client). record { clients = f
 -- a value is stored
 module _ (table : List ℕ) (s : State) (z : Sized (s .settings)) (values : List ℕ) (room : 16384 ≤ length values) (k : ℕ) (h : k < 64) (text : List ℕ) (some-bytes : 0 < length text) (short : length text ≤ 256) (time : ℕ) where
   pub value-view : settingsUnfit (s .settings) values 0 (parameters (tableOf table)) ≡ false → (x : Placed Parameter) → getElem? (parameters (tableOf table)) k ≡ some x
-      → view table (record { clients = s .clients; settings = withSetting (s .settings) k (length text) time }) (withStored values k text)
+      → view table (record { clients = s .clients; settings = withLength (s .settings) k (length text) time }) (withStored values k text)
       ≡ withValue (view table s values) k (record { text = text; time = time })
   unfolding view
   value-view fit x at =

@@ -5,7 +5,7 @@ use mathlib.Core.Bool.{Bool, cond, not}
 use mathlib.Core.List.{List, []}
 use mathlib.Core.Option.{Option, none, some}
 use lib.Dec.{eqb}
-use lib.ListN.{length, getD, take, drop, getElem?}
+use lib.ListN.{length, getD, set, take, drop, getElem?}
 use lib.Seq.{sets}
 use Rattle.message.specs.Line.{Line, whole, overlong}
 use Rattle.table.specs.Table.{Parameter}
@@ -67,6 +67,10 @@ view table s values =
 -- "An accepted setting writes its stored form at the front of them and no other byte."
 unfoldable pub withStored : List ℕ → ℕ → List ℕ → List ℕ
 withStored values p text = sets values (placeOf p) text
+
+-- "A stored value carries the time of the event that set it.": lengths and times after parameter p was set to a value of so many bytes
+abbrev pub withLength : Settings → ℕ → ℕ → ℕ → Settings
+withLength s p size time = record { length = set (s .length) p size; time = set (s .time) p time }
 
 -- "An accepted call leaves outbox bytes past its written length untouched.": the outbox after a call that writes these records, and the
 -- written length

@@ -5,14 +5,14 @@ ghost use mathlib.Core.Path.{_≡_};
 ghost use mathlib.Core.Bool.{cond};
 ghost use Prim.Native.Nat.{_*_, _+_, _<_, _≤_};
 ghost use lib.Dec.{eqb};
-ghost use lib.ListN.{length, set, take, drop};
+ghost use lib.ListN.{length, take, drop};
 ghost use Rattle.table.specs.At.{bytesOf, Inside};
-ghost use Rattle.state.specs.View.{placeOf};
+ghost use Rattle.state.specs.View.{placeOf, withLength};
 
 // Parameter k has a stored value of so many bytes, from this time on.
 pub fn stored(s: Settings, k: usize, size: usize, time: u64) -> Settings
     requires { ⌜ (k < 64) × (size ≤ 256) ⌝ }
-    ensures { λ r. ⌜ r ≡ record { length = set (s .length) k size; time = set (s .time) k time } ⌝ }
+    ensures { λ r. ⌜ r ≡ withLength s k size time ⌝ }
 {
     let mut next = s;
     next.length[k] = size as u16;

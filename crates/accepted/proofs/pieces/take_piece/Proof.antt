@@ -1,11 +1,11 @@
--- `node::pieces::take_piece` meets its contract. Assumes nothing.
+-- `accepted::pieces::take_piece` meets its contract. Assumes nothing.
 use native.Mathlib.Omega.{arith}
 use borrow.Author.Needs.{needs}
 use Rattle.promise.proofs.Held.{lines-fit}
 use Rattle.switch.proofs.Switches.{clients-sized}
-use Rattle.node.proofs.Taken.{taken-length, piece-more, piece-joins, piece-held, piece-feeds}
-use Rattle.node.proofs.pieces.take_piece.Statement.{statement}
-use Rattle.node.proofs.pieces.take_piece.Tie as tie
+use Rattle.accepted.proofs.Joins.{taken-length, piece-more, piece-joins, piece-held, piece-feeds}
+use Rattle.accepted.proofs.pieces.take_piece.Statement.{statement}
+use Rattle.accepted.proofs.pieces.take_piece.Tie as tie
 
 feed-at-requires : tie.Need-feed-at-requires
 feed-at-requires c κs = search needs

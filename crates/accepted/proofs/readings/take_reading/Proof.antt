@@ -1,8 +1,8 @@
--- `node::readings::take_reading` meets its contract. Assumes nothing.
+-- `accepted::readings::take_reading` meets its contract. Assumes nothing.
 use borrow.Author.Needs.{needs}
-use Rattle.node.proofs.Takes.{settings-sized, read-start, read-room, read-size, is-taken}
-use Rattle.node.proofs.readings.take_reading.Statement.{statement}
-use Rattle.node.proofs.readings.take_reading.Tie as tie
+use Rattle.accepted.proofs.Takes.{settings-sized, read-start, read-room, read-size, is-taken}
+use Rattle.accepted.proofs.readings.take_reading.Statement.{statement}
+use Rattle.accepted.proofs.readings.take_reading.Tie as tie
 
 mul-at : tie.Need-mul-at
 mul-at c = search needs

@@ -1,11 +1,11 @@
--- `node::pieces::answer_held` meets its contract. Assumes nothing.
+-- `accepted::pieces::answer_held` meets its contract. Assumes nothing.
 use borrow.Author.Needs.{needs}
 use native.Mathlib.Omega.{arith}
 use Rattle.promise.proofs.Held.{line-short, emptied-ready}
 use Rattle.switch.proofs.Switches.{clients-sized}
-use Rattle.node.proofs.Taken.{held-short, held-answered}
-use Rattle.node.proofs.pieces.answer_held.Statement.{statement}
-use Rattle.node.proofs.pieces.answer_held.Tie as tie
+use Rattle.accepted.proofs.Joins.{held-short, held-answered}
+use Rattle.accepted.proofs.pieces.answer_held.Statement.{statement}
+use Rattle.accepted.proofs.pieces.answer_held.Tie as tie
 
 mul-size : tie.Need-mul-size
 mul-size c = search needs

@@ -1,13 +1,13 @@
--- `node::feed::feed_at` meets its contract. The loop's invariant: none of the first i bytes is a line feed. Assumes nothing.
+-- `accepted::feed::feed_at` meets its contract. The loop's invariant: none of the first i bytes is a line feed. Assumes nothing.
 use native.Mathlib.Omega.{arith}
 use mathlib.Core.Path.{_≡_, refl}
 use Prim.Native.Nat.{_+_, _-_, _≤_}
 use lib.ListN.{length, drop}
 use borrow.Author.Tests.{eq-eqb, ne-eqb}
 use Rattle.plain.specs.Calls.{beforeFeed}
-use Rattle.node.proofs.feed.feed_at.Statement.{statement}
-use Rattle.node.proofs.feed.feed_at.Tie as tie
-use Rattle.node.proofs.Feeds.{feed-found, feed-on, feed-none}
+use Rattle.accepted.proofs.feed.feed_at.Statement.{statement}
+use Rattle.accepted.proofs.feed.feed_at.Tie as tie
+use Rattle.accepted.proofs.Feeds.{feed-found, feed-on, feed-none}
 
 abbrev Inv-loop : tie.InvT-loop
 Inv-loop bytes i₀ i = (i ≤ length bytes) × (length (beforeFeed bytes) ≡ i + length (beforeFeed (drop i bytes)))

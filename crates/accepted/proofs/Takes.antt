@@ -7,7 +7,7 @@ use mathlib.Core.Bool.{true, false}
 use mathlib.Core.List.{List, map}
 use mathlib.Core.Option.{some}
 use mathlib.Core.Path.{_≡_, refl, sym, ap, _∙_}
-use lib.ListN.{length, set, take, drop, getElem?}
+use lib.ListN.{length, take, drop, getElem?}
 use Rattle.ascii.specs.Bytes.{any}
 use Rattle.ascii.specs.Writer.{Puts}
 use Rattle.json.specs.Compacted.{Compacted}
@@ -32,16 +32,17 @@ use Rattle.sound.proofs.Values.{stored, stored-short}
 use Rattle.sound.proofs.Records.{Fine, name-short, written-to}
 use Rattle.state.specs.declared.Settings.{Settings}
 use Rattle.state.specs.declared.State.{State}
-use Rattle.state.specs.View.{clientAt, view, withStored, outboxAfter, written}
+use Rattle.state.specs.View.{clientAt, view, withStored, withLength, outboxAfter, written}
 use Rattle.state.specs.Fit.{clientUnfit, settingsUnfit, isUnfit}
 use Rattle.state.proofs.Forms.{stands, put-stored}
-use Rattle.state.proofs.Settled.{Sized, withSetting, some-stored, stored-fit}
+use Rattle.state.proofs.Settled.{Sized, some-stored, stored-fit}
 use Rattle.state.proofs.Views.{value-view}
-use Rattle.promise.specs.Promise.{Kept, areaOf}
+use Rattle.outcome.specs.Setting.{areaWith, settingsWith}
+use Rattle.promise.specs.Promise.{Kept, setBy, timeOf}
 use Rattle.promise.proofs.Numbers.{Good, good, reading-number}
 use Rattle.promise.proofs.Answers.{accepts}
 use Rattle.promise.proofs.Clients.{fit-parts}
-use Rattle.node.specs.Taken.{Fitting}
+use Rattle.accepted.specs.Fitting.{Fitting}
 
 module _ (table : List ℕ) (s : State) (values outbox : List ℕ) (k t : ℕ) (bs : List ℕ) (q : ParameterAt) (e : Cursor) (g : Fitting table s values outbox k t bs q e) where
   abbrev w : Table
@@ -138,10 +139,10 @@ module _ (table : List ℕ) (s : State) (values outbox : List ℕ) (k t : ℕ) (
             ),
           )
 
-      module _ (z : Sized (s .settings)) (settings : Settings) (i : settings ≡ record { length = set (s .settings .length) k (r - 256 * k); time = set (s .settings .time) k t })
+      module _ (z : Sized (s .settings)) (settings : Settings) (i : settings ≡ withLength (s .settings) k (r - 256 * k) t)
           (outbox′ : List ℕ) (n : ℕ) (p : Puts outbox 0 (encodeAll sent) outbox′ n) where
-        next-is : settings ≡ withSetting (s .settings) k (length (storedForm bs)) t
-        next-is = i ∙ ap (λ (m : ℕ). withSetting (s .settings) k m t) size-is
+        next-is : settings ≡ withLength (s .settings) k (length (storedForm bs)) t
+        next-is = i ∙ ap (λ (m : ℕ). withLength (s .settings) k m t) size-is
 
         abbrev next : State
         next = record { clients = s .clients; settings = settings }
@@ -165,16 +166,19 @@ module _ (table : List ℕ) (s : State) (values outbox : List ℕ) (k t : ℕ) (
             (rw (stored-fit (s .settings) z values (lent-good .area) k (g .low) (storedForm bs) (some-stored (it .it .datainfo) (storedForm bs) is-stored) small t (parameters w) (fit .0) it there is-stored (lent-good .time), fit .1) refl)
 
         pub is-taken : Kept table (Reading k bs t (length values) (length outbox)) s values outbox (record { number = 0; used = 0; written = n; state = next }) after outbox′
-        unfolding written outboxAfter areaOf
+        unfolding written outboxAfter setBy timeOf areaWith settingsWith
         is-taken =
             let d = sym does in
-            accepts table s values (Reading k bs t (length values) (length outbox)) outbox (record { number = 0; used = 0; written = n; state = next }) after outbox′ is-number
+            let u = written-to (clientAt (s .clients)) (e .modules - 1) (told (storedForm bs)) (fine (storedForm bs) small) clientNumbers .short in
+            let end = puts .ends in
+            accepts table s values (Reading k bs t (length values) (length outbox)) outbox (record { number = 0; used = 0; written = n; state = next }) after outbox′ is-number (omega arith)
             (record {
               number = refl;
               used = ap (λ (y : Effect). y .used) d;
               writes = puts .ends ∙ zero-add _ ∙ ap (λ (y : Effect). written (y .records)) d;
               sends = puts .is ∙ ap (λ (y : Effect). outboxAfter outbox (y .records)) d;
               area = area-is;
+              settings = next-is;
               node = node-is ∙ ap (λ (y : Effect). y .next) d;
               fit = still-fit;
             })

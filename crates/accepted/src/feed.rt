@@ -5,7 +5,7 @@ ghost use lib.ListN.{length};
 ghost use Rattle.plain.specs.Calls.{beforeFeed};
 
 // How many bytes stand before the first line feed.
-pub fn feed_at(bytes: &[u8]) -> usize
+pub(crate) fn feed_at(bytes: &[u8]) -> usize
     ensures { λ r. ⌜ r ≡ length (beforeFeed (now (bytes .entry))) ⌝ }
 {
     let mut i = 0;
@@ -19,7 +19,7 @@ pub fn feed_at(bytes: &[u8]) -> usize
 }
 
 // The position after a line feed.
-pub fn past_feed(bytes: &[u8], at: usize) -> usize
+pub(crate) fn past_feed(bytes: &[u8], at: usize) -> usize
     requires { ⌜ at < length (now bytes) ⌝ }
     ensures { λ r. ⌜ r ≡ at + 1 ⌝ }
 {

@@ -1,0 +1,3 @@
+pub mod Feeds
+pub mod Joins
+pub mod Takes

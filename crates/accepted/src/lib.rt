@@ -1,0 +1,4 @@
+// What an accepted piece and an accepted reading do.
+mod feed;
+pub mod pieces;
+pub mod readings;

@@ -1,0 +1,54 @@
+// A reading that fits its parameter.
+use json::compact::put_compact;
+use promise::Done;
+use search::cursor::Cursor;
+use state::State;
+use state::setting::stored;
+use table::layout::ParameterAt;
+use update::bytes_of;
+use update::put_updates_to;
+ghost use lib.ListN.{length};
+ghost use Rattle.plain.specs.Calls.{Reading};
+ghost use Rattle.promise.specs.Promise.{Kept};
+ghost use Rattle.accepted.specs.Fitting.{Fitting};
+
+// "An accepted reading stores the value and sends the updates only.": parameter k, of which p has the positions; `home` is the cursor after
+// it, in its module.
+pub fn take_reading(
+    table: &[u8],
+    values: &mut [u8],
+    outbox: &mut [u8],
+    state: State,
+    k: usize,
+    time: u64,
+    bytes: &[u8],
+    p: ParameterAt,
+    home: Cursor,
+) -> Done
+    requires { ⌜ Fitting (now table) state (now values) (now outbox) k time (now bytes) p home ⌝ }
+    ensures { λ r. ⌜ Kept (now (table .entry)) (Reading k (now (bytes .entry)) time (length (now (values .entry))) (length (now (outbox .entry)))) state (now (values .entry)) (now (outbox .entry)) r (now (values .exit)) (now (outbox .exit)) ⌝ }
+{
+    let clients = state.clients;
+    let at = 256 * k;
+    let end = put_compact(values, at, bytes);
+    let module = bytes_of(table, home.name);
+    let name = bytes_of(table, p.name);
+    let number = home.modules - 1;
+    let written = put_updates_to(
+        outbox,
+        0,
+        clients,
+        number,
+        module,
+        name,
+        &values[at..end],
+        time,
+    );
+    let settings = stored(state.settings, k, end - at, time);
+    Done {
+        number: 0,
+        used: 0,
+        written,
+        state: State { clients, settings },
+    }
+}
