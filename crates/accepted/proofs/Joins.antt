@@ -13,7 +13,9 @@ use Rattle.plain.specs.Calls.{Call, Piece, beforeFeed, hasFeed}
 use Rattle.state.specs.declared.Clients.{Clients}
 use Rattle.state.specs.declared.State.{State}
 use Rattle.state.specs.View.{lineBytes, clientAt, view}
-use Rattle.state.specs.Becomes.{Becomes, Always, Joinable}
+use Rattle.state.specs.Changed.{withJoined}
+use Rattle.state.proofs.Becomes.{Becomes, Always, Joinable, Sized}
+use Rattle.state.proofs.Joins.{joined-becomes}
 use Rattle.outcome.specs.declared.Answered.{Answered}
 use Rattle.outcome.specs.Outcome.{Answers}
 use Rattle.outcome.specs.Ready.{Ready}
@@ -21,7 +23,7 @@ use Rattle.promise.specs.declared.Done.{Done}
 use Rattle.promise.specs.Leaves.{Leaves}
 use Rattle.promise.proofs.Clients.{joins, take-before, no-feed, a-feed, no-feed-before, before-long}
 use Rattle.promise.proofs.Feeds.{held-answer, feeds}
-use Rattle.promise.proofs.Held.{line-short, overlong-empty, joined-ready}
+use Rattle.promise.proofs.Held.{line-short, lines-fit, overlong-empty, joined-ready}
 
 -- ## The line that is held
 
@@ -64,9 +66,11 @@ module _ (table : List ℕ) (s : State) (values outbox : List ℕ) (c t : ℕ) (
   pub piece-more : (n ≡ length bs → ⊥) → n < length bs
   piece-more e = let h = before-long bs in omega (arith, first)
 
-  module _ {r : Clients} (b : Becomes (s .clients) c (receive (clientAt (s .clients) c) (take n bs)) (Joinable (s .clients) c (take n bs)) r) where
+  module _ (z : Sized (s .clients)) {r : Clients} (b : r ≡ withJoined (s .clients) c (take n bs)) where
     before : Becomes (s .clients) c (receive (clientAt (s .clients) c) (beforeFeed bs)) (Joinable (s .clients) c (beforeFeed bs)) r
-    before = subst (λ (x : List ℕ). Becomes (s .clients) c (receive (clientAt (s .clients) c) x) (Joinable (s .clients) c x) r) taken b
+    before =
+        subst (λ (x : List ℕ). Becomes (s .clients) c (receive (clientAt (s .clients) c) x) (Joinable (s .clients) c x) r) taken
+        (joined-becomes (s .clients) z c (g .lent .low) (lines-fit table s values outbox c g z) (take n bs) b)
 
     pub piece-joins : n ≡ length bs
         → Leaves table s values piece outbox (record { number = 0; used = n; written = 0; state = record { clients = r; settings = s .settings } }) values outbox

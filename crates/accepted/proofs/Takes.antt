@@ -2,16 +2,16 @@
 use Prim.Native.Nat.{ℕ, _+_, _*_, _-_, _≤_, _<_}
 use native.Mathlib.Nat.{zero-add}
 use native.Mathlib.Omega.{arith}
-use borrow.Author.Needs.{length-unmapped}
 use mathlib.Core.Bool.{true, false}
-use mathlib.Core.List.{List, map}
+use mathlib.Core.List.{List}
 use mathlib.Core.Option.{some}
 use mathlib.Core.Path.{_≡_, refl, sym, ap, _∙_}
 use lib.ListN.{length, take, drop, getElem?}
-use Rattle.ascii.specs.Bytes.{any}
+use Rattle.ascii.specs.Bytes.{any, isSome}
 use Rattle.ascii.specs.Writer.{Puts}
-use Rattle.json.specs.Compacted.{Compacted}
-use Rattle.fit.specs.Fit.{isStored, storedForm}
+use Rattle.ascii.proofs.Puts.{puts-length}
+use Rattle.json.specs.Json.{text, storedForm}
+use Rattle.fit.specs.Fit.{isStored}
 use Rattle.table.specs.Table.{Parameter, Table}
 use Rattle.table.specs.Layout.{tableOf}
 use Rattle.table.specs.Search.{Placed, parameters}
@@ -26,7 +26,7 @@ use Rattle.search.specs.Left.{placed}
 use Rattle.plain.specs.Node.{clientNumbers, updatesTo, withValue}
 use Rattle.plain.specs.Calls.{Reading, Effect, callNumber, readingVerdict, readingEffect, effect}
 use Rattle.sound.proofs.Lists.{each-at}
-use Rattle.sound.proofs.Accepted.{GoodParameter, accepted, accepted-whole}
+use Rattle.sound.proofs.Accepted.{GoodParameter, accepted}
 use Rattle.sound.proofs.Homes.{parameter-home}
 use Rattle.sound.proofs.Values.{stored, stored-short}
 use Rattle.sound.proofs.Records.{Fine, name-short, written-to}
@@ -34,7 +34,7 @@ use Rattle.state.specs.declared.Settings.{Settings}
 use Rattle.state.specs.declared.State.{State}
 use Rattle.state.specs.View.{clientAt, view, withStored, withLength, outboxAfter, written}
 use Rattle.state.specs.Fit.{clientUnfit, settingsUnfit, isUnfit}
-use Rattle.state.proofs.Forms.{stands, put-stored}
+use Rattle.state.proofs.Forms.{stands, fits-text, form-room}
 use Rattle.state.proofs.Settled.{Sized, some-stored, stored-fit}
 use Rattle.state.proofs.Views.{value-view}
 use Rattle.outcome.specs.Setting.{areaWith, settingsWith}
@@ -56,7 +56,7 @@ module _ (table : List ℕ) (s : State) (values outbox : List ℕ) (k t : ℕ) (
   it = placed table e (parameterOf table q (g .found .held .datainfo))
 
   there : getElem? (parameters w) k ≡ some it
-  there = g .found .is w (accepted-whole table (lent-good .accepted))
+  there = g .found .is
 
   -- the report of a value
   abbrev told : List ℕ → Report
@@ -71,31 +71,31 @@ module _ (table : List ℕ) (s : State) (values outbox : List ℕ) (k t : ℕ) (
       let names = each-at GoodParameter (parameters w) (accepted table (lent-good .accepted) .allParameters) k it there .0 in
       record { names = names; small = n; inTime = lent-good .time }
 
-  pub read-start : 256 * k ≤ length values
-  read-start =
+  pub read-room : (isSome (text bs) ≡ true) × (256 * k + length (storedForm bs) ≤ length values)
+  read-room =
       let low = g .low in
       let area = lent-good .area in
-      omega arith
+      (fits-text (g .found .held .datainfo) bs (g .fits), form-room (g .found .held .datainfo) bs values (256 * k) (g .fits) (omega arith))
 
-  module _ (after : List ℕ) (r : ℕ) (x : Compacted bs values (256 * k) after r) where
+  module _ (after : List ℕ) (r : ℕ) (x : Puts values (256 * k) (storedForm bs) after r) where
     -- where the stored form lies
     abbrev value : List ℕ
     value = take (r - 256 * k) (drop (256 * k) after)
 
-    stored-put : Puts values (256 * k) (storedForm bs) after r
-    stored-put =
-        let low = g .low in
-        let area = lent-good .area in
-        put-stored (g .found .held .datainfo) bs values (256 * k) after r (g .fits) (omega arith) x
+    room-left : r ≤ length values
+    room-left = let z = x .ends in omega (arith, read-room .1)
+
+    pub read-end : r ≤ length after
+    read-end = let l = puts-length x in omega (arith, room-left)
 
     value-is : value ≡ storedForm bs
-    value-is = stands stored-put (x .room)
+    value-is = stands x room-left
 
     small : length (storedForm bs) ≤ 256
     small = stored-short (g .found .held .datainfo) bs (g .fits)
 
     size-is : r - 256 * k ≡ length (storedForm bs)
-    size-is = let z = stored-put .ends in omega arith
+    size-is = let z = x .ends in omega arith
 
     pub read-size : r - 256 * k ≤ 256
     read-size = rw size-is small
@@ -125,8 +125,8 @@ module _ (table : List ℕ) (s : State) (values outbox : List ℕ) (k t : ℕ) (
       sent-is : sent ≡ updates (storedForm bs)
       sent-is = rw (named-module, named, value-is) refl
 
-      pub read-room : (e .modules - 1 < 16) × ((0 + length (encodeAll sent) ≤ length outbox) × (length m + length a + length value ≤ 1024))
-      read-room =
+      pub updates-room : (e .modules - 1 < 16) × ((0 + length (encodeAll sent) ≤ length outbox) × (length m + length a + length value ≤ 1024))
+      updates-room =
           let f = fine (storedForm bs) small in
           let u = written-to (clientAt (s .clients)) (e .modules - 1) (told (storedForm bs)) f clientNumbers .short in
           let o = lent-good .outbox in
@@ -152,7 +152,7 @@ module _ (table : List ℕ) (s : State) (values outbox : List ℕ) (k t : ℕ) (
 
         area-is : after ≡ withStored values k (storedForm bs)
         unfolding withStored
-        area-is = stored-put .is
+        area-is = x .is
 
         node-is : view table next after ≡ withValue (view table s values) k (record { text = storedForm bs; time = t })
         node-is =
@@ -182,7 +182,3 @@ module _ (table : List ℕ) (s : State) (values outbox : List ℕ) (k t : ℕ) (
               node = node-is ∙ ap (λ (y : Effect). y .next) d;
               fit = still-fit;
             })
-
--- the arrays of settings, as a struct's fields are handed to a proof
-pub settings-sized : (s : Settings) → length (map (λ (v : ℕ). v) (s .length)) ≡ 64 → length (map (λ (v : ℕ). v) (s .time)) ≡ 64 → Sized s
-settings-sized s h i = record { size = length-unmapped ℕ (s .length) 64 h; time = length-unmapped ℕ (s .time) 64 i }

@@ -18,7 +18,7 @@ ghost use Rattle.outcome.specs.Ready.{Ready};
 ghost use Rattle.outcome.specs.Outcome.{Answers};
 ghost use Rattle.promise.specs.Leaves.{Leaves};
 
-// "a line feed ends a line, which is carried out and answered from what is held, .., and no bytes stay"
+// "a line feed ends a line ..": it is answered, and its client's line is empty again.
 fn answer_held(
     table: &[u8],
     values: &mut [u8],
@@ -52,7 +52,7 @@ fn answer_held(
     )
 }
 
-// "A call uses bytes up to and including the first line feed, or all of them": of an open client, where all that is lent is good.
+// "A call uses bytes up to and including ..": of an open client, where all that is lent is good.
 pub fn take_piece(
     table: &[u8],
     values: &mut [u8],

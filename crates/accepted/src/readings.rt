@@ -12,8 +12,7 @@ ghost use Rattle.plain.specs.Calls.{Reading};
 ghost use Rattle.promise.specs.Promise.{Kept};
 ghost use Rattle.accepted.specs.Fitting.{Fitting};
 
-// "An accepted reading stores the value and sends the updates only.": parameter k, of which p has the positions; `home` is the cursor after
-// it, in its module.
+// "An accepted reading stores the value ..": of parameter k, of which p has the positions; `home` is the cursor after it, in its module.
 pub fn take_reading(
     table: &[u8],
     values: &mut [u8],

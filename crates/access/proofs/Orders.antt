@@ -1,5 +1,5 @@
 -- The order to carry out a command, and the reply after it: what is written, and that it has room. Assumes nothing.
-use Prim.Native.Nat.{ℕ, _-_, _≤_}
+use Prim.Native.Nat.{ℕ, _+_, _-_, _≤_}
 use native.Mathlib.Nat.{zero-add}
 use native.Mathlib.Omega.{arith}
 use mathlib.Core.Path.{_≡_, _∙_}
@@ -12,9 +12,10 @@ use Rattle.ascii.specs.Bytes.{isSome}
 use Rattle.ascii.specs.Text.{bytes}
 use Rattle.ascii.specs.Numbers.{twoBytes}
 use Rattle.ascii.specs.Writer.{Puts}
-use Rattle.json.specs.Compacted.{Compacted}
+use Rattle.ascii.proofs.Puts.{puts-length}
+use Rattle.json.specs.Json.{text}
 use Rattle.datainfo.specs.Datainfo.{Datainfo}
-use Rattle.fit.specs.Fit.{storedForm, isFit}
+use Rattle.fit.specs.Fit.{verdict, storedForm, isFit}
 use Rattle.message.specs.Reply.{done}
 use Rattle.message.specs.Said.{reportOf}
 use Rattle.outbox.specs.Outbox.{Record, final, orderCommand, mark, body, encode, encodeAll}
@@ -23,7 +24,7 @@ use Rattle.plain.specs.Answer.{argumentVerdict, argumentForm}
 use Rattle.sound.proofs.Values.{stored-short}
 use Rattle.sound.proofs.Records.{Fine, Written, says-done, written-one, written-append, written-final}
 use Rattle.sound.proofs.Room.{room-after, puts-after}
-use Rattle.state.proofs.Forms.{stands, put-stored}
+use Rattle.state.proofs.Forms.{stands, fits-text, form-room}
 use Rattle.access.specs.Argument.{LetIn, formOf, Ordered, Reported, orderRecords}
 
 -- ## The argument
@@ -55,18 +56,33 @@ module _ (out : List ℕ) (k : ℕ) (b : Bool) (xs : List ℕ) (o : Ordered out 
   unfolding formOf
   order-none e after r p = rw (not-true b e) p
 
-  -- the stored form is written to d, and then taken from there
-  module _ (e : not b ≡ false) (d after : List ℕ) (r : ℕ) (x : Compacted xs d 0 after r) (h : length d ≡ 256) where
-    written-form : Puts d 0 (formOf b xs) after r
-    unfolding formOf argumentVerdict
-    written-form = rw (not-false b e) (go (o .argument .argument) (o .argument .is ∙ not-false b e) (o .argument .fits))
+  module _ (e : not b ≡ false) where
+    -- of a declared argument that is let in
+    declared : {P : Type 0} → ((d : Datainfo) → isFit (verdict d xs) ≡ true → P) → P
+    unfolding argumentVerdict
+    declared {P} f = go (o .argument .argument) (o .argument .is ∙ not-false b e) (o .argument .fits)
       where
-        go : (a : Option Datainfo) → isSome a ≡ true → isFit (argumentVerdict a xs) ≡ true → Puts d 0 (storedForm xs) after r
-        go none i f = absurd (false≢true i)
-        go (some i) j f = put-stored i xs d 0 after r f (omega arith) x
+        go : (a : Option Datainfo) → isSome a ≡ true → isFit (argumentVerdict a xs) ≡ true → P
+        go none i g = absurd (false≢true i)
+        go (some d) i g = f d g
+
+    pub argument-text : isSome (text xs) ≡ true
+    argument-text = declared (λ d f. fits-text d xs f)
+
+    pub argument-room : (d : List ℕ) → length d ≡ 256 → 0 + length (storedForm xs) ≤ length d
+    argument-room d h = declared (λ i f. form-room i xs d 0 f (omega arith))
+
+  -- the stored form is written to d, and then taken from there
+  module _ (e : not b ≡ false) (d after : List ℕ) (r : ℕ) (x : Puts d 0 (storedForm xs) after r) (h : length d ≡ 256) where
+    written-form : Puts d 0 (formOf b xs) after r
+    unfolding formOf
+    written-form = rw (not-false b e) x
+
+    pub form-within : r ≤ length after
+    form-within = let z = x .ends in let l = puts-length x in let y = argument-room e d h in omega arith
 
     form : take r after ≡ formOf b xs
-    form = let z : r - 0 ≡ r = omega arith in rw z at (stands written-form (x .room))
+    form = let z : r - 0 ≡ r = omega arith in rw z at (stands written-form (let l = puts-length x in let y = form-within in omega arith))
 
     pub order-slice : r ≡ length (take r after)
     order-slice = written-form .ends ∙ rw (zero-add, form)

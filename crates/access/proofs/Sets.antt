@@ -2,11 +2,13 @@
 use Prim.Native.Nat.{ℕ, _+_, _*_, _-_, _≤_, _<_}
 use native.Mathlib.Omega.{arith}
 use mathlib.Core.Path.{_≡_, ap}
+use mathlib.Core.Bool.{true}
 use mathlib.Core.List.{List, [], _∷_, _++_}
 use lib.ListN.{length, take, drop}
+use Rattle.ascii.specs.Bytes.{isSome}
 use Rattle.ascii.specs.Writer.{Puts}
 use Rattle.ascii.proofs.Puts.{puts-length, puts-both}
-use Rattle.json.specs.Compacted.{Compacted}
+use Rattle.json.specs.Json.{text}
 use Rattle.fit.specs.Fit.{storedForm}
 use Rattle.message.specs.Reply.{Report, changed}
 use Rattle.message.specs.Said.{reportOf}
@@ -18,7 +20,7 @@ use Rattle.sound.proofs.Records.{Fine, Written, name-short, says-changed, writt
 use Rattle.sound.proofs.Room.{room-after, puts-after, puts-none}
 use Rattle.state.specs.declared.Clients.{Clients}
 use Rattle.state.specs.View.{clientAt, withStored}
-use Rattle.state.proofs.Forms.{put-stored, stands}
+use Rattle.state.proofs.Forms.{fits-text, form-room, stands}
 use Rattle.outcome.specs.declared.Outcome.the-variants.{Stored}
 use Rattle.access.specs.Set.{setRecords, Settable, Accepts, IsSet}
 
@@ -92,30 +94,36 @@ module _ (out : List ℕ) (k h : ℕ) (m a : List ℕ) (t : ℕ) (g : Settable o
 
 -- ## The stored form
 
-module _ (out : List ℕ) (k h : ℕ) (m a : List ℕ) (t : ℕ) (g : Settable out k h m a t) (values xs : List ℕ) (w : Accepts values xs)
-    (after : List ℕ) (r : ℕ) (x : Compacted xs values (256 * k) after r) where
-  stored-put : Puts values (256 * k) (storedForm xs) after r
-  stored-put =
+module _ (out : List ℕ) (k h : ℕ) (m a : List ℕ) (t : ℕ) (g : Settable out k h m a t) (values xs : List ℕ) (w : Accepts values xs) where
+  pub set-text : isSome (text xs) ≡ true
+  set-text = fits-text (w .datainfo) xs (w .fits)
+
+  pub set-room : 256 * k + length (storedForm xs) ≤ length values
+  set-room =
       let low = g .low in
       let area = w .area in
-      put-stored (w .datainfo) xs values (256 * k) after r (w .fits) (omega arith) x
+      form-room (w .datainfo) xs values (256 * k) (w .fits) (omega arith)
 
-  value-is : take (r - 256 * k) (drop (256 * k) after) ≡ storedForm xs
-  value-is = stands stored-put (x .room)
+  module _ (after : List ℕ) (r : ℕ) (x : Puts values (256 * k) (storedForm xs) after r) where
+    pub set-within : r ≤ length after
+    set-within = let z = x .ends in let l = puts-length x in let y = set-room in omega arith
 
-  pub value-settable : Settable out k h m a t × (length (take (r - 256 * k) (drop (256 * k) after)) ≤ 256)
-  value-settable = (g, rw value-is (stored-short (w .datainfo) xs (w .fits)))
+    value-is : take (r - 256 * k) (drop (256 * k) after) ≡ storedForm xs
+    value-is = stands x (let l = puts-length x in let y = set-within in omega arith)
 
-  pub set-is : (s : Clients) (c : ℕ) (last : List ℕ) (written : ℕ)
-      → Puts out 0 (encodeAll (setRecords s c k h (reportOf m a (take (r - 256 * k) (drop (256 * k) after)) t))) last written
-      → IsSet s c k h m a xs t values out (Stored k (r - 256 * k) written) after last
-  unfolding withStored
-  set-is s c last written p =
-      let e = stored-put .ends in
-      let size : r - 256 * k ≡ length (storedForm xs) = omega arith in
-      record {
-        written = written;
-        is = ap (λ (n : ℕ). Stored k n written) size;
-        area = stored-put .is;
-        puts = rw value-is at p;
-      }
+    pub value-settable : Settable out k h m a t × (length (take (r - 256 * k) (drop (256 * k) after)) ≤ 256)
+    value-settable = (g, rw value-is (stored-short (w .datainfo) xs (w .fits)))
+
+    pub set-is : (s : Clients) (c : ℕ) (last : List ℕ) (written : ℕ)
+        → Puts out 0 (encodeAll (setRecords s c k h (reportOf m a (take (r - 256 * k) (drop (256 * k) after)) t))) last written
+        → IsSet s c k h m a xs t values out (Stored k (r - 256 * k) written) after last
+    unfolding withStored
+    set-is s c last written p =
+        let e = x .ends in
+        let size : r - 256 * k ≡ length (storedForm xs) = omega arith in
+        record {
+          written = written;
+          is = ap (λ (n : ℕ). Stored k n written) size;
+          area = x .is;
+          puts = rw value-is at p;
+        }

@@ -18,7 +18,7 @@ use Rattle.message.specs.Said.{reportOf}
 use Rattle.outbox.specs.Outbox.{Record, final, orderCommand}
 use Rattle.plain.specs.Answer.{argumentVerdict}
 
--- r is the verdict on a text by the argument that o reads; where o can't be read, r is any
+-- r is the verdict on a text by the argument that o reads; asked only where o can be read
 pub record JudgesArgument (o : Option (Option Datainfo × List ℕ)) (xs : List ℕ) (r : Verdict) : Type 0 where
   pub is : {a : Option Datainfo} {x : List ℕ} → o ≡ some (a, x) → meaning r ≡ argumentVerdict a xs
 

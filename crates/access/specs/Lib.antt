@@ -1,3 +1,2 @@
 pub mod Argument
-pub mod Shown
 pub mod Set

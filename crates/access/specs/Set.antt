@@ -18,8 +18,7 @@ use Rattle.state.specs.View.{clientAt, withStored}
 use Rattle.outcome.specs.declared.Outcome.{Outcome}
 use Rattle.outcome.specs.declared.Outcome.the-variants.{Stored}
 
--- "the driver's order, an update to each open client with M active, .., then `changed M:P [..]`, with the stored form": parameter k of the
--- module of number h, set by client c
+-- the records of `plain/Answer.sets`: parameter k of the module of number h, set by client c
 unfoldable pub setRecords : Clients → ℕ → ℕ → ℕ → Report → List Record
 setRecords s c k h r = orderChange c k (r .value) ∷ (updatesTo (clientAt s) h r clientNumbers ++ (final c (changed r) ∷ []))
 

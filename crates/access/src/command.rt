@@ -1,9 +1,9 @@
 // A command's argument, and the order to carry it out.
 ghost use mathlib.Core.Path.{_≡_};
 ghost use mathlib.Core.Option.{none};
-ghost use Prim.Native.Nat.{_≤_};
-ghost use lib.ListN.{length, drop};
+ghost use lib.ListN.{drop};
 ghost use Rattle.table.specs.Layout.{argumentAt};
+ghost use Rattle.table.specs.At.{ArgumentReadable};
 ghost use Rattle.fit.specs.Verdict.{meaning};
 ghost use Rattle.plain.specs.Answer.{argumentVerdict};
 ghost use Rattle.ascii.specs.Writer.{Puts};
@@ -35,7 +35,7 @@ fn null_verdict(text: &[u8]) -> Verdict
 
 // The verdict on a text by the argument that is declared at `info`, or by none.
 pub fn argument_verdict(table: &[u8], argument: bool, info: usize, text: &[u8]) -> Verdict
-    requires { ⌜ info ≤ length (now table) ⌝ }
+    requires { ⌜ ArgumentReadable (now table) argument info ⌝ }
     ensures { λ r. ⌜ JudgesArgument (argumentAt argument (drop info (now (table .entry)))) (now (text .entry)) r ⌝ }
 {
     if argument {

@@ -4,12 +4,9 @@ mod setting;
 
 ghost use Prim.Native.Nat.{ℕ, _≤_};
 ghost use Rattle.ascii.specs.Numbers.{latest};
-ghost use Rattle.ascii.specs.Writer.{Puts};
 ghost use Rattle.message.specs.Request as Request;
-ghost use Rattle.outbox.specs.Outbox.{encode};
 ghost use Rattle.outcome.specs.Ready.{Lent, Ready};
 ghost use Rattle.outcome.specs.Outcome.{Comes, ComesAtAny};
-ghost use Rattle.access.specs.Shown.{Shows, shownReply};
 use crate::command::argument_verdict;
 use crate::command::order;
 use crate::setting::set;
@@ -25,44 +22,14 @@ use search::find::FoundParameter;
 use search::find::find_command;
 use search::find::find_module;
 use search::find::find_parameter;
-use state::Settings;
 use state::State;
-use table::layout::Part;
+use state::setting::shown;
 
-// "`reply M:P [value,{"t":time}]`, the stored time". "Length 0 means never set: the value shown is then the part of the table that holds its
-// initial value, otherwise the part of the values area that holds the stored one, no copy."
-fn put_shown(
-    table: &[u8],
-    values: &[u8],
-    out: &mut [u8],
-    settings: Settings,
-    k: usize,
-    initial: Part,
-    client: u8,
-    module: &[u8],
-    name: &[u8],
-) -> usize
-    requires { ⌜ Shows (now table) settings (now values) k initial client (now «module») (now name) (now out) ⌝ }
-    ensures { λ r. ⌜ Puts (now (out .entry)) 0 (encode (shownReply (now (table .entry)) settings (now (values .entry)) k initial client (now («module» .entry)) (now (name .entry)))) (now (out .exit)) r ⌝ }
-{
-    let size = settings.length[k] as usize;
-    let time = settings.time[k];
-    if size == 0 {
-        let from = initial.from;
-        let to = initial.to;
-        let value = &table[from..to];
-        return put_final_report(out, 0, client, Told::Reply, module, name, value, time);
-    }
-    let first = 256 * k;
-    let last = first + size;
-    let value = &values[first..last];
-    put_final_report(out, 0, client, Told::Reply, module, name, value, time)
-}
-
-// The value that a parameter shows, with its stored time, at the front of the outbox; or an error, and the outbox is as it was.
-pub fn read(
-    table: &[u8],
-    values: &[u8],
+// "`reply M:P [value,{"t":time}]`, the stored time", with the value that the parameter shows, at the front of the outbox; or an error, and the
+// outbox is as it was.
+pub fn read<'a>(
+    table: &'a [u8],
+    values: &'a [u8],
     out: &mut [u8],
     state: State,
     client: u8,
@@ -80,17 +47,9 @@ pub fn read(
     };
     let settings = state.settings;
     let initial = p.initial;
-    let end = put_shown(
-        table,
-        values,
-        out,
-        settings,
-        k,
-        initial,
-        client,
-        module,
-        name,
-    );
+    let value = shown(table, values, settings, k, initial);
+    let time = settings.time[k];
+    let end = put_final_report(out, 0, client, Told::Reply, module, name, value, time);
     Outcome::Sent(end)
 }
 

@@ -13,7 +13,7 @@ use outcome::Outcome;
 use state::Clients;
 use update::put_updates_to;
 
-// "the driver's order, an update to each open client with M active, .., then `changed M:P [..]`, with the stored form"
+// The records of a change: "the driver's order ..", the updates, and `changed`.
 fn put_set(
     out: &mut [u8],
     clients: Clients,
@@ -33,7 +33,7 @@ fn put_set(
     put_final_report(out, told, client, Told::Changed, module, name, value, time)
 }
 
-// "An accepted setting writes its stored form at the front of them and no other byte.": of the parameter's bytes of the values area
+// "An accepted setting writes its stored form ..": to the front of the parameter's place in the values area, and then the records.
 pub fn set(
     values: &mut [u8],
     out: &mut [u8],

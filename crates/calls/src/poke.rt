@@ -4,9 +4,14 @@ use ascii::write::put;
 use state::Clients;
 use state::Settings;
 use state::State;
+ghost use mathlib.Core.Path.{_≡_};
+ghost use Rattle.promise.specs.Promise as Promise;
+ghost use Rattle.calls.specs.Within.{within};
 
 // The state of a refused start: no client open and every number 0.
-pub fn blank() -> State {
+pub(crate) fn blank() -> State
+    ensures { λ r. ⌜ r ≡ Promise.blank 0 ⌝ }
+{
     State {
         clients: Clients {
             open: [0; 8],
@@ -23,7 +28,9 @@ pub fn blank() -> State {
 }
 
 // Bytes at a place of a lent area; nothing where they would go past its end.
-pub fn put_within(area: &mut [u8], place: u64, bytes: &[u8]) {
+pub(crate) fn put_within(area: &mut [u8], place: u64, bytes: &[u8])
+    ensures { λ r. ⌜ now (area .exit) ≡ within (now (area .entry)) place (now (bytes .entry)) ⌝ }
+{
     let most = area.len();
     if place > most as u64 {
         return;
@@ -88,7 +95,7 @@ fn with_time(s: Settings, parameter: u64, value: u64) -> Settings {
 }
 
 // The state with the change that an operation names.
-pub fn poked(state: State, o: Operation, bytes: &[u8]) -> State {
+pub(crate) fn poked(state: State, o: Operation, bytes: &[u8]) -> State {
     let clients = state.clients;
     let settings = state.settings;
     let code = o.code;

@@ -12,7 +12,7 @@ use state::Settings;
 use state::State;
 
 // The pattern that stands in an outbox before a call.
-pub fn fill(outbox: &mut [u8]) {
+pub(crate) fn fill(outbox: &mut [u8]) {
     let mut i = 0;
     while i < outbox.len() {
         outbox[i] = (i % 251) as u8;
@@ -192,7 +192,7 @@ fn write_written(outbox: &[u8], written: usize) {
     io::write_all(STDOUT_FILENO, b"\n");
 }
 
-pub fn write_answer(values: &[u8], outbox: &[u8], before: State, o: Operation, done: Done) {
+pub(crate) fn write_answer(values: &[u8], outbox: &[u8], before: State, o: Operation, done: Done) {
     let code = o.code;
     let written = done.written;
     write_name(code);
@@ -208,7 +208,7 @@ pub fn write_answer(values: &[u8], outbox: &[u8], before: State, o: Operation, d
     write_refused(before, code, done.state);
 }
 
-pub fn write_note(bytes: &[u8]) {
+pub(crate) fn write_note(bytes: &[u8]) {
     io::write_all(STDOUT_FILENO, b"# ");
     write_bytes(bytes);
     io::write_all(STDOUT_FILENO, b"\n");
@@ -287,7 +287,7 @@ fn write_parameters(s: Settings, count: u64) {
 }
 
 // The state, with the first so many parameters.
-pub fn write_state(state: State, count: u64) {
+pub(crate) fn write_state(state: State, count: u64) {
     write_clients(state.clients);
     write_parameters(state.settings, count);
 }

@@ -16,7 +16,7 @@ use ascii::numbers::unsigned;
 use libc::STDIN_FILENO;
 
 // What a head says. Code 0 is the end of the script.
-pub struct Operation {
+pub(crate) struct Operation {
     pub code: u8,
     pub number: u64,
     pub time: u64,
@@ -38,7 +38,7 @@ fn number_at(head: &[u8], at: usize, k: usize) -> u64 {
     n
 }
 
-pub fn is_call(code: u8) -> bool {
+pub(crate) fn is_call(code: u8) -> bool {
     match code {
         b'S' | b'O' | b'C' | b'P' | b'R' => true,
         _ => false,
@@ -46,7 +46,7 @@ pub fn is_call(code: u8) -> bool {
 }
 
 // The next head, read into a lent buffer of 23 bytes.
-pub fn read_operation(head: &mut [u8]) -> Operation {
+pub(crate) fn read_operation(head: &mut [u8]) -> Operation {
     let mut code = 0;
     if io::read_full(STDIN_FILENO, head) == 23 {
         code = head[0];

@@ -53,7 +53,7 @@ unfoldable pub valuesUnique : List ℤ → Bool
 valuesUnique [] = true
 valuesUnique (v ∷ vs) = not (any (sameInteger v) vs) && valuesUnique vs
 
--- "Min is at most max. A count or power outside its limits is number 4 .."
+-- "Min is at most max.", and counts and powers are within their limits; what breaks this is number 4
 unfoldable mutual
   pub rulesKept : Datainfo → Bool
   rulesKept (double lo hi) = powerGood lo && powerGood hi && atMost lo hi

@@ -16,7 +16,7 @@ use Rattle.json.specs.Json.{Members, object, no-members, member, quoted, compac
 use Rattle.datainfo.specs.Datainfo.{Datainfo}
 use Rattle.datainfo.specs.Layout.{datainfoIn}
 use Rattle.table.specs.Table as Table
-use Rattle.table.specs.Layout.{begins, argumentAt, accessiblesAt, moduleAt, modulesAt, wholeTable}
+use Rattle.table.specs.Layout.{begins, argumentAt, accessiblesAt, moduleAt, modulesAt, Readable, tableOf}
 use Rattle.table.specs.At.{bytesOf, Inside, accessibleBegins, accessibleAt, accessiblesFrom, modulesFrom, parameterOf, commandOf, moduleOf, AccessibleIs, HeadingIs, headingAt, textsAt, TextsAt}
 use Rattle.table.specs.declared.layout.Part.{Part}
 use Rattle.table.specs.declared.layout.ParameterAt.{ParameterAt}
@@ -25,10 +25,9 @@ use Rattle.table.specs.declared.layout.ModuleAt.{ModuleAt}
 use Rattle.table.specs.declared.layout.Accessible as A
 use Rattle.table.specs.declared.layout.Heading as H
 use Rattle.table.specs.declared.layout.Texts as T
-use Rattle.table.proofs.Accessibles.{in-some}
 use Rattle.table.proofs.Enough.{before, accessibles-stop, accessibles-more, modules-stop, modules-more}
 use Rattle.table.proofs.Modules.{withAccessibles, module-is}
-use Rattle.table.proofs.Whole.{opened, unread, members-headless}
+use Rattle.table.proofs.Whole.{opened, unread, readable-whole, members-headless}
 use Rattle.report.specs.Report.{argumentMember, accessibleMember, accessibleMembers, noteMember, moduleMembers, reportValue, report}
 use Rattle.describe.specs.Emitted.{capped, Emits, told, Says}
 use Rattle.describe.specs.Room.{RoomFor}
@@ -260,22 +259,18 @@ module _ {d0 d1 d2 d3 : List ℕ} {p0 p1 p2 p3 : ℕ} where
   unfolding report reportValue modulesText textsText compact compactMembers moreMembers quoted bytes
   report-text t x y z = report-join (bytes "{\"modules\":{") (modulesText (t .modules)) (bytes "}") (bytes ",\"equipment_id\":") (quoted (t .equipmentId)) (bytes ",\"description\":") (quoted (t .description)) (bytes "}") x y z
 
-module _ (s : List ℕ) (r : T.Texts) (h : TextsAt s r (textsAt (78 ∷ 68 ∷ []) (drop 0 s))) (t : Table.Table) (w : wholeTable s ≡ some t) {d0 d3 : List ℕ} {p0 p3 : ℕ} where
-  pub report-none : r ≡ T.the-variants.Bad → Emits d0 p0 (report t) d3 p3
-  report-none e = absurd (unread s r h t w e)
+module _ (s : List ℕ) (g : Readable s) (r : T.Texts) (h : TextsAt s r (textsAt (78 ∷ 68 ∷ []) (drop 0 s))) {d0 d3 : List ℕ} {p0 p3 : ℕ} where
+  pub report-none : r ≡ T.the-variants.Bad → Emits d0 p0 (report (tableOf s)) d3 p3
+  report-none e = absurd (unread s r h (tableOf s) (readable-whole s g) e)
 
-  pub report-told : (p q : Part) → r ≡ T.the-variants.At p q → {d1 d2 : List ℕ} {p1 p2 : ℕ} → Emits d0 p0 (bytes "{\"modules\":{") d1 p1 → Says (told modulesText (modulesFrom s (q .to))) d1 p1 d2 p2 → Emits d2 p2 (textsText (bytesOf s p) (bytesOf s q)) d3 p3 → Emits d0 p0 (report t) d3 p3
+  pub report-told : (p q : Part) → r ≡ T.the-variants.At p q → {d1 d2 : List ℕ} {p1 p2 : ℕ} → Emits d0 p0 (bytes "{\"modules\":{") d1 p1 → Says (told modulesText (modulesFrom s (q .to))) d1 p1 d2 p2 → Emits d2 p2 (textsText (bytesOf s p) (bytesOf s q)) d3 p3 → Emits d0 p0 (report (tableOf s)) d3 p3
   report-told p q e x y z =
-      let o = opened s r h t w p q e in
-      report-text t x (y .is (ap (told modulesText) (o .modules))) (rw (o .id, o .description) z)
+      let o = opened s r h (tableOf s) (readable-whole s g) p q e in
+      report-text (tableOf s) x (y .is (ap (told modulesText) (o .modules))) (rw (o .id, o .description) z)
 
 -- a report that is measured from the start, and one that is written
-pub report-measured : (t : Table.Table) (d e : List ℕ) (r : ℕ) → Emits d 0 (report t) e r → r ≡ capped (length (report t))
-report-measured t d e r x = let y = x .ends in omega arith
+pub report-measured : (s d e : List ℕ) (r : ℕ) → Emits d 0 (report (tableOf s)) e r → r ≡ capped (length (report (tableOf s)))
+report-measured s d e r x = let y = x .ends in omega arith
 
-module _ (s : List ℕ) (at : ℕ) (d : List ℕ) (room : RoomFor s at d) (t : Table.Table) (w : wholeTable s ≡ some t) where
-  room-is : at + length (report t) ≤ length d
-  room-is = let z = in-some (sym (room .is) ∙ w) in rw z at (room .room)
-
-  pub report-put : (e : List ℕ) (r : ℕ) → ((u : Table.Table) → wholeTable s ≡ some u → Emits d at (report u) e r) → Puts d at (report t) e r
-  report-put e r h = h t w .puts room-is
+pub report-put : (s : List ℕ) (at : ℕ) (d : List ℕ) → RoomFor s at d → (e : List ℕ) (r : ℕ) → Emits d at (report (tableOf s)) e r → Puts d at (report (tableOf s)) e r
+report-put s at d room e r x = x .puts (room .room)

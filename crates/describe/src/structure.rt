@@ -1,4 +1,4 @@
-// The structure report. Where the table can't be read, what is written does not matter: such a table has no report.
+// The structure report of a table that can be read.
 use crate::info::emit_datainfo;
 use crate::write::emit;
 use crate::write::emit_comma;
@@ -28,8 +28,8 @@ ghost use Rattle.ascii.specs.Text.{bytes};
 ghost use Rattle.ascii.specs.Writer.{Puts};
 ghost use Rattle.json.specs.Json.{quoted};
 ghost use Rattle.datainfo.specs.Layout.{datainfoIn};
-ghost use Rattle.table.specs.Table.{Table, parameter, command};
-ghost use Rattle.table.specs.Layout.{argumentAt, moduleAt, wholeTable};
+ghost use Rattle.table.specs.Table.{parameter, command};
+ghost use Rattle.table.specs.Layout.{argumentAt, moduleAt, Readable, tableOf};
 ghost use Rattle.table.specs.At.{bytesOf, Inside, accessibleAt, accessiblesFrom, modulesFrom, parameterOf, commandOf};
 ghost use Rattle.report.specs.Report.{report};
 ghost use Rattle.describe.specs.Emitted.{capped, Emits, told, Says};
@@ -222,7 +222,8 @@ fn emit_texts(out: &mut [u8], at: usize, s: &[u8], id: Part, description: Part) 
 
 // The report at a position of a lent buffer: written if it has room, and measured in any case.
 fn emit_report(out: &mut [u8], at: usize, s: &[u8]) -> usize
-    ensures { λ r. ⌜ ((t : Table) → wholeTable (now (s .entry)) ≡ some t → Emits (now (out .entry)) at (report t) (now (out .exit)) r) ⌝ }
+    requires { ⌜ Readable (now s) ⌝ }
+    ensures { λ r. ⌜ Emits (now (out .entry)) at (report (tableOf (now (s .entry)))) (now (out .exit)) r ⌝ }
 {
     let Texts::At(id, description) = texts_at(s, 0, b'N', b'D') else {
         return at;
@@ -233,9 +234,10 @@ fn emit_report(out: &mut [u8], at: usize, s: &[u8]) -> usize
     emit_texts(out, b, s, id, description)
 }
 
-// How long the report of the table s is. What is answered about bytes that are no table is left free.
+// How long the report of the table s is.
 pub fn report_length(s: &[u8]) -> usize
-    ensures { λ r. ⌜ ((t : Table) → wholeTable (now (s .entry)) ≡ some t → r ≡ capped (length (report t))) ⌝ }
+    requires { ⌜ Readable (now s) ⌝ }
+    ensures { λ r. ⌜ r ≡ capped (length (report (tableOf (now (s .entry))))) ⌝ }
 {
     let mut nothing: [u8; 0] = [];
     emit_report(&mut nothing, 0, s)
@@ -244,7 +246,7 @@ pub fn report_length(s: &[u8]) -> usize
 // The report of the table s, written at a position of a lent buffer that has room for it; the position after it is answered.
 pub fn put_report(out: &mut [u8], at: usize, s: &[u8]) -> usize
     requires { ⌜ RoomFor (now s) at (now out) ⌝ }
-    ensures { λ r. ⌜ ((t : Table) → wholeTable (now (s .entry)) ≡ some t → Puts (now (out .entry)) at (report t) (now (out .exit)) r) ⌝ }
+    ensures { λ r. ⌜ Puts (now (out .entry)) at (report (tableOf (now (s .entry)))) (now (out .exit)) r ⌝ }
 {
     emit_report(out, at, s)
 }

@@ -85,7 +85,7 @@ NotedReport = report (tableOf noted) ≡ bytes "{\"modules\":{\"t1\":{\"interfac
 abbrev pub TablesAreGood : Type 0
 TablesAreGood = (tableNumber demo ≡ 0) × (tableNumber noted ≡ 0) × (tableNumber stage ≡ 0)
 
--- ## The outbox example: "client 2 sends `change t1:target 12` at 1500; clients 2 and 5 have t1 active; target is parameter 1"
+-- ## The outbox example: "client 2 sends `change t1:target 12` at 1500"
 
 unfoldable pub changing : List Call
 changing =

@@ -11,9 +11,8 @@ use borrow.Author.Tests.{eq-eqb}
 use Rattle.ascii.specs.Bytes.{isSome, isSpace, same}
 use Rattle.ascii.specs.Reader.{Left}
 use Rattle.json.specs.Json.{Json, skip, bare, value, text, compact}
-use Rattle.json.specs.Compacted.{CompactLength}
 use Rattle.json.proofs.Strip.{insideAfter, escapedAfter, strip, strip-short}
-use Rattle.json.proofs.Copied.{stripped-compact}
+use Rattle.json.proofs.Copied.{stripped-form}
 use Rattle.datainfo.specs.Datainfo.{Datainfo}
 use Rattle.fit.specs.Fit.{badJSON, severity, inRange, worse, valueVerdict, verdictOf, verdict, storedOf, storedForm, isFit, isStored}
 use Rattle.fit.specs.Verdict.{meaning, Judges, JudgesText, TellsStored}
@@ -33,6 +32,9 @@ text-value {S} xs {j} e f = steps (value 8 xs) _ e λ p a e. go (eqb (length (p 
     go true p a e = f (p .1) (a ∙ ap (λ j. some (j, p .1)) (just e))
     go false p a e = absurd (nothing e)
 
+pub told-text : (v : List ℕ) (t : Bool) → t ≡ isSome (text v) → t ≡ true → isSome (text v) ≡ true
+told-text v t g z = sym g ∙ z
+
 module _ (o : Option (Datainfo × List ℕ)) (v : List ℕ) (t : Bool) (g : t ≡ isSome (text v)) where
   pub verdict-bad : t ≡ false → JudgesText o v BadJson
   unfolding verdict verdictOf
@@ -42,14 +44,14 @@ module _ (o : Option (Datainfo × List ℕ)) (v : List ℕ) (t : Bool) (g : t �
       go d none e = refl
       go d (some j) e = absurd (let z : _≡_ {A = ℕ} 0 1 = cc in omega arith)
 
-  pub verdict-good : t ≡ true → (n p : ℕ) (a b r : Verdict) → CompactLength v n → Left v p (skip (drop 0 v)) → Judges o (bare 8 (drop p v)) a → meaning b ≡ inRange (leb n 256)
+  pub verdict-good : t ≡ true → (n p : ℕ) (a b r : Verdict) → n ≡ length (storedForm v) → Left v p (skip (drop 0 v)) → Judges o (bare 8 (drop p v)) a → meaning b ≡ inRange (leb n 256)
       → meaning r ≡ worse (meaning a) (meaning b) → JudgesText o v r
-  unfolding verdict verdictOf valueVerdict
+  unfolding verdict verdictOf valueVerdict storedForm storedOf
   verdict-good z n p a b r c l m h k = record { is = λ e. go e (text v) refl (sym g ∙ z) }
     where
       go : {d : Datainfo} {x : List ℕ} → o ≡ some (d, x) → (q : Option Json) → text v ≡ q → isSome q ≡ true → meaning r ≡ verdictOf d q
       go e none f y = absurd (let z : _≡_ {A = ℕ} 0 1 = cc in omega arith)
-      go e (some j) f y = text-value v f λ y' i. unspaced 8 v i λ y'' i'. k ∙ rw (h, c .is j f, m .is e (rw (l .is) at i'))
+      go e (some j) f y = text-value v f λ y' i. unspaced 8 v i λ y'' i'. k ∙ rw (h, c, f, m .is e (rw (l .is) at i'))
 
 -- ## The stored form
 
@@ -92,30 +94,32 @@ and-false : (a : Bool) → false ≡ (a && false)
 and-false true = refl
 and-false false = refl
 
-module _ (o : Option (Datainfo × List ℕ)) (v : List ℕ) (n : ℕ) (c : CompactLength v n) where
-  -- no text is stored
-  none-stored : (d : Datainfo) → text v ≡ none → (isFit (verdict d v) ≡ isStored d v) × (false ≡ isStored d v)
+module _ (o : Option (Datainfo × List ℕ)) (v : List ℕ) (t : Bool) (g : t ≡ isSome (text v)) where
+  pub stored-none : t ≡ false → TellsStored o v false
   unfolding isStored verdict verdictOf isFit severity
-  none-stored d e = (rw e, rw e)
-
-  pub stored-short : (n ≡ length v → ⊥) → TellsStored o v false
-  unfolding isStored storedForm storedOf
-  stored-short h = record { is = λ e. go _ (text v) refl }
+  stored-none z = record { is = λ e. go _ (text v) refl (sym g ∙ z) }
     where
-      go : (d : Datainfo) (q : Option Json) → text v ≡ q → false ≡ isStored d v
-      go d none f = none-stored d f .1
-      go d (some j) f = rw (f, same-long (compact j) v (λ z. h (c .is j f ∙ z))) (and-false (isFit (verdict d v)))
+      go : (d : Datainfo) (q : Option Json) → text v ≡ q → isSome q ≡ false → false ≡ isStored d v
+      go d none f e = rw f
+      go d (some j) f e = absurd (let z : _≡_ {A = ℕ} 0 1 = cc in omega arith)
 
-  pub stored-whole : n ≡ length v → (a : Verdict) (b : Bool) → JudgesText o v a → b ≡ isFit (meaning a) → TellsStored o v b
-  unfolding isStored storedForm storedOf
-  stored-whole h a b m k = record { is = λ e. k ∙ ap isFit (m .is e) ∙ go _ (text v) refl }
-    where
-      whole : (j : Json) → text v ≡ some j → compact j ≡ v
-      whole j f = let s = stripped-compact v j f in sym s ∙ strip-same v false false (ap length s ∙ sym (c .is j f) ∙ h)
+  module _ (z : t ≡ true) (n : ℕ) (c : n ≡ length (storedForm v)) where
+    pub stored-short : (n ≡ length v → ⊥) → TellsStored o v false
+    unfolding isStored
+    stored-short h = record { is = λ e. go _ }
+      where
+        go : (d : Datainfo) → false ≡ isStored d v
+        go d = rw (same-long (storedForm v) v (λ z. h (c ∙ z))) (and-false (isFit (verdict d v)))
 
-      go : (d : Datainfo) (q : Option Json) → text v ≡ q → isFit (verdict d v) ≡ isStored d v
-      go d none f = none-stored d f .0
-      go d (some j) f = rw (f, whole j f, same-self v) (and-true (isFit (verdict d v)))
+    pub stored-whole : n ≡ length v → (a : Verdict) (b : Bool) → JudgesText o v a → b ≡ isFit (meaning a) → TellsStored o v b
+    unfolding isStored
+    stored-whole h a b m k = record { is = λ e. k ∙ ap isFit (m .is e) ∙ go _ }
+      where
+        whole : storedForm v ≡ v
+        whole = let s = stripped-form v (sym g ∙ z) in sym s ∙ strip-same v false false (ap length s ∙ sym c ∙ h)
+
+        go : (d : Datainfo) → isFit (verdict d v) ≡ isStored d v
+        go d = rw (whole, same-self v) (and-true (isFit (verdict d v)))
 
 pub fit-is : (a : Verdict) (n : ℕ) → n ≡ severity (meaning a) → eqb n 0 ≡ isFit (meaning a)
 unfolding isFit

@@ -11,6 +11,7 @@ use Rattle.decimal.specs.Token.{isWhole}
 use Rattle.decimal.specs.Decimal.{Decimal, fromInteger, between, exactly, isWithinLimits}
 use Rattle.json.specs.Json as Json
 use Rattle.json.specs.Json.{Json, null, boolean, Items, no-items, item, Members, no-members, member, text, compact}
+unfoldable pub use Rattle.json.specs.Json.{storedOf, storedForm}
 use Rattle.json.specs.Characters.{characters}
 use Rattle.datainfo.specs.Datainfo.{Variant, Datainfo, double, int, bool, enum, string, array, tuple, struct, Elements, no-elements, element, Fields, no-fields, field, fieldNames}
 use Rattle.datainfo.specs.Rules.{isBetween}
@@ -101,7 +102,7 @@ betweenIntegers lo hi a = between (fromInteger lo) (fromInteger hi) a
 unfoldable pub isVariant : List Variant → Decimal → Bool
 isVariant vs a = any (λ (v : Variant). betweenIntegers (v .number) (v .number) a) vs
 
--- "a `\u` above 007F, or a count outside the limits, is RangeError"
+-- "a `\u` above 007F ..": every character is 127 at most, and their count is within the limits
 unfoldable pub stringFit : ℕ → ℕ → List ℕ → Verdict
 stringFit lo hi s = inRange (all (λ c. leb c 127) (characters s) && isBetween lo hi (length (characters s)))
 
@@ -120,7 +121,7 @@ unfoldable pub keys : Members → List (List ℕ)
 keys no-members = []
 keys (member k v ms) = k ∷ keys ms
 
--- "every member exactly once, any order, keys compared by their raw bytes": each name once among the keys, and no other key
+-- "every member exactly once, any order ..": each name once among the keys as they are written, and no other key
 unfoldable pub eachOnce : List (List ℕ) → List (List ℕ) → Bool
 eachOnce names ks = all (λ n. eqb (count (same n) ks) 1) names && all (λ k. any (same k) names) ks
 
@@ -159,7 +160,7 @@ unfoldable mutual
 
 -- ## Texts
 
--- "Stored form: the value's text without spaces outside strings. Over 256 bytes is RangeError."
+-- "Stored form: the value's text without spaces ..": over 256 bytes of it are a fault of range
 unfoldable pub valueVerdict : Datainfo → Json → Verdict
 valueVerdict d v = worse (fit d v) (inRange (leb (length (compact v)) 256))
 
@@ -170,14 +171,6 @@ verdictOf d (some v) = valueVerdict d v
 
 unfoldable pub verdict : Datainfo → List ℕ → Verdict
 verdict d xs = verdictOf d (text xs)
-
-unfoldable pub storedOf : Option Json → List ℕ
-storedOf none = []
-storedOf (some v) = compact v
-
--- a text's stored form; empty where it is no JSON
-unfoldable pub storedForm : List ℕ → List ℕ
-storedForm xs = storedOf (text xs)
 
 unfoldable pub isFit : Verdict → Bool
 isFit v = eqb (severity v) 0

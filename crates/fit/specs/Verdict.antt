@@ -27,7 +27,7 @@ meaning BadJson = badJSON
 pub record Judges (o : Option (Datainfo × List ℕ)) (q : Option (Json × List ℕ)) (r : Verdict) : Type 0 where
   pub is : {d : Datainfo} {x : List ℕ} {j : Json} {y : List ℕ} → o ≡ some (d, x) → q ≡ some (j, y) → meaning r ≡ fit d j
 
--- r is the verdict on a text by the datainfo that o reads, and whether the text is stored as it is; where o can't be read, r is any
+-- r is the verdict on a text by the datainfo that o reads, and whether the text is stored as it is; asked only where o can be read
 pub record JudgesText (o : Option (Datainfo × List ℕ)) (xs : List ℕ) (r : Verdict) : Type 0 where
   pub is : {d : Datainfo} {x : List ℕ} → o ≡ some (d, x) → meaning r ≡ Fit.verdict d xs
 

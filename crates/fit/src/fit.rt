@@ -1,6 +1,6 @@
 // Which values fit a datainfo: the table's bytes and the value's text are walked over together. `at` is a position in the table: of a
-// datainfo, or past its type byte where the function is of one type; `p` is the position of the value. Of bytes that can't be read as a
-// datainfo, or as a value, the answer says nothing; it is WrongType.
+// datainfo, or past its type byte where the function is of one type; `p` is the position of the value. `verdict` and `is_stored` take a
+// datainfo that can be read, and any text. What they call promises nothing of bytes that can't be read, as a datainfo or as a value.
 ghost use mathlib.Core.Path.{_≡_};
 ghost use Prim.Native.Nat.{ℕ, _≤_};
 ghost use mathlib.Core.List.{[]};
@@ -11,7 +11,7 @@ ghost use Rattle.decimal.specs.Token.{isWhole};
 ghost use Rattle.json.specs.Json as Json;
 ghost use Rattle.json.specs.Json.{bare, value, objectEnd};
 ghost use Rattle.datainfo.specs.Datainfo as Datainfo;
-ghost use Rattle.datainfo.specs.Layout.{doubleAt, intAt, enumAt, stringAt, arrayAt, tupleAt, structAt, datainfoIn};
+ghost use Rattle.datainfo.specs.Layout.{doubleAt, intAt, enumAt, stringAt, arrayAt, tupleAt, structAt, datainfoIn, ReadableAt};
 ghost use Rattle.datainfo.specs.Rules.{isBetween};
 ghost use Rattle.fit.specs.Fit as Fit;
 ghost use Rattle.fit.specs.Fit.{isFit, inRange, wholeFit, betweenIntegers};
@@ -55,7 +55,7 @@ fn severity(a: Verdict) -> u8
 }
 
 // A type fault anywhere wins over a range fault anywhere.
-pub fn worse(a: Verdict, b: Verdict) -> Verdict
+fn worse(a: Verdict, b: Verdict) -> Verdict
     ensures { λ r. ⌜ meaning r ≡ Fit.worse (meaning a) (meaning b) ⌝ }
 {
     if severity(b) <= severity(a) {
@@ -362,7 +362,7 @@ fn struct_fit(s: &[u8], at: usize, levels: usize, v: &[u8], p: usize, depth: usi
 }
 
 // The value at p, without spaces before it, and the datainfo at a position, of at most `levels` levels.
-pub fn fit(s: &[u8], at: usize, levels: usize, v: &[u8], p: usize, depth: usize) -> Verdict
+fn fit(s: &[u8], at: usize, levels: usize, v: &[u8], p: usize, depth: usize) -> Verdict
     requires { ⌜ (at ≤ length (now s)) × (p ≤ length (now v)) ⌝ }
     ensures { λ r. ⌜ Judges (datainfoIn levels (drop at (now (s .entry)))) (bare depth (drop p (now (v .entry)))) r ⌝ }
 {
@@ -386,7 +386,7 @@ pub fn fit(s: &[u8], at: usize, levels: usize, v: &[u8], p: usize, depth: usize)
 
 // What a text comes to: no JSON is BadJSON, more than 256 bytes in stored form a range fault.
 pub fn verdict(s: &[u8], at: usize, v: &[u8]) -> Verdict
-    requires { ⌜ at ≤ length (now s) ⌝ }
+    requires { ⌜ ReadableAt (now s) at 4 ⌝ }
     ensures { λ r. ⌜ JudgesText (datainfoIn 4 (drop at (now (s .entry)))) (now (v .entry)) r ⌝ }
 {
     if is_text(v) {
@@ -404,11 +404,14 @@ fn is_fit(a: Verdict) -> bool
 
 // Whether a text fits and is in stored form: the form is the text without some of its spaces, so it is the text where it is as long.
 pub fn is_stored(s: &[u8], at: usize, v: &[u8]) -> bool
-    requires { ⌜ at ≤ length (now s) ⌝ }
+    requires { ⌜ ReadableAt (now s) at 4 ⌝ }
     ensures { λ r. ⌜ TellsStored (datainfoIn 4 (drop at (now (s .entry)))) (now (v .entry)) r ⌝ }
 {
-    if compact_length(v) == v.len() {
-        return is_fit(verdict(s, at, v));
+    if is_text(v) {
+        if compact_length(v) == v.len() {
+            return is_fit(verdict(s, at, v));
+        }
+        return false;
     }
     false
 }

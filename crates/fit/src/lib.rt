@@ -1,7 +1,7 @@
 // Which values fit a datainfo in the table's bytes.
 pub mod fit;
-pub mod object;
-pub mod walk;
+mod object;
+mod walk;
 
 // What a value comes to, each worse than the one before.
 pub enum Verdict {

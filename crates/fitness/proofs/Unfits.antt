@@ -8,9 +8,10 @@ use mathlib.Core.Option.{Option}
 use mathlib.Core.Path.{_≡_, refl, sym, ap, _∙_}
 use lib.ListN.{length, getD, take, drop}
 use borrow.Author.Tests.{ne-eqb, lt-ltb, le-ltb}
+use Rattle.ascii.specs.Bytes.{any}
 use Rattle.ascii.specs.Numbers.{latest}
 use Rattle.datainfo.specs.Datainfo.{Datainfo}
-use Rattle.datainfo.specs.Layout.{datainfoAt}
+use Rattle.datainfo.specs.Layout.{datainfoAt, ReadableAt}
 use Rattle.fit.specs.Verdict.{TellsStored}
 use Rattle.table.specs.Layout.{tableOf}
 use Rattle.table.specs.Search.{parametersOf, parameters}
@@ -18,15 +19,15 @@ use Rattle.table.specs.At.{parameterOf}
 use Rattle.table.specs.declared.layout.ParameterAt.{ParameterAt}
 use Rattle.search.specs.declared.cursor.Cursor.{Cursor}
 use Rattle.search.specs.declared.cursor.NextParameter as P
-use Rattle.search.specs.Left.{Fits, InTable, FirstCursor, NextParameterIs}
-use Rattle.search.proofs.Finds.{Counted, counted-parameters, number-is, number-on}
+use Rattle.search.specs.Left.{OnWay, FirstCursor, NextParameterIs}
+use Rattle.search.proofs.Finds.{Counted, counted-parameters, number-end, number-is, number-on}
 use Rattle.report.specs.Judge.{tableNumber}
-use Rattle.sound.proofs.Accepted.{accepted, accepted-whole}
+use Rattle.plain.specs.Node.{clientNumbers}
+use Rattle.sound.proofs.Accepted.{accepted}
 use Rattle.state.specs.declared.Settings.{Settings}
 use Rattle.state.specs.declared.State.{State}
 use Rattle.state.specs.View.{storedText}
-use Rattle.state.specs.Fit.{settingUnfit, settingsUnfit, isUnfit}
-use Rattle.state.specs.Becomes.{Judged}
+use Rattle.state.specs.Fit.{settingUnfit, settingsUnfit, clientUnfit, isUnfit}
 use Rattle.fitness.specs.Unfit.{TellsUnfit}
 use Rattle.fitness.proofs.Whole.{drop-there, past-64}
 
@@ -70,8 +71,8 @@ module _ (table values : List ℕ) (s : Settings) where
   passed-start c f = record { counted = counted-parameters table c f; is = refl }
 
   module _ (k : ℕ) (c : Cursor) (h : Passed table values s k c) where
-    pub passed-fits : Fits table c
-    passed-fits = h .counted .fits
+    pub passed-way : OnWay table c
+    passed-way = h .counted .way
 
     none-left : drop k (parameters (tableOf table)) ≡ [] → false ≡ settingsUnfit s values 0 (parameters (tableOf table))
     unfolding settingsUnfit
@@ -81,20 +82,20 @@ module _ (table values : List ℕ) (s : Settings) where
     passed-all a l = none-left (past-64 table a k l)
 
     module _ (r : P.NextParameter) (hr : NextParameterIs table c r) where
-      pub passed-end : tableNumber table ≡ 0 → r ≡ P.the-variants.End → false ≡ settingsUnfit s values 0 (parameters (tableOf table))
-      passed-end a z = none-left ((rw z at hr) _ (h .counted .left (tableOf table) (accepted-whole table a)))
+      pub passed-end : r ≡ P.the-variants.End → false ≡ settingsUnfit s values 0 (parameters (tableOf table))
+      passed-end z = none-left (number-end table k k c (h .counted) r hr z)
 
       module _ (q : ParameterAt) (e : Cursor) (z : r ≡ P.the-variants.At q e) where
-        pub info-within : q .info ≤ length table
-        info-within = (rw z at hr) .held .infoWithin
+        pub info-readable : ReadableAt table (q .info) 4
+        info-readable = let x = (rw z at hr) .held in record { within = x .infoWithin; datainfo = x .datainfo; left = x .left; is = x .info }
 
-        module _ (a : tableNumber table ≡ 0) (b : Bool) (t : TellsUnfit s values k (datainfoAt (drop (q .info) table)) b) where
+        module _ (b : Bool) (t : TellsUnfit s values k (datainfoAt (drop (q .info) table)) b) where
           step : settingsUnfit s values 0 (parameters (tableOf table)) ≡ b || settingsUnfit s values (k + 1) (drop (k + 1) (parameters (tableOf table)))
           unfolding settingsUnfit parameterOf
           step =
               let n = number-is table k k c (h .counted) r hr q e z refl in
               let p = parameterOf table q (n .held .datainfo) in
-              let i = drop-there k (parameters (tableOf table)) _ (n .is (tableOf table) (accepted-whole table a)) in
+              let i = drop-there k (parameters (tableOf table)) _ (n .is) in
               h .is ∙ ap (settingsUnfit s values k) i
               ∙ ap (λ (d : Bool). d || settingsUnfit s values (suc k) (drop (k + 1) (parameters (tableOf table)))) (sym (t .is p (n .held .info)))
               ∙ ap (λ (j : ℕ). b || settingsUnfit s values j (drop (k + 1) (parameters (tableOf table)))) (sym (add-one k))
@@ -112,10 +113,10 @@ module _ (table values : List ℕ) (s : State) (b : Bool) (h : b ≡ settingsUnf
   unfolding isUnfit
   settings-make e = rw (← h, e)
 
-  pub clients-make : b ≡ false → tableNumber table ≡ 0 → (m : ℕ) → (InTable table λ t. m ≡ length (t .modules))
-      → (r : Bool) → Judged m (s .clients) r → r ≡ isUnfit (tableOf table) s values
+  pub clients-make : b ≡ false → (m : ℕ) → m ≡ length (tableOf table .modules)
+      → (r : Bool) → r ≡ any (clientUnfit m (s .clients)) clientNumbers → r ≡ isUnfit (tableOf table) s values
   unfolding isUnfit
-  clients-make e a m i r j = rw (← h, e, ← (i (tableOf table) (accepted-whole table a))) (j .is)
+  clients-make e m i r j = rw (← h, e, ← i) j
 
-pub few-counted : (table : List ℕ) → tableNumber table ≡ 0 → (m : ℕ) → (InTable table λ t. m ≡ length (t .modules)) → m ≤ 16
-few-counted table a m i = let e = i (tableOf table) (accepted-whole table a) in let f = accepted table a .fewModules in omega arith
+pub few-counted : (table : List ℕ) → tableNumber table ≡ 0 → (m : ℕ) → m ≡ length (tableOf table .modules) → m ≤ 16
+few-counted table a m e = let f = accepted table a .fewModules in omega arith

@@ -2,7 +2,7 @@
 ghost use mathlib.Core.Path.{_≡_};
 ghost use Prim.Native.Nat.{_≤_, _<_};
 ghost use lib.ListN.{length, drop};
-ghost use Rattle.datainfo.specs.Layout.{datainfoAt};
+ghost use Rattle.datainfo.specs.Layout.{datainfoAt, ReadableAt};
 ghost use Rattle.table.specs.Layout.{tableOf};
 ghost use Rattle.table.specs.Search.{parameters};
 ghost use Rattle.report.specs.Judge.{tableNumber};
@@ -17,9 +17,9 @@ use state::Settings;
 use state::State;
 use state::client::clients_unfit;
 
-// "a stored length is over 256; a stored value is not in stored form or doesn't fit its datainfo; a stored time is above the limit"
+// "a stored length is over 256 ..": see `state/Fit.settingUnfit`. The value is judged where one is stored.
 fn setting_unfit(table: &[u8], values: &[u8], settings: Settings, k: usize, info: usize) -> bool
-    requires { ⌜ (info ≤ length (now table)) × ((k < 64) × (16384 ≤ length (now values))) ⌝ }
+    requires { ⌜ ReadableAt (now table) info 4 × ((k < 64) × (16384 ≤ length (now values))) ⌝ }
     ensures { λ r. ⌜ TellsUnfit settings (now (values .entry)) k (datainfoAt (drop info (now (table .entry)))) r ⌝ }
 {
     let size = settings.length[k] as usize;
@@ -58,6 +58,7 @@ fn settings_unfit(table: &[u8], values: &[u8], settings: Settings) -> bool
     false
 }
 
+// "State is unfit if, for this table: ..": a stored value is at fault, or a client is.
 pub fn is_unfit(table: &[u8], values: &[u8], state: State) -> bool
     requires { ⌜ (tableNumber (now table) ≡ 0) × (16384 ≤ length (now values)) ⌝ }
     ensures { λ r. ⌜ r ≡ isUnfit (tableOf (now (table .entry))) state (now (values .entry)) ⌝ }

@@ -3,14 +3,14 @@ ghost use mathlib.Core.Bool.{true};
 ghost use mathlib.Core.Path.{_≡_};
 ghost use Rattle.history.specs.Demand.{Demand3, BytesAreRead};
 
-// In every run after an accepted start, answers and end are the plain node's, and every second history sends the same bytes and ends equal.
+// In every history, answers and end are the plain node's; after an accepted start every second history sends the same bytes and ends equal.
 pub fn demand_3() -> bool
     ensures { λ r. ⌜ (r ≡ true) × Demand3 ⌝ }
 {
     true
 }
 
-// The records that anyone reads off the bytes of a run are the plain node's.
+// The records that anyone reads off the bytes of a history are the plain node's.
 pub fn bytes_are_read() -> bool
     ensures { λ r. ⌜ (r ≡ true) × BytesAreRead ⌝ }
 {

@@ -135,8 +135,8 @@ bare (suc d) xs =
 abbrev pub value : ℕ → List ℕ → Option (Json × List ℕ)
 value d = spaced (bare d)
 
--- a whole text: "JSON nested more than 8 levels of arrays and objects counts as BadJSON; so does a byte outside 32 to 126 in any
--- value, and an empty or all-space reading or initial value"
+-- a whole text: one value and nothing after it. "JSON nested more than 8 levels ..": the value is read with 8 levels left, no reader takes a byte
+-- outside 32 to 126, and spaces alone are no value
 unfoldable pub text : List ℕ → Option Json
 text s = value 8 s >>= λ p. cond (eqb (length (p .1)) 0) (some (p .0)) none
 
@@ -171,3 +171,13 @@ unfoldable mutual
   pub moreMembers : Members → List ℕ
   moreMembers no-members = []
   moreMembers (member k v ms) = bytes "," ++ quoted k ++ bytes ":" ++ compact v ++ moreMembers ms
+
+-- ## "Stored form: the value's text without spaces outside strings."
+
+unfoldable pub storedOf : Option Json → List ℕ
+storedOf none = []
+storedOf (some v) = compact v
+
+-- a text's stored form; empty where it is no JSON
+unfoldable pub storedForm : List ℕ → List ℕ
+storedForm xs = storedOf (text xs)

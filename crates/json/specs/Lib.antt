@@ -1,4 +1,3 @@
 pub mod Json
 pub mod Characters
-pub mod Compacted
 pub mod Theorems

@@ -35,6 +35,8 @@ use Rattle.state.specs.declared.State.{State}
 use Rattle.state.specs.View.{view, withStored, withLength}
 use Rattle.state.specs.Fit.{settingsUnfit, clientUnfit, isUnfit}
 use Rattle.state.proofs.Flags.{neither, nor}
+use Rattle.state.proofs.Becomes.{Sized}
+use Rattle.state.proofs.Cells.{active-becomes}
 use Rattle.state.proofs.Kept.{still-fit}
 use Rattle.state.proofs.Settled as Settled
 use Rattle.state.proofs.Settled.{some-stored, stored-fit}
@@ -122,13 +124,14 @@ module _ (table : List ℕ) (s : State) (values before : List ℕ) (c t : ℕ) (
     sent-answered written x k =
         carried-answered n written none (x .carries) (k .keeps) (rw (k .state, x .unstored)) (rw (k .state, x .unstored) (given .fit)) (x .unstored) (rw (k .state))
 
-    active-answered : (mask written : ℕ) → Activates w n c t before mid values stored o mask written → Switches mid after s c t r mask written
+    active-answered : Sized (s .clients) → (mask written : ℕ) → Activates w n c t before mid values stored o mask written → Switches mid after s c t r mask written
         → Answers table (s .settings) values before t r stored after (conclude w n c t p o)
     unfolding isUnfit view areaWith settingsWith
-    active-answered mask written x k =
-        let fit = still-fit (length (w .modules)) (k .clients) (record { isOpen = given .isOpen; within = x .low }) clients-fit in
+    active-answered z mask written x k =
+        let b = active-becomes (s .clients) z c (given .lent .low) mask (k .clients) in
+        let fit = still-fit (length (w .modules)) b (record { isOpen = given .isOpen; within = x .low }) clients-fit in
         carried-answered _ written none (x .carries) (k .keeps)
-        (rw (x .unstored) (parts-view table values (r .state) refl (k .settings) ∙ client-view table s values (k .clients)))
+        (rw (x .unstored) (parts-view table values (r .state) refl (k .settings) ∙ client-view table s values b))
         (rw (x .unstored) (rw (k .settings) (nor settings-fit fit)))
         (x .unstored)
         (k .settings)
@@ -151,13 +154,13 @@ module _ (table : List ℕ) (s : State) (values before : List ℕ) (c t : ℕ) (
         (x .area)
         settings
 
-    answered : Settled.Sized (s .settings) → t ≤ latest
+    answered : Sized (s .clients) → Settled.Sized (s .settings) → t ≤ latest
         → (came : Outcome) → OutcomeIs w n c t before mid values stored came o → Concludes mid after s c t r (p .action) (p .specifier) came
         → Answers table (s .settings) values before t r stored after (conclude w n c t p o)
-    answered z h (Refused e) x k = refused-answered e x k
-    answered z h (Sent written) x k = sent-answered written x k
-    answered z h (Active mask written) x k = active-answered mask written x k
-    answered z h (Stored k size written) x y = stored-answered z h k size written x y
+    answered y z h (Refused e) x k = refused-answered e x k
+    answered y z h (Sent written) x k = sent-answered written x k
+    answered y z h (Active mask written) x k = active-answered y mask written x k
+    answered i z h (Stored k size written) x y = stored-answered z h k size written x y
 
   -- ## A whole line
 
@@ -186,13 +189,13 @@ module _ (table : List ℕ) (s : State) (values before : List ℕ) (c t : ℕ) (
         (omega (arith, there-low (parameters w) k (x .parameter) (x .there), accepted table (given .lent .accepted) .few), rw (x .long) (short-stored (x .parameter .it .datainfo) (x .text) (x .fits)))
 
     pub line-answered :
-        (asked : Request) → Asks xs a p asked → Settled.Sized (s .settings) → t ≤ latest
+        (asked : Request) → Asks xs a p asked → Sized (s .clients) → Settled.Sized (s .settings) → t ≤ latest
         → (mid stored after : List ℕ) (came : Outcome) (r : Answered)
         → Comes table s values before c t came stored mid (meaning xs (part xs p) (part xs d) asked)
         → Concludes mid after s c t r (part xs a) (part xs p) came
         → Answers table (s .settings) values before t r stored after (answerParts w n c t (partsOf (content (whole xs))))
     unfolding answerParts
-    line-answered asked k z l mid stored after came r x y =
-        answered (partsOf (content (whole xs))) mid stored (outcome w n c t (request (partsOf (content (whole xs))))) after r z l came
+    line-answered asked k i z l mid stored after came r x y =
+        answered (partsOf (content (whole xs))) mid stored (outcome w n c t (request (partsOf (content (whole xs))))) after r i z l came
         (rw (requested xs a p d asked h k) at x)
         (rw (h .action-is, h .specifier-is) at y)

@@ -3,15 +3,14 @@ use Prim.Native.Nat.{ℕ, _+_, _-_, _≤_, _<_}
 use native.Mathlib.Omega.{arith}
 use mathlib.Core.Path.{_≡_, refl, subst}
 use mathlib.Core.List.{List, [], _∷_, _++_}
-use mathlib.Core.Option.{some}
 use lib.ListN.{length, length-append}
 use Rattle.ascii.specs.Text.{bytes}
 use Rattle.ascii.specs.Numbers.{twoBytes}
 use Rattle.ascii.specs.Writer.{Puts}
 use Rattle.ascii.proofs.Puts.{puts-length, puts-both}
-use Rattle.table.specs.Table.{Table}
-use Rattle.table.specs.Layout.{wholeTable, tableOf}
+use Rattle.table.specs.Layout.{tableOf}
 use Rattle.report.specs.Report.{report}
+use Rattle.report.proofs.Faults.{accepted-readable}
 use Rattle.describe.specs.Emitted.{capped}
 use Rattle.describe.specs.Room.{RoomFor}
 use Rattle.message.specs.Reply.{describing}
@@ -19,18 +18,18 @@ use Rattle.message.specs.Request as R
 use Rattle.outbox.specs.Written.{describingStart}
 use Rattle.outbox.proofs.Written.{describing-encoded}
 use Rattle.plain.specs.Answer.{outcome}
-use Rattle.sound.proofs.Accepted.{accepted, accepted-whole}
+use Rattle.sound.proofs.Accepted.{accepted}
 use Rattle.outcome.specs.Outcome.{ComesAtAny}
 use Rattle.outcome.specs.Ready.{Lent}
 use Rattle.outcome.specs.declared.Outcome.the-variants.{Sent}
 use Rattle.line.proofs.Carried.{sends}
 
-module _ (table before : List ℕ) (c : ℕ) (given : Lent table before c) (n : ℕ) (e : (t : Table) → wholeTable table ≡ some t → n ≡ capped (length (report t))) where
+module _ (table before : List ℕ) (c : ℕ) (given : Lent table before c) (n : ℕ) (e : n ≡ capped (length (report (tableOf table)))) where
   abbrev text : List ℕ
   text = report (tableOf table)
 
   size-is : n ≡ length text
-  size-is = omega (arith, e (tableOf table) (accepted-whole table (given .accepted)), accepted table (given .accepted) .short)
+  size-is = omega (arith, e, accepted table (given .accepted) .short)
 
   start-length : length (describingStart c n) ≡ 18
   unfolding describingStart twoBytes bytes
@@ -53,15 +52,11 @@ module _ (table before : List ℕ) (c : ℕ) (given : Lent table before c) (n : 
     pub report-room : RoomFor table p d
     report-room =
         record {
-          table = tableOf table;
-          is = accepted-whole table (given .accepted);
+          readable = accepted-readable table (given .accepted);
           room = omega (arith, after-start);
         }
 
-    module _ (f : List ℕ) (q : ℕ) (y : (t : Table) → wholeTable table ≡ some t → Puts d p (report t) f q) where
-      written : Puts d p text f q
-      written = y (tableOf table) (accepted-whole table (given .accepted))
-
+    module _ (f : List ℕ) (q : ℕ) (written : Puts d p text f q) where
       pub feed-room : q < length f
       feed-room = let ends = written .ends in omega (arith, after-start, puts-length written)
 

@@ -9,10 +9,9 @@ use Rattle.message.specs.Reply.{error}
 use Rattle.message.specs.Said.{classOf}
 use Rattle.message.specs.declared.say.Class.{Class}
 use Rattle.outbox.specs.Outbox.{final, encode}
-use Rattle.plain.specs.Node.{activated}
 use Rattle.state.specs.declared.State.{State}
-use Rattle.state.specs.View.{bit, clientAt, withLength}
-use Rattle.state.specs.Becomes.{Becomes, Activatable}
+use Rattle.state.specs.View.{withLength}
+use Rattle.state.specs.Changed.{withActive}
 use Rattle.outcome.specs.declared.Outcome.{Outcome}
 use Rattle.outcome.specs.declared.Outcome.the-variants.{Refused, Sent, Active, Stored}
 use Rattle.outcome.specs.declared.Answered.{Answered}
@@ -51,7 +50,7 @@ module _ (before after : List ℕ) (s : State) (c t : ℕ) (r : Answered) where
   pub record Switches (mask written : ℕ) : Type 0 where
     pub keeps : Keeps written
     pub settings : r .state .settings ≡ s .settings
-    pub clients : Becomes (s .clients) c (activated (bit mask) (clientAt (s .clients) c)) (Activatable (s .clients) c mask) (r .state .clients)
+    pub clients : r .state .clients ≡ withActive (s .clients) c mask
 
   -- parameter k has a stored value of so many bytes, from this time on
   pub record Sets (k size written : ℕ) : Type 0 where

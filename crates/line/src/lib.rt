@@ -23,8 +23,7 @@ mod conclude;
 mod describing;
 mod request;
 
-// "action, specifier and data are parted at the first and second space"; a line without content is ProtocolError with empty action and
-// specifier
+// "Otherwise action, specifier and data are parted ..": the answer to each request; a line that says nothing is ProtocolError with empty words
 pub fn answer_line(
     table: &[u8],
     values: &mut [u8],

@@ -65,9 +65,9 @@ fn deactivate_part(
 }
 
 // `read`, of the module and the parameter whose names two parts of the line hold.
-fn read_part(
-    table: &[u8],
-    values: &[u8],
+fn read_part<'a>(
+    table: &'a [u8],
+    values: &'a [u8],
     out: &mut [u8],
     state: State,
     client: u8,

@@ -87,7 +87,7 @@ fn return_end(line: &[u8]) -> usize
 }
 
 // Where the content of a line ends: at 0 where a byte is outside 32 to 126.
-pub fn content_end(line: &[u8]) -> usize
+fn content_end(line: &[u8]) -> usize
     ensures { λ r. ⌜ Ends (now (line .entry)) r (content (whole (now (line .entry)))) ⌝ }
 {
     let end = return_end(line);

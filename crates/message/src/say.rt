@@ -34,13 +34,13 @@ fn put3(out: &mut [u8], at: usize, a: &[u8], b: &[u8], c: &[u8]) -> usize
     put(out, third, c)
 }
 
-pub fn data_report_length(value: &[u8], time: u64) -> usize
+fn data_report_length(value: &[u8], time: u64) -> usize
     ensures { λ r. ⌜ r ≡ length (dataReport (now (value .entry)) time) ⌝ }
 {
     value.len() + seconds_length(time) + 9
 }
 
-pub fn put_data_report(out: &mut [u8], at: usize, value: &[u8], time: u64) -> usize
+fn put_data_report(out: &mut [u8], at: usize, value: &[u8], time: u64) -> usize
     requires { ⌜ at + length (dataReport (now value) time) ≤ length (now out) ⌝ }
     ensures { λ r. ⌜ Puts (now (out .entry)) at (dataReport (now (value .entry)) time) (now (out .exit)) r ⌝ }
 {
@@ -50,14 +50,14 @@ pub fn put_data_report(out: &mut [u8], at: usize, value: &[u8], time: u64) -> us
 }
 
 // The names and the value are short enough for their sum to fit.
-pub fn report_length(module: &[u8], accessible: &[u8], value: &[u8], time: u64) -> usize
+fn report_length(module: &[u8], accessible: &[u8], value: &[u8], time: u64) -> usize
     requires { ⌜ length (now «module») + length (now accessible) + length (now value) ≤ 65536 ⌝ }
     ensures { λ r. ⌜ r ≡ length (reportText (reportOf (now («module» .entry)) (now (accessible .entry)) (now (value .entry)) time)) ⌝ }
 {
     module.len() + accessible.len() + 2 + data_report_length(value, time)
 }
 
-pub fn put_report(
+fn put_report(
     out: &mut [u8],
     at: usize,
     module: &[u8],
@@ -73,7 +73,7 @@ pub fn put_report(
     put_data_report(out, data, value, time)
 }
 
-pub fn error_report_length(class: Class) -> usize
+fn error_report_length(class: Class) -> usize
     ensures { λ r. ⌜ r ≡ length (errorReport (classOf class)) ⌝ }
 {
     match class {
@@ -88,7 +88,7 @@ pub fn error_report_length(class: Class) -> usize
     }
 }
 
-pub fn put_error_report(out: &mut [u8], at: usize, class: Class) -> usize
+fn put_error_report(out: &mut [u8], at: usize, class: Class) -> usize
     requires { ⌜ at + length (errorReport (classOf class)) ≤ length (now out) ⌝ }
     ensures { λ r. ⌜ Puts (now (out .entry)) at (errorReport (classOf class)) (now (out .exit)) r ⌝ }
 {

@@ -1,53 +1,33 @@
--- The start, one law for each way through the code: the view of a blank state is the plain node's beginning, for every table, and a blank state
--- is fit. Assumes nothing.
-use Prim.Native.Nat.{ℕ, zero, suc, _≤_, _<_}
+-- The start, one law for each way through the code: the view of a blank state is the plain node's beginning, for every table. Assumes nothing.
+use Prim.Native.Nat.{ℕ, _≤_, _<_}
 use native.Mathlib.Omega.{arith}
 use borrow.Author.Tests.{lt-ltb, le-ltb, ne-eqb}
-use mathlib.Core.Bool.{Bool, false, cond}
-use mathlib.Core.List.{List, [], _∷_}
+use mathlib.Core.Bool.{Bool, cond}
+use mathlib.Core.List.{List, []}
 use mathlib.Core.Logic.{_≢_}
 use mathlib.Core.Option.{Option, none, some}
 use mathlib.Core.Path.{_≡_, refl, sym, ap, subst, fun-ext, _∙_}
 use lib.Dec.{eqb}
-use lib.ListN.{length, getD, replicate, getD-replicate}
-use Rattle.ascii.specs.Bytes.{any}
+use lib.ListN.{length, getD, getD-replicate}
 use Rattle.ascii.specs.Numbers.{latest}
-use Rattle.table.specs.Table.{Parameter, Table}
+use Rattle.table.specs.Table.{Table}
 use Rattle.table.specs.Layout.{readTable, orEmpty, tableOf}
-use Rattle.table.specs.Search.{Placed, placedFrom, parameters}
+use Rattle.table.specs.Search.{placedFrom, parameters}
 use Rattle.report.specs.Judge.{lowest, tableNumber}
 use Rattle.report.proofs.Faults.{lowest-first}
-use Rattle.plain.specs.Node.{Client, closed, initially, begin, clientNumbers}
+use Rattle.plain.specs.Node.{Client, closed, initially, begin}
 use Rattle.plain.specs.Calls.{startNumber, started}
 use Rattle.state.specs.declared.Clients.{Clients}
-use Rattle.state.specs.declared.Settings.{Settings}
 use Rattle.state.specs.declared.State.{State}
-use Rattle.state.specs.View.{isSet, lineBytes, clientAt, valueAt, view}
-use Rattle.state.specs.Fit.{clientUnfit, settingUnfit, settingsUnfit, isUnfit}
-use Rattle.state.proofs.Flags.{nor}
-use Rattle.state.proofs.Kept.{all-fit}
-use Rattle.state.proofs.Masks.{past-last, no-bit}
+use Rattle.state.specs.View.{isSet, clientAt, valueAt, view}
 use Rattle.state.proofs.Views.{begun-view}
 use Rattle.sound.proofs.Accepted.{accepted}
 use Rattle.promise.specs.declared.Done.{Done}
 use Rattle.promise.specs.Promise.{blank, Begins}
+use Rattle.promise.proofs.Blank.{zeros, blank-size, blank-fit}
 use Rattle.node.proofs.Refused.{Quiet}
 
--- ## What the places of a blank state hold
-
-zeros : (n i : ℕ) → getD {A = ℕ} (replicate n 0) i 0 ≡ 0
-zeros zero i = refl
-zeros (suc n) zero = refl
-zeros (suc n) (suc i) = zeros n i
-
-at-most : (n i t m : ℕ) → t ≤ m → getD (replicate n t) i 0 ≤ m
-at-most zero i t m h = omega arith
-at-most (suc n) zero t m h = h
-at-most (suc n) (suc i) t m h = at-most n i t m h
-
-blank-size : (t p : ℕ) → getD (blank t .settings .length) p 0 ≡ 0
-unfolding blank
-blank-size t p = zeros 64 p
+-- ## The times of a blank state
 
 blank-time : (t p : ℕ) → p < 64 → getD (blank t .settings .time) p 0 ≡ t
 unfolding blank
@@ -56,10 +36,6 @@ blank-time t p h = getD-replicate 64 p t 0 h
 blank-untimed : (p : ℕ) → getD (blank 0 .settings .time) p 0 ≡ 0
 unfolding blank
 blank-untimed p = zeros 64 p
-
-blank-early : (t p : ℕ) → t ≤ latest → getD (blank t .settings .time) p 0 ≤ latest
-unfolding blank
-blank-early t p h = at-most 64 p t latest h
 
 -- ## The view of a blank state
 
@@ -89,33 +65,6 @@ blank-view table values t h = go (readTable table) refl
         let is : tableOf table ≡ w = ap orEmpty e in
         begun-view table w e (blank t) values t (blank-closed t) (λ p l. blank-size t p) (λ p l. h p (rw is l))
         ∙ ap (λ (x : Table). begin x t) (sym is)
-
--- ## A blank state is fit
-
-setting-fit : (s : Settings) (values : List ℕ) (p : ℕ) (x : Parameter) → getD (s .length) p 0 ≡ 0 → getD (s .time) p 0 ≤ latest
-    → settingUnfit s values p x ≡ false
-unfolding settingUnfit
-setting-fit s values p x h m = rw (h, le-ltb latest (getD (s .time) p 0) m) refl
-
-settings-fit : (s : Settings) (values : List ℕ) → ((p : ℕ) → getD (s .length) p 0 ≡ 0) → ((p : ℕ) → getD (s .time) p 0 ≤ latest)
-    → (p : ℕ) (xs : List (Placed Parameter)) → settingsUnfit s values p xs ≡ false
-unfolding settingsUnfit
-settings-fit s values h m p [] = refl
-settings-fit s values h m p (x ∷ xs) = nor (setting-fit s values p (x .it) (h p) (m p)) (settings-fit s values h m (suc p) xs)
-
-client-fit : (m : ℕ) (s : Clients) (c : ℕ) → getD (s .open) c 0 ≡ 0 → getD (s .overlong) c 0 ≡ 0 → getD (s .active) c 0 ≡ 0 → getD (s .length) c 0 ≡ 0
-    → clientUnfit m s c ≡ false
-unfolding clientUnfit isSet lineBytes any
-client-fit m s c o v a n = rw (o, v, a, n, past-last 0 m (λ j h. no-bit j)) refl
-
-clients-fit : (m t : ℕ) → any (clientUnfit m (blank t .clients)) clientNumbers ≡ false
-unfolding blank
-clients-fit m t = all-fit m (blank t .clients) (λ c l. client-fit m (blank t .clients) c (zeros 8 c) (zeros 8 c) (zeros 8 c) (zeros 8 c))
-
-blank-fit : (w : Table) (values : List ℕ) (t : ℕ) → t ≤ latest → isUnfit w (blank t) values ≡ false
-unfolding isUnfit
-blank-fit w values t h =
-    nor (settings-fit (blank t .settings) values (blank-size t) (λ p. blank-early t p h) 0 (parameters w)) (clients-fit (length (w .modules)) t)
 
 -- ## Answers
 

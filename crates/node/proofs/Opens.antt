@@ -9,13 +9,15 @@ use mathlib.Core.Path.{_≡_, refl, sym, ap, subst, _∙_}
 use lib.ListN.{length}
 use Rattle.table.specs.Layout.{tableOf}
 use Rattle.report.specs.Judge.{fault}
-use Rattle.plain.specs.Node.{closed, fresh, isOpen}
+use Rattle.plain.specs.Node.{isOpen}
 use Rattle.plain.specs.Calls.{Call, Open, Close, fault11}
 use Rattle.state.specs.declared.Clients.{Clients}
 use Rattle.state.specs.declared.State.{State}
 use Rattle.state.specs.View.{isSet, view}
 use Rattle.state.specs.Fit.{isUnfit}
-use Rattle.state.specs.Becomes.{Becomes, Always}
+use Rattle.state.specs.Changed.{withOpened, withClosed}
+use Rattle.state.proofs.Becomes.{Sized}
+use Rattle.state.proofs.Cells.{opened-becomes, closed-becomes}
 use Rattle.promise.specs.declared.Done.{Done}
 use Rattle.promise.specs.Promise.{Kept}
 use Rattle.promise.specs.Lent.{lentNumber}
@@ -85,18 +87,18 @@ module _ (table : List ℕ) (s : State) (values : List ℕ) (c t : ℕ) where
         pub close-closed : not b ≡ true → Quiet r 12 s → Answers closing r
         close-closed y q = refused-second table s values [] closing numbered-close lent ok (not-high h) (ap (λ (z : Bool). fault 12 (not z)) (is-open judged (not-true b y))) q
 
-        pub open-good : {x : Clients} → b ≡ false → Becomes (s .clients) c fresh Always x → Quiet r 0 (next x) → Answers opening r
-        open-good {x} y d q =
+        pub open-good : {x : Clients} → b ≡ false → Sized (s .clients) → x ≡ withOpened (s .clients) c → Quiet r 0 (next x) → Answers opening r
+        open-good {x} y z d q =
             subst (Answers opening) (sym q)
             (accepts table s values opening [] (record { number = 0; used = 0; written = 0; state = next x }) values []
             (not-refused table s values [] opening numbered-open lent ok (not-high h) (ap (fault 13) (is-open judged y)))
             (omega arith)
-            (opens table s values (fit lent ok) c t x d))
+            (opens table s values (fit lent ok) c t x (opened-becomes (s .clients) z c (omega arith) d)))
 
-        pub close-good : {x : Clients} → not b ≡ false → Becomes (s .clients) c closed Always x → Quiet r 0 (next x) → Answers closing r
-        close-good {x} y d q =
+        pub close-good : {x : Clients} → not b ≡ false → Sized (s .clients) → x ≡ withClosed (s .clients) c → Quiet r 0 (next x) → Answers closing r
+        close-good {x} y z d q =
             subst (Answers closing) (sym q)
             (accepts table s values closing [] (record { number = 0; used = 0; written = 0; state = next x }) values []
             (not-refused table s values [] closing numbered-close lent ok (not-high h) (ap (λ (z : Bool). fault 12 (not z)) (is-open judged (not-false b y))))
             (omega arith)
-            (closes table s values (fit lent ok) c t x d))
+            (closes table s values (fit lent ok) c t x (closed-becomes (s .clients) z c (omega arith) d)))

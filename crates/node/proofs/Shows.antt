@@ -10,7 +10,7 @@ use mathlib.Core.Path.{_≡_, refl, sym, subst, _∙_}
 use lib.Dec.{eqb}
 use lib.ListN.{length, getD, take, drop, getElem?, length-drop}
 use lib.Seq.{length-take-le}
-use Rattle.table.specs.Layout.{tableOf}
+use Rattle.table.specs.Layout.{tableOf, Readable}
 use Rattle.table.specs.Table.{Parameter}
 use Rattle.table.specs.Search.{Placed, parameters}
 use Rattle.table.specs.At.{bytesOf, parameterOf}
@@ -32,8 +32,8 @@ use Rattle.promise.specs.Shown.{valueNumber, heldIn, Shows}
 use Rattle.promise.proofs.Numbers.{Good, good}
 use Rattle.promise.proofs.Clients.{fit-parts}
 use Rattle.node.specs.Part.{partShown}
-use Rattle.report.proofs.Faults.{lowest-first}
-use Rattle.node.proofs.Reading.{parameter-at, none-past, none-found, is-there}
+use Rattle.report.proofs.Faults.{lowest-first, accepted-readable}
+use Rattle.node.proofs.Reading.{parameter-at, none-past, none-found}
 
 -- ## The part
 
@@ -74,6 +74,9 @@ module _ (table values : List ℕ) (s : State) (k : ℕ) where
       abbrev known : Good table s values 32768 0
       known = good table s values 32768 0 none-lent
 
+      pub value-table : Readable table
+      value-table = accepted-readable table (known .accepted)
+
       no-parameter : {r : Shown} → getElem? (parameters (tableOf table)) k ≡ none → Refuses r 14 → Shows table values s k r
       unfolding valueNumber lowest
       no-parameter e q = refused (rw (none-lent, e) refl) (λ z. absurd (omega arith)) q
@@ -98,7 +101,7 @@ module _ (table values : List ℕ) (s : State) (k : ℕ) where
           it = placed table c (parameterOf table at (found .held .datainfo))
 
           there : getElem? (parameters (tableOf table)) k ≡ some it
-          there = is-there table (known .accepted) k at c found
+          there = found .is
 
           is-number : 0 ≡ valueNumber table values s k
           unfolding valueNumber lowest

@@ -15,7 +15,7 @@ use Rattle.plain.specs.Calls.{Call, Piece, fault11, callNumber}
 use Rattle.state.specs.declared.State.{State}
 use Rattle.state.specs.View.{isSet, view}
 use Rattle.state.specs.Fit.{isUnfit}
-use Rattle.state.specs.Becomes.{Sized}
+use Rattle.state.proofs.Becomes.{Sized}
 use Rattle.outcome.specs.Ready.{Ready}
 use Rattle.promise.specs.declared.Done.{Done}
 use Rattle.promise.specs.Promise.{Kept}

@@ -12,8 +12,8 @@ ghost use lib.ListN.{length};
 ghost use Rattle.plain.specs.Calls.{Reading};
 ghost use Rattle.promise.specs.Promise.{Kept};
 
-// "a driver's value for a parameter, numbered from 0 in table order over parameters only". A table has 64 at most. Number 14: "no such
-// parameter number"; 15: "reading refused by the value rules".
+// "a driver's value for a parameter, numbered from 0 ..". A table has 64 parameters at most. Number 14: "no such parameter number"; 15: "reading
+// refused by the value rules".
 #[no_mangle]
 pub extern "C" fn jihfasul_reading(
     table: &[u8],

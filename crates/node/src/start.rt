@@ -28,7 +28,7 @@ fn blank(time: u64) -> State
     }
 }
 
-// "All parameters show their initial value, with the start's time; the values area isn't written."
+// "All parameters show their initial value ..": nothing is stored, and every time is the start's.
 #[no_mangle]
 pub extern "C" fn jihfasul_start(table: &[u8], values: &[u8], time: u64) -> Done
     ensures { λ r. ⌜ Begins (now (table .entry)) (now (values .entry)) time r ⌝ }

@@ -24,8 +24,7 @@ fn not_shown(number: u8) -> Shown
     }
 }
 
-// "Length 0 means never set: the value shown is then the part of the table that holds its initial value, otherwise the part of the values
-// area that holds the stored one, no copy.": of parameter k.
+// "Length 0 means never set ..": where the value that parameter k shows lies, in the table or in the values area.
 fn part_shown(settings: Settings, k: usize, initial: Part) -> Shown
     requires { ⌜ (k < 64) × (initial .from ≤ initial .to) ⌝ }
     ensures { λ r. ⌜ r ≡ partShown settings k initial ⌝ }

@@ -19,12 +19,12 @@ settingIn (update c r ∷ rs) = none
 settingIn (orderChange c p v ∷ rs) = some (p, v)
 settingIn (orderCommand c p v ∷ rs) = none
 
--- "An accepted setting writes its stored form at the front of them and no other byte.": the values area
+-- the values area, where what is set is stored and nothing else is written
 unfoldable pub areaWith : List ℕ → Option Setting → List ℕ
 areaWith values none = values
 areaWith values (some (p, v)) = withStored values p v
 
--- "A stored value carries the time of the event that set it.": lengths and times
+-- lengths and times, where what is set gets the time of the call
 unfoldable pub settingsWith : Settings → ℕ → Option Setting → Settings
 settingsWith s t none = s
 settingsWith s t (some (p, v)) = withLength s p (length v) t

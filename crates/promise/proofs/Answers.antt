@@ -20,7 +20,7 @@ use Rattle.sound.proofs.Histories.{calls-keep-sound}
 use Rattle.state.specs.declared.State.{State}
 use Rattle.state.specs.View.{view, outboxAfter, written}
 use Rattle.state.specs.Fit.{isUnfit}
-use Rattle.state.specs.Becomes.{Sized}
+use Rattle.state.proofs.Becomes.{Sized}
 use Rattle.state.proofs.Stands.{fit-is-sound}
 use Rattle.outcome.specs.Setting.{areaWith, settingsWith}
 use Rattle.promise.specs.declared.Done.{Done}

@@ -19,7 +19,7 @@ use Rattle.state.specs.declared.Clients.{Clients}
 use Rattle.state.specs.declared.State.{State}
 use Rattle.state.specs.View.{isSet, clientAt, view, outboxAfter, written}
 use Rattle.state.specs.Fit.{clientUnfit, settingsUnfit, isUnfit}
-use Rattle.state.specs.Becomes.{Becomes, Always, Joinable}
+use Rattle.state.proofs.Becomes.{Becomes, Always, Joinable}
 use Rattle.state.proofs.Flags.{neither}
 use Rattle.state.proofs.Kept.{still-fit}
 use Rattle.state.proofs.Views.{client-view}

@@ -19,7 +19,7 @@ use Rattle.state.specs.declared.Clients.{Clients}
 use Rattle.state.specs.declared.State.{State}
 use Rattle.state.specs.View.{isSet, lineBytes, lineAt, clientAt, view, outboxAfter, written}
 use Rattle.state.specs.Fit.{clientUnfit, isUnfit}
-use Rattle.state.specs.Becomes.{Becomes, Always, Joinable}
+use Rattle.state.proofs.Becomes.{Becomes, Always, Joinable}
 use Rattle.state.proofs.Views.{client-view}
 use Rattle.outcome.specs.Setting.{settingIn, areaWith, settingsWith}
 use Rattle.outcome.specs.declared.Answered.{Answered}

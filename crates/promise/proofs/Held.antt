@@ -15,7 +15,7 @@ use Rattle.state.specs.declared.State.{State}
 use Rattle.message.specs.Line.{Line}
 use Rattle.state.specs.View.{isSet, bit, lineAt, clientAt}
 use Rattle.state.specs.Fit.{clientUnfit, isUnfit}
-use Rattle.state.specs.Becomes.{Becomes, Always, Sized, LinesFit}
+use Rattle.state.proofs.Becomes.{Becomes, Always, Sized, LinesFit}
 use Rattle.state.proofs.Cells.{fit-at}
 use Rattle.state.proofs.Kept.{each-fit, fit-lines, still-fit}
 use Rattle.outcome.specs.Ready.{Lent, Ready}

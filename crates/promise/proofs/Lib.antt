@@ -3,3 +3,4 @@ pub mod Answers
 pub mod Clients
 pub mod Feeds
 pub mod Held
+pub mod Blank

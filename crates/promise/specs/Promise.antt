@@ -74,7 +74,7 @@ blank time =
       settings = record { length = replicate 64 0; time = replicate 64 time };
     }
 
--- What a start promises; it writes nothing. "A refused start returns a state with no client open and every number 0."
+-- What a start promises; it writes nothing. "A refused start returns ..": a blank state with time 0.
 pub record Begins (table values : List ℕ) (time : ℕ) (r : Done) : Type 0 where
   pub number : r .number ≡ startNumber table (length values) time
   pub used : r .used ≡ 0

@@ -1,8 +1,9 @@
 -- Runs: calls one after another on one table, each of which kept its promise. Assumes nothing.
-use Prim.Native.Nat.{ℕ}
+use Prim.Native.Nat.{ℕ, _<_}
 use mathlib.Core.List.{List, [], _∷_}
 use lib.ListN.{length, take}
 use Rattle.plain.specs.Calls.{Call, Open, Close, Piece, Reading}
+use Rattle.plain.specs.History.{Heard}
 use Rattle.state.specs.declared.State.{State}
 use Rattle.promise.specs.declared.Done.{Done}
 use Rattle.promise.specs.Promise.{Kept}
@@ -15,14 +16,9 @@ pub record Kit : Type 0 where
 abbrev pub kit : State → List ℕ → Kit
 kit s values = record { state = s; values = values }
 
--- what a caller hears of a call: its number, how many bytes it used, and the bytes that it wrote to the outbox
-pub record Heard : Type 0 where
-  pub number : ℕ
-  pub used : ℕ
-  pub sent : List ℕ
-
+-- what is heard of an answer, by the outbox that it left
 abbrev pub hears : Done → List ℕ → Heard
-hears r outbox = record { number = r .number; used = r .used; sent = take (r .written) outbox }
+hears r outbox = record { number = r .number; used = r .used; written = take (r .written) outbox }
 
 -- A call of one of the four functions after a start that kept its promise: what was handed in, the call as the plain node takes it, what was
 -- handed back, and what was heard.
@@ -45,8 +41,11 @@ pub data Called (table : List ℕ) : Kit → Call → Kit → Heard → Type 0 w
       (Reading p bs t (length values) (length outbox))
       (kit (r .state) values′)
       (hears r outbox′)
+  -- the same, lent a values area of under 16,384 bytes in the place of its own, which the caller keeps
+  lent-less : {s : State} {values lent : List ℕ} {e : Call} {k : Kit} {a : Heard} → length lent < 16384 → Called table (kit s lent) e k a
+      → Called table (kit s values) e (kit (k .state) values) a
 
--- each call is given state and values area as the last one left them
+-- each call is given the state as the last one left it, and the values area, unless it is lent one that is too small
 pub data Run (table : List ℕ) : Kit → List Call → Kit → List Heard → Type 0 where
   ended : (k : Kit) → Run table k [] k []
   called : {k l m : Kit} {e : Call} {h : List Call} {a : Heard} {as′ : List Heard}

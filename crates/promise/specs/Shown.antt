@@ -29,8 +29,8 @@ heldIn table values r = cond (eqb (r .stored) 0) table values
 abbrev pub valueOf : List ℕ → List ℕ → State → ℕ → Value
 valueOf table values s p = view table s values .values p
 
--- "the value shown is then the part of the table that holds its initial value, otherwise the part of the values area that holds the stored
--- one, no copy": asked for parameter p, the call answers r; it writes nothing, and a refusal answers its number only
+-- "the value shown is then the part of the table ..": asked for parameter p, the call answers r, where that part lies; it writes nothing, and a
+-- refusal answers its number only
 pub record Shows (table values : List ℕ) (s : State) (p : ℕ) (r : Shown) : Type 0 where
   pub number : r .number ≡ valueNumber table values s p
   pub within : r .number ≡ 0 → r .from + r .size ≤ length (heldIn table values r)

@@ -1,12 +1,16 @@
--- The lowest of some faults. Assumes nothing.
+-- The lowest of some faults, and a table without faults. Assumes nothing.
 use Prim.Native.Nat.{ℕ, zero, suc}
 use native.Mathlib.Omega.{arith}
 use mathlib.Core.Bool.{Bool, true, false}
 use mathlib.Core.List.{List, [], _∷_, _++_}
 use mathlib.Core.Logic.{_≢_}
+use mathlib.Core.Option.{Option, none, some}
 use mathlib.Core.Path.{_≡_, refl}
 use lib.ListN.{getD}
-use Rattle.report.specs.Judge.{fault, lowest}
+use Rattle.ascii.specs.Bytes.{isSome}
+use Rattle.table.specs.Table.{Table}
+use Rattle.table.specs.Layout.{readTable, Readable}
+use Rattle.report.specs.Judge.{fault, lowest, numberOf, tableNumber}
 
 -- a fault whose number is none is not there
 pub no-fault : (k : ℕ) (b : Bool) → fault (suc k) b ≡ 0 → b ≡ false
@@ -33,3 +37,12 @@ unfolding lowest
 lowest-both [] ys = refl
 lowest-both (zero ∷ xs) ys = lowest-both xs ys
 lowest-both (suc k ∷ xs) ys = refl
+
+-- an accepted table can be read
+pub accepted-readable : (s : List ℕ) → tableNumber s ≡ 0 → Readable s
+unfolding tableNumber numberOf
+accepted-readable s e = go (readTable s) e
+  where
+    go : (o : Option Table) → numberOf o ≡ 0 → isSome o ≡ true
+    go none e = absurd (omega arith)
+    go (some t) e = refl

@@ -1,34 +1,21 @@
 -- The number that a table is answered with: 0 to 6. Assumes nothing.
-use Prim.Native.Nat.{ℕ, zero, suc}
-use mathlib.Core.Bool.{Bool, cond, not}
-use mathlib.Core.List.{List, [], _∷_}
+use Prim.Native.Nat.{ℕ}
+use mathlib.Core.List.{List, [], _∷_, _++_}
 use mathlib.Core.Option.{Option, none, some}
 use lib.Dec.{ltb}
 use lib.ListN.{length}
 use Rattle.table.specs.Table.{Table}
 use Rattle.table.specs.Layout.{readTable}
-use Rattle.table.specs.Rules.{countsGood, namesGood, datainfosGood, initialsGood}
+use Rattle.table.specs.Rules.{faultsBelow6}
 use Rattle.report.specs.Report.{report}
+pub use Rattle.table.specs.Rules.{fault}
+unfoldable pub use Rattle.table.specs.Rules.{lowest}
 
--- k where a fault is there, else 0
-abbrev pub fault : ℕ → Bool → ℕ
-fault k there = cond there k 0
-
--- "Several faults: the lowest number.": the first of them that is not 0, since faults are listed in the order of their numbers
-unfoldable pub lowest : List ℕ → ℕ
-lowest [] = 0
-lowest (zero ∷ ks) = lowest ks
-lowest (suc k ∷ ks) = suc k
-
+-- the lowest of a table's faults: 2 to 5 by its own rules, then 6, "structure report over 32,000 bytes"
 unfoldable pub treeNumber : Table → ℕ
-treeNumber t = lowest
-    (fault 2 (not (countsGood t))
-    ∷ fault 3 (not (namesGood t))
-    ∷ fault 4 (not (datainfosGood t))
-    ∷ fault 5 (not (initialsGood t))
-    ∷ fault 6 (ltb 32000 (length (report t)))
-    ∷ [])
+treeNumber t = lowest (faultsBelow6 t ++ (fault 6 (ltb 32000 (length (report t))) ∷ []))
 
+-- 1 where there is no table, since its bytes can't be read
 unfoldable pub numberOf : Option Table → ℕ
 numberOf none = 1
 numberOf (some t) = treeNumber t

@@ -79,11 +79,15 @@ module _ {A : Type 0} (name : A → List ℕ) (m a : List ℕ) (xs : List (Place
   pub found-there : getElem? xs (k .0) ≡ some (k .1)
   found-there = first-there _ xs k e
 
-  pub found-named : (m ≡ k .1 .moduleName) × (a ≡ name (k .1 .it))
+  found-both : (same m (k .1 .moduleName) ≡ true) × (same a (name (k .1 .it)) ≡ true)
   unfolding first
-  found-named =
-      let h = both (same m (k .1 .moduleName)) (same a (name (k .1 .it))) (first-passes _ 0 xs k e) in
-      (same-is m (k .1 .moduleName) (h .0), same-is a (name (k .1 .it)) (h .1))
+  found-both = both (same m (k .1 .moduleName)) (same a (name (k .1 .it))) (first-passes _ 0 xs k e)
+
+  pub found-in : same m (k .1 .moduleName) ≡ true
+  found-in = found-both .0
+
+  pub found-named : (m ≡ k .1 .moduleName) × (a ≡ name (k .1 .it))
+  found-named = (same-is m (k .1 .moduleName) found-in, same-is a (name (k .1 .it)) (found-both .1))
 
 -- a parameter's module is one of the table's
 module _ {A : Type 0} (of : List Accessible → List A) where

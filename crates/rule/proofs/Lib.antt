@@ -4,3 +4,4 @@ pub mod Calls
 pub mod Replies
 pub mod Rule
 pub mod Lines
+pub mod Good

@@ -23,7 +23,7 @@ use Rattle.plain.specs.Answer.{Outcome, refused, carried, outcome, activates, d
 use Rattle.plain.specs.Calls.{Call, Open, Close, Piece, Reading, Answer, beforeFeed}
 use Rattle.plain.specs.History.{step}
 use Rattle.rule.specs.Records.{updatesFor, repliesFor, inScopeOf, reportsOf, activeBy, activeAfter}
-use Rattle.rule.specs.Theorems.{requestOf, ToActive, UpdatesGoToActiveClients, Set, ReadingSets, ReadingsAreSentToAll, ChangeSets, OfPiece, of-piece, ChangesAreSentToAll, Setting, by-reading, by-change, ValuesAlterBySettings, InitialUpdates, ActivationsSendAll, ActivationsAreOnesOwn, AltersNothing, ErrorsAlterNothing}
+use Rattle.rule.specs.Theorems.{requestOf, ToActive, UpdatesGoToActiveClients, Set, ReadingSets, ReadingsAreSentToAll, Changed, ChangeSets, OfPiece, of-piece, ChangesAreSentToAll, Setting, by-reading, by-change, ValuesAlterBySettings, InitialUpdates, ActivationsSendAll, ActivationsAreOnesOwn, AltersNothing, ErrorsAlterNothing}
 use Rattle.rule.proofs.Laws.{parameter-home, put-same, put-other, put-all, receive-active, emptied-open, emptied-active, activated-active, active-open, updates-append, replies-append, no-final-replies, updates-to-member, updates-of-member, updates-of-for, sent-once, sent-never}
 use Rattle.rule.proofs.Outcomes.{Simple, by-identify, by-describe, by-ping, LetIn, doneOf, ordering, outcome-holds}
 use Rattle.rule.proofs.Calls.{replyTo, before, nodeAfter, quiet, idle, partsAt, outcomeAt, Answered, Did, opened, shut, received, read, line, every-call, accepted-call, Line-of, line-of, line-of-final, refusals-alter-nothing}
@@ -187,86 +187,63 @@ no-updates : (d : ℕ) (rs : List Record) (c : ℕ) (r : Reply) → updatesFor d
 unfolding updatesFor
 no-updates d rs c r = updates-append d rs (final c r ∷ []) ∙ append-nil (updatesFor d rs)
 
--- the same, put together at the node that the line was carried out on
-module _ (w : Table) (n m : Node) (c : ℕ) (bs : List ℕ) (t : ℕ) (r : Report) (rs : List Record) (o : Outcome)
-    (h : Changing w (idle n c) c t (requestOf n c bs) o r)
-    (node : m ≡ nodeAfter (idle n c) o)
-    (records : rs ≡ before o ++ (final c (changed r) ∷ [])) where
+-- a line that came to the setting of parameter k to the text v, put together at the node that it was carried out on
+module _ (w : Table) (n m : Node) (c t : ℕ) (k : ℕ × Placed Parameter) (v : List ℕ) (rs : List Record)
+    (there : getElem? (parameters w) (k .0) ≡ some (k .1)) where
   abbrev value : Value
-  value = record { text = storedForm (h .v); time = t }
+  value = record { text = v; time = t }
 
   abbrev updates : List Record
-  updates = updatesTo (idle n c .clients) (h .k .1 .home) (reportOf (h .k .1) value) clientNumbers
+  updates = updatesTo (idle n c .clients) (k .1 .home) (reportOf (k .1) value) clientNumbers
 
-  node-is : m ≡ withValue (idle n c) (h .k .0) value
+  abbrev finally : List Record
+  finally = final c (changed (reportOf (k .1) value)) ∷ []
+
+  module _ (node : m ≡ withValue (idle n c) (k .0) value) (records : rs ≡ orderChange c (k .0) v ∷ (updates ++ finally)) where
+    clients-are : m .clients ≡ idle n c .clients
+    clients-are = ap (λ (x : Node). x .clients) node
+
+    sent-updates : (d : ℕ) → updatesFor d rs ≡ updatesFor d (updatesTo (m .clients) (k .1 .home) (reportOf (k .1) value) clientNumbers)
+    unfolding updatesFor
+    sent-updates d =
+        ap (updatesFor d) records
+        ∙ no-updates d updates c (changed (reportOf (k .1) value))
+        ∙ ap (λ f. updatesFor d (updatesTo f (k .1 .home) (reportOf (k .1) value) clientNumbers)) (sym clients-are)
+
+    was-changed : Changed w n m c (k .0) (k .1) value rs
+    was-changed =
+        record {
+          set = set-sent w n m (k .0) (k .1) value rs there (ap (λ (x : Node). x .values) node) sent-updates;
+          records =
+              records
+              ∙ ap
+              (λ f. orderChange c (k .0) v ∷ (updatesTo f (k .1 .home) (reportOf (k .1) value) clientNumbers ++ finally))
+              (sym clients-are);
+        }
+
+  pub answered-change : (bs : List ℕ) → Answered w n c bs t m rs → outcomeAt w n c bs t ≡ sets w (idle n c) c t k v
+      → Changed w n m c (k .0) (k .1) value rs
   unfolding sets
-  node-is = node ∙ ap (nodeAfter (idle n c)) (h .is)
-
-  records-are : rs ≡ orderChange c (h .k .0) (storedForm (h .v)) ∷ (updates ++ (final c (changed r) ∷ []))
-  unfolding sets
-  records-are = records ∙ ap (λ x. before x ++ (final c (changed r) ∷ [])) (h .is)
-
-  clients-are : m .clients ≡ idle n c .clients
-  clients-are = ap (λ (x : Node). x .clients) node-is
-
-  sent-updates : (d : ℕ)
-      → updatesFor d rs ≡ updatesFor d (updatesTo (m .clients) (h .k .1 .home) (reportOf (h .k .1) value) clientNumbers)
-  unfolding updatesFor
-  sent-updates d =
-      ap (updatesFor d) records-are
-      ∙ no-updates d updates c (changed r)
-      ∙ ap
-      (λ f. updatesFor d (updatesTo f (h .k .1 .home) (reportOf (h .k .1) value) clientNumbers))
-      (sym clients-are)
-
-  change-sets : ChangeSets w n m c bs t r rs
-  change-sets =
-      record {
-        k = h .k .0;
-        p = h .k .1;
-        offered = h .v;
-        asked = h .asked;
-        writable = h .let-in .writable;
-        fitting = h .let-in .fitting;
-        tells = h .tells;
-        set =
-            set-sent
-            w
-            n
-            m
-            (h .k .0)
-            (h .k .1)
-            value
-            rs
-            (h .let-in .there)
-            (ap (λ (x : Node). x .values) node-is)
-            sent-updates;
-        records =
-            records-are
-            ∙ ap
-            (λ l. orderChange c (h .k .0) (storedForm (h .v)) ∷ (l ++ (final c (changed r) ∷ [])))
-            (ap (λ f. updatesTo f (h .k .1 .home) (reportOf (h .k .1) value) clientNumbers) (sym clients-are)
-            ∙ ap (λ x. updatesTo (m .clients) (h .k .1 .home) x clientNumbers) (sym (h .tells)));
-      }
+  answered-change bs h e =
+      was-changed
+      (h .node ∙ ap (nodeAfter (idle n c)) e)
+      (h .records ∙ ap (λ o. before o ++ (final c (replyTo (partsAt n c bs) o) ∷ [])) e)
 
 changed-line : {w : Table} {n m : Node} {rs : List Record} {c : ℕ} (r : Report) {e : Call} → Line-of w n m rs c (changed r) e
     → OfPiece c (λ bs t. ChangeSets w n m c bs t r rs) e
 changed-line {w} {n} {m} {rs} {c} r (line-of {bs = bs} {t = t} h q) =
-    let o : Outcome = outcomeAt w n c bs t in
+    let g = changing w (idle n c) c t (partsAt n c bs) (requestOf n c bs) r q in
     of-piece
-    (change-sets
-    w
-    n
-    m
-    c
-    bs
-    t
-    r
-    rs
-    o
-    (changing w (idle n c) c t (partsAt n c bs) (requestOf n c bs) r q)
-    (h .node)
-    (h .records ∙ ap (λ x. before o ++ (final c x ∷ [])) (sym q)))
+    (record {
+      k = g .k .0;
+      p = g .k .1;
+      offered = g .v;
+      asked = g .asked;
+      writable = g .let-in .writable;
+      fitting = g .let-in .fitting;
+      tells = g .tells;
+      changed = answered-change w n m c t (g .k) (storedForm (g .v)) rs (g .let-in .there) bs h (g .is);
+    })
 
 pub changes-are-sent-to-all : ChangesAreSentToAll
 changes-are-sent-to-all table n e c r l = changed-line r (line-of-final table n e c (changed r) l)

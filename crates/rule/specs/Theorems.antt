@@ -16,7 +16,7 @@ use Rattle.message.specs.Error.{Class}
 use Rattle.message.specs.Reply.{Report, Reply, reply, changed, active, done, error}
 use Rattle.table.specs.Table.{Parameter, Command, parameter, Module, Table}
 use Rattle.table.specs.Layout.{tableOf}
-use Rattle.table.specs.Search.{Placed, parameters, commands}
+use Rattle.table.specs.Search.{Placed, parameters, commands, findParameter}
 use Rattle.outbox.specs.Outbox.{Record, final, update, orderChange, orderCommand}
 use Rattle.plain.specs.Node.{Value, Node, put, withClient, isOpen, isActive, lineOf, receive, emptied, reportOf, clientNumbers, updatesTo}
 use Rattle.plain.specs.Answer.{argumentVerdict, argumentForm}
@@ -64,8 +64,17 @@ ReadingsAreSentToAll = (table : List ℕ) (n : Node) (k : ℕ) (bs : List ℕ) (
 unfoldable pub requestOf : Node → ℕ → List ℕ → Request
 requestOf n c bs = request (partsOf (content (lineOf (receive (n .clients c) (beforeFeed bs)))))
 
+-- Client c changed parameter k, which is p, to v, and nothing else: first the driver's order, then the updates, lowest client first, then the
+-- reply.
+pub record Changed (w : Table) (n m : Node) (c k : ℕ) (p : Placed Parameter) (v : Value) (rs : List Record) : Type 0 where
+  pub set : Set w n m k p v rs
+  pub records : rs
+      ≡ (orderChange c k (v .text) ∷ [])
+      ++ updatesTo (m .clients) (p .home) (reportOf p v) clientNumbers
+      ++ (final c (changed (reportOf p v)) ∷ [])
+
 -- A change that is replied to by `changed` was asked for by that line, fits, and sets that parameter to its stored form at the time of
--- the line feed: first the driver's order, then the updates, lowest client first, then the reply.
+-- the line feed.
 pub record ChangeSets (w : Table) (n m : Node) (c : ℕ) (bs : List ℕ) (t : ℕ) (r : Report) (rs : List Record) : Type 0 where
   pub k : ℕ
   pub p : Placed Parameter
@@ -74,9 +83,7 @@ pub record ChangeSets (w : Table) (n m : Node) (c : ℕ) (bs : List ℕ) (t : �
   pub writable : p .it .readonly ≡ false
   pub fitting : verdict (p .it .datainfo) offered ≡ fits
   pub tells : r ≡ reportOf p (record { text = storedForm offered; time = t })
-  pub set : Set w n m k p (record { text = storedForm offered; time = t }) rs
-  pub records : rs
-      ≡ (orderChange c k (storedForm offered) ∷ []) ++ updatesTo (m .clients) (p .home) r clientNumbers ++ (final c (changed r) ∷ [])
+  pub changed : Changed w n m c k p (record { text = storedForm offered; time = t }) rs
 
 -- what holds of a piece of client c, by its bytes and its time
 pub data OfPiece (c : ℕ) (P : List ℕ → ℕ → Type 0) : Call → Type 0 where
@@ -86,6 +93,16 @@ abbrev pub ChangesAreSentToAll : Type 0
 ChangesAreSentToAll = (table : List ℕ) (n : Node) (e : Call) (c : ℕ) (r : Report)
     → List·Memᴰ (final c (changed r)) (step table n e .1 .records)
     → OfPiece c (λ bs t. ChangeSets (tableOf table) n (step table n e .0) c bs t r (step table n e .1 .records)) e
+
+-- And every good change is made: one that a line asks for, which an accepted piece of its client ends, of a parameter that is there and is not
+-- readonly, by a value that fits.
+abbrev pub GoodChangesAreMade : Type 0
+GoodChangesAreMade = (table : List ℕ) (n : Node) (c : ℕ) (bs : List ℕ) (t a o : ℕ) → step table n (Piece c bs t a o) .1 .number ≡ 0
+    → hasFeed bs ≡ true → (m x offered : List ℕ) → requestOf n c bs ≡ change m x offered
+    → (k : ℕ) (p : Placed Parameter) → findParameter (tableOf table) m x ≡ some (k, p) → p .it .readonly ≡ false
+    → verdict (p .it .datainfo) offered ≡ fits
+    → let s = step table n (Piece c bs t a o) in
+    Changed (tableOf table) n (s .0) c k p (record { text = storedForm offered; time = t }) (s .1 .records)
 
 -- No other call alters a value: of a call that alters one, either it is an accepted reading, or its line was replied to by `changed`.
 pub data Setting : Call → Answer → Type 0 where

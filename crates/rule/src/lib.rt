@@ -1,6 +1,6 @@
 ghost use mathlib.Core.Bool.{true};
 ghost use mathlib.Core.Path.{_≡_};
-ghost use Rattle.rule.specs.Theorems.{UpdatesGoToActiveClients, ChangesAreSentToAll, ReadingsAreSentToAll, ValuesAlterBySettings, ActivationsSendAll, ActivationsAreOnesOwn, ParametersBelong, OneReplyForEachLine, PiecesAreUsed, ReadsAreTrue, CommandsAreOrdered, ErrorsAlterNothing, RefusalsAlterNothing};
+ghost use Rattle.rule.specs.Theorems.{UpdatesGoToActiveClients, ChangesAreSentToAll, GoodChangesAreMade, ReadingsAreSentToAll, ValuesAlterBySettings, ActivationsSendAll, ActivationsAreOnesOwn, ParametersBelong, OneReplyForEachLine, PiecesAreUsed, ReadsAreTrue, CommandsAreOrdered, ErrorsAlterNothing, RefusalsAlterNothing};
 
 // Each function here promises a theorem about the definitions. Nothing is run.
 
@@ -18,7 +18,14 @@ pub fn changes_are_sent_to_all() -> bool
     true
 }
 
-// So is an accepted reading.
+// A change of a parameter that is there and not readonly, by a value that fits, is made.
+pub fn good_changes_are_made() -> bool
+    ensures { λ r. ⌜ (r ≡ true) × GoodChangesAreMade ⌝ }
+{
+    true
+}
+
+// An accepted reading is sent to the same clients.
 pub fn readings_are_sent_to_all() -> bool
     ensures { λ r. ⌜ (r ≡ true) × ReadingsAreSentToAll ⌝ }
 {

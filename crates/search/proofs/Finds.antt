@@ -11,6 +11,7 @@ use lib.Dec.{eqb}
 use borrow.Author.Tests.{eqb-true, not-true, not-false}
 use Rattle.ascii.specs.Bytes.{same}
 use Rattle.table.specs.Table as Table
+use Rattle.table.specs.Layout.{tableOf}
 use Rattle.table.specs.Search.{Placed, parametersOf, commandsOf, parameters, commands, firstFrom, first, findModule, findParameter, findCommand}
 use Rattle.table.specs.declared.layout.ParameterAt.{ParameterAt}
 use Rattle.table.specs.declared.layout.CommandAt.{CommandAt}
@@ -20,22 +21,14 @@ use Rattle.table.proofs.Whole.{never}
 use Rattle.search.specs.declared.cursor.Cursor.{Cursor}
 use Rattle.search.specs.declared.cursor.NextParameter as P
 use Rattle.search.specs.declared.cursor.NextCommand as C
-use Rattle.search.specs.Left.{placed, leftFrom, Fits, After, FirstIs, Begins, Ended, InTable, FirstCursor, NextParameterIs, NextCommandIs}
+use Rattle.search.specs.Left.{placed, leftFrom, OnWay, After, FirstIs, Ended, FirstCursor, NextParameterIs, NextCommandIs}
+use Rattle.search.proofs.Lefts.{drop-next}
 use Rattle.search.proofs.Walks.{walk-less}
 use Rattle.search.specs.Found.{isCalled, ParameterFound, CommandFound, ParameterNumbered}
 
 -- ## Lists
 
 module _ {A : Type 0} where
-  drop-more : (n : ℕ) (l : List A) (x : A) (xs : List A) → drop n l ≡ x ∷ xs → drop (suc n) l ≡ xs
-  drop-more zero [] x xs e = let z : _≡_ {A = ℕ} 0 1 = cc in absurd (omega arith)
-  drop-more zero (y ∷ l) x xs e = cc
-  drop-more (suc n) [] x xs e = let z : _≡_ {A = ℕ} 0 1 = cc in absurd (omega arith)
-  drop-more (suc n) (y ∷ l) x xs e = drop-more n l x xs e
-
-  drop-next : (n : ℕ) (l : List A) (x : A) (xs : List A) → drop n l ≡ x ∷ xs → drop (n + 1) l ≡ xs
-  drop-next n l x xs e = rw (add-one n) (drop-more n l x xs e)
-
   drop-at : (n : ℕ) (l : List A) (x : A) (xs : List A) → drop n l ≡ x ∷ xs → getElem? l n ≡ some x
   drop-at zero [] x xs e = let z : _≡_ {A = ℕ} 0 1 = cc in absurd (omega arith)
   drop-at zero (y ∷ l) x xs e = cc
@@ -143,35 +136,35 @@ module _ (t : Table.Table) (m a : List ℕ) (k : ℕ × Placed Table.Command) (e
 module _ {A : Type 0} (of : List Table.Accessible → List A) (l : Table.Table → List (Placed A)) (s : List ℕ) where
   -- n of those of the table have been passed at c
   pub record Counted (n : ℕ) (c : Cursor) : Type 0 where
-    pub fits : Fits s c
+    pub way : OnWay s c
     pub few : n ≤ c .at
-    pub left : InTable s λ t. leftFrom of s c ≡ some (drop n (l t))
+    pub left : leftFrom of s c ≡ some (drop n (l (tableOf s)))
 
-  pub counted-fits : (n : ℕ) (c : Cursor) → Counted n c → Fits s c
-  counted-fits n c h = h .fits
+  pub counted-way : (n : ℕ) (c : Cursor) → Counted n c → OnWay s c
+  counted-way n c h = h .way
 
   module _ (n : ℕ) (c : Cursor) (h : Counted n c) where
-    counted-end : Ended of s c → InTable s λ t. drop n (l t) ≡ []
-    counted-end e t w = e (drop n (l t)) (h .left t w)
+    counted-end : Ended of s c → drop n (l (tableOf s)) ≡ []
+    counted-end e = in-some (sym (h .left) ∙ e)
 
-    module _ (e : Cursor) (a : A) (b : Begins of s c e a) where
-      counted-at : InTable s λ t. FirstIs of s e a (drop n (l t))
-      counted-at t w = b (drop n (l t)) (h .left t w)
+    module _ (e : Cursor) (a : A) (b : FirstIs of s c e a) where
+      counted-at : drop n (l (tableOf s)) ≡ placed s e a ∷ b .others
+      counted-at = in-some (sym (h .left) ∙ b .is)
 
-      counted-left : InTable s λ t. leftFrom of s e ≡ some (drop (n + 1) (l t))
-      counted-left t w = let f = counted-at t w in f .left ∙ ap some (sym (drop-next n (l t) _ _ (f .is)))
+      counted-left : leftFrom of s e ≡ some (drop (n + 1) (l (tableOf s)))
+      counted-left = b .left ∙ ap some (sym (drop-next n (l (tableOf s)) _ _ counted-at))
 
       counted-on : After s c e → Counted (n + 1) e
       counted-on x =
           let y = h .few in
           let z = x .later in
-          record { fits = x .fits; few = omega arith; left = counted-left }
+          record { way = x .way; few = omega arith; left = counted-left }
 
 pub counted-parameters : (s : List ℕ) (c : Cursor) → FirstCursor s c → Counted parametersOf parameters s 0 c
-counted-parameters s c f = record { fits = f .fits; few = omega arith; left = f .parameters }
+counted-parameters s c f = record { way = f .way; few = omega arith; left = f .parameters }
 
 pub counted-commands : (s : List ℕ) (c : Cursor) → FirstCursor s c → Counted commandsOf commands s 0 c
-counted-commands s c f = record { fits = f .fits; few = omega arith; left = f .commands }
+counted-commands s c f = record { way = f .way; few = omega arith; left = f .commands }
 
 -- ## A search by name
 
@@ -179,53 +172,55 @@ module _ {A : Type 0} (of : List Table.Accessible → List A) (l : Table.Table �
   -- none of those that were passed has the names
   pub record Sought (n : ℕ) (c : Cursor) : Type 0 where
     pub counted : Counted of l s n c
-    pub finds : InTable s λ t. first (isNamed name m a) (l t) ≡ firstFrom (isNamed name m a) n (drop n (l t))
+    pub finds : first (isNamed name m a) (l (tableOf s)) ≡ firstFrom (isNamed name m a) n (drop n (l (tableOf s)))
 
   pub sought-start : (c : Cursor) → Counted of l s 0 c → Sought 0 c
   unfolding first
-  sought-start c h = record { counted = h; finds = λ t w. refl }
+  sought-start c h = record { counted = h; finds = refl }
 
-  pub sought-fits : (n : ℕ) (c : Cursor) → Sought n c → Fits s c
-  sought-fits n c h = h .counted .fits
+  pub sought-way : (n : ℕ) (c : Cursor) → Sought n c → OnWay s c
+  sought-way n c h = h .counted .way
 
   module _ (n : ℕ) (c : Cursor) (h : Sought n c) where
-    sought-end : Ended of s c → InTable s λ t. first (isNamed name m a) (l t) ≡ none
+    sought-end : Ended of s c → first (isNamed name m a) (l (tableOf s)) ≡ none
     unfolding firstFrom
-    sought-end e t w = h .finds t w ∙ rw (counted-end of l s n c (h .counted) e t w)
+    sought-end e = h .finds ∙ rw (counted-end of l s n c (h .counted) e)
 
-    module _ (e : Cursor) (x : A) (b : Begins of s c e x) (d : Bool) (hd : d ≡ (same m (bytesOf s (e .name)) && same a (name x))) where
+    module _ (e : Cursor) (x : A) (b : FirstIs of s c e x) (d : Bool) (hd : d ≡ (same m (bytesOf s (e .name)) && same a (name x))) where
       -- the search from here on, by what the test says
       abbrev on : List (Placed A) → Bool → Option (ℕ × Placed A)
       on others d = cond d (some (n, placed s e x)) (firstFrom (isNamed name m a) (suc n) others)
 
-      step : InTable s λ t. first (isNamed name m a) (l t) ≡ on (drop (n + 1) (l t)) d
-      unfolding firstFrom
-      step t w =
-          let f = counted-at of l s n c (h .counted) e x b t w in
-          h .finds t w ∙ ap (firstFrom (isNamed name m a) n) (f .is)
-          ∙ ap (on (f .others)) (sym hd)
-          ∙ ap (λ o. on o d) (sym (drop-next n (l t) _ _ (f .is)))
+      there : drop n (l (tableOf s)) ≡ placed s e x ∷ b .others
+      there = counted-at of l s n c (h .counted) e x b
 
-      sought-here : d ≡ true → InTable s λ t. first (isNamed name m a) (l t) ≡ some (n, record { home = e .modules - 1; moduleName = m; it = x })
-      sought-here z t w =
+      step : first (isNamed name m a) (l (tableOf s)) ≡ on (drop (n + 1) (l (tableOf s))) d
+      unfolding firstFrom
+      step =
+          h .finds ∙ ap (firstFrom (isNamed name m a) n) there
+          ∙ ap (on (b .others)) (sym hd)
+          ∙ ap (λ o. on o d) (sym (drop-next n (l (tableOf s)) _ _ there))
+
+      sought-here : d ≡ true → first (isNamed name m a) (l (tableOf s)) ≡ some (n, record { home = e .modules - 1; moduleName = m; it = x })
+      sought-here z =
           let y = both (same m (bytesOf s (e .name))) (same a (name x)) (sym hd ∙ z) in
-          step t w ∙ rw (z, same-is m (bytesOf s (e .name)) (y .0))
+          step ∙ rw (z, same-is m (bytesOf s (e .name)) (y .0))
 
       sought-on : d ≡ false → After s c e → Sought (n + 1) e
       sought-on z v =
           record {
             counted = counted-on of l s n c (h .counted) e x b v;
-            finds = λ t w. step t w ∙ rw (z, ← (add-one n));
+            finds = step ∙ rw (z, ← (add-one n));
           }
 
 -- ## Where the next one lies
 
 after-room : (s : List ℕ) (c e : Cursor) → After s c e → (n : ℕ) → n ≤ c .at → n + 1 ≤ length s
-after-room s c e a n h = let x = a .later in let y = a .fits .within in omega arith
+after-room s c e a n h = let x = a .later in let y = a .way .fits .within in omega arith
 
 module _ (s : List ℕ) (c : Cursor) (r : P.NextParameter) (hr : NextParameterIs s c r) (q : ParameterAt) (e : Cursor) (z : r ≡ P.the-variants.At q e) where
   pub parameter-home : Inside s (e .name)
-  parameter-home = (rw z at hr) .after .fits .name
+  parameter-home = (rw z at hr) .after .way .fits .name
 
   pub parameter-inside : Inside s (q .name)
   parameter-inside = (rw z at hr) .held .name
@@ -241,7 +236,7 @@ module _ (s : List ℕ) (c : Cursor) (r : P.NextParameter) (hr : NextParameterIs
 
 module _ (s : List ℕ) (c : Cursor) (r : C.NextCommand) (hr : NextCommandIs s c r) (q : CommandAt) (e : Cursor) (z : r ≡ C.the-variants.At q e) where
   pub command-home : Inside s (e .name)
-  command-home = (rw z at hr) .after .fits .name
+  command-home = (rw z at hr) .after .way .fits .name
 
   pub command-inside : Inside s (q .name)
   command-inside = (rw z at hr) .held .name
@@ -271,7 +266,7 @@ abbrev pub SoughtCommand : List ℕ → List ℕ → List ℕ → ℕ → Cursor
 SoughtCommand s m a n c = Sought commandsOf commands commandName s m a n c
 
 module _ (s m a : List ℕ) (n : ℕ) (c : Cursor) (h : SoughtParameter s m a n c) (r : P.NextParameter) (hr : NextParameterIs s c r) where
-  pub parameter-missing : r ≡ P.the-variants.End → InTable s λ t. findParameter t m a ≡ none
+  pub parameter-missing : r ≡ P.the-variants.End → findParameter (tableOf s) m a ≡ none
   unfolding findParameter
   parameter-missing z = sought-end parametersOf parameters parameterName s m a n c h (rw z at hr)
 
@@ -285,14 +280,22 @@ module _ (s m a : List ℕ) (n : ℕ) (c : Cursor) (h : SoughtParameter s m a n 
     parameter-on y = let x = rw z at hr in sought-on parametersOf parameters parameterName s m a n c h e _ (x .first) d hd y (x .after)
 
 module _ (s m a : List ℕ) (n : ℕ) (c : Cursor) (h : SoughtCommand s m a n c) (r : C.NextCommand) (hr : NextCommandIs s c r) where
-  pub command-missing : r ≡ C.the-variants.End → InTable s λ t. findCommand t m a ≡ none
+  pub command-missing : r ≡ C.the-variants.End → findCommand (tableOf s) m a ≡ none
   unfolding findCommand
   command-missing z = sought-end commandsOf commands commandName s m a n c h (rw z at hr)
 
   module _ (q : CommandAt) (e : Cursor) (z : r ≡ C.the-variants.At q e) (d : Bool) (hd : d ≡ (same m (bytesOf s (e .name)) && same a (bytesOf s (q .name)))) where
     pub command-is : d ≡ true → CommandFound s m a n (e .modules - 1) q
     unfolding findCommand commandOf
-    command-is y = let x = rw z at hr in record { held = x .held; is = sought-here commandsOf commands commandName s m a n c h e _ (x .first) d hd y }
+    command-is y =
+        let x = rw z at hr in
+        record {
+          held = x .held;
+          is = sought-here commandsOf commands commandName s m a n c h e _ (x .first) d hd y;
+          next = e;
+          at = x .next;
+          left = counted-left commandsOf commands s n c (h .counted) e _ (x .first);
+        }
 
     pub command-on : d ≡ false → SoughtCommand s m a (n + 1) e
     unfolding commandOf
@@ -301,18 +304,23 @@ module _ (s m a : List ℕ) (n : ℕ) (c : Cursor) (h : SoughtCommand s m a n c)
 -- ## One law for each way through a search by number
 
 module _ (s : List ℕ) (k n : ℕ) (c : Cursor) (h : Counted parametersOf parameters s n c) (r : P.NextParameter) (hr : NextParameterIs s c r) where
-  pub number-missing : r ≡ P.the-variants.End → n ≤ k → InTable s λ t. getElem? (parameters t) k ≡ none
-  number-missing z l t w = drop-past n (parameters t) k (counted-end parametersOf parameters s n c h (rw z at hr) t w) l
+  pub number-end : r ≡ P.the-variants.End → drop n (parameters (tableOf s)) ≡ []
+  number-end z = counted-end parametersOf parameters s n c h (rw z at hr)
+
+  pub number-missing : r ≡ P.the-variants.End → n ≤ k → getElem? (parameters (tableOf s)) k ≡ none
+  number-missing z l = drop-past n (parameters (tableOf s)) k (number-end z) l
 
   module _ (q : ParameterAt) (e : Cursor) (z : r ≡ P.the-variants.At q e) where
     pub number-is : n ≡ k → ParameterNumbered s k q e
     number-is y = let x = rw z at hr in
         rw (← y)
         (record {
-          fits = x .after .fits;
+          fits = x .after .way .fits;
           begun = x .after .begun;
+          home = x .after .way .home (x .after .begun);
+          next = x .next;
           held = x .held;
-          is = λ t w. drop-at n (parameters t) _ _ (counted-at parametersOf parameters s n c h e _ (x .first) t w .is);
+          is = drop-at n (parameters (tableOf s)) _ _ (counted-at parametersOf parameters s n c h e _ (x .first));
           left = counted-left parametersOf parameters s n c h e _ (x .first);
         })
 

@@ -13,7 +13,7 @@ use Rattle.ascii.specs.Text.{bytes}
 use Rattle.ascii.specs.Bytes.{_>>=_, isSome, after}
 use Rattle.ascii.specs.Reader.{rest}
 use Rattle.table.specs.Table as Table
-use Rattle.table.specs.Layout.{begins, accessiblesAt, modulesAt}
+use Rattle.table.specs.Layout.{begins, accessiblesAt, modulesAt, Readable, tableOf}
 use Rattle.table.specs.Search.{Placed, placedFrom, parametersOf, commandsOf, parameters, commands}
 use Rattle.table.specs.declared.layout.Part.{Part}
 use Rattle.table.specs.declared.layout.Texts as T
@@ -26,9 +26,34 @@ use Rattle.table.specs.At.{bytesOf, textsAt, TextsAt, accessibleBegins, accessi
 use Rattle.table.proofs.Accessibles.{in-some}
 use Rattle.table.proofs.Enough.{before, accessibles-stop, accessibles-more, accessible-less, modules-stop, modules-more, heading-less}
 use Rattle.table.proofs.Modules.{withThem, withAccessibles, module-as, module-is, less}
-use Rattle.table.proofs.Whole.{opened, unread, never}
+use Rattle.table.proofs.Whole.{Opened, opened, unread, readable-whole, never}
 use Rattle.search.specs.declared.cursor.Cursor.{Cursor}
-use Rattle.search.specs.Left.{follows, accessiblesLeft, placed, leftFrom, accessiblesOf, Fits, After, FirstIs, Begins, Ended, ParameterFirst, CommandFirst, ModuleFirst, InTable, FirstCursor}
+use Rattle.search.specs.Left.{follows, accessiblesLeft, placed, leftFrom, accessiblesOf, Fits, HomeIs, OnWay, After, FirstIs, Ended, ParameterFirst, CommandFirst, ModuleFirst, FirstCursor}
+
+-- ## Lists
+
+module _ {A : Type 0} where
+  drop-more : (n : ℕ) (l : List A) (x : A) (xs : List A) → drop n l ≡ x ∷ xs → drop (suc n) l ≡ xs
+  drop-more zero [] x xs e = let z : _≡_ {A = ℕ} 0 1 = cc in absurd (omega arith)
+  drop-more zero (y ∷ l) x xs e = cc
+  drop-more (suc n) [] x xs e = let z : _≡_ {A = ℕ} 0 1 = cc in absurd (omega arith)
+  drop-more (suc n) (y ∷ l) x xs e = drop-more n l x xs e
+
+  pub drop-next : (n : ℕ) (l : List A) (x : A) (xs : List A) → drop n l ≡ x ∷ xs → drop (n + 1) l ≡ xs
+  drop-next n l x xs e = rw (add-one n) (drop-more n l x xs e)
+
+-- a first element that was read before others
+pub record Split {A : Type 0} (a : A) (o : Option (List A × List ℕ)) (l : List A) (x : List ℕ) : Type 0 where
+  pub others : List A
+  pub are : o ≡ some (others, x)
+  pub is : l ≡ a ∷ others
+
+pub split : {A : Type 0} (a : A) (o : Option (List A × List ℕ)) (l : List A) (x : List ℕ) → before a o ≡ some (l, x) → Split a o l x
+split a none l x e = absurd (never e)
+split {A} a (some q) l x e =
+    let y : a ∷ q .0 ≡ l = ap (λ (z : List A × List ℕ). z .0) (in-some e) in
+    let z : q .1 ≡ x = ap (λ (z : List A × List ℕ). z .1) (in-some e) in
+    record { others = q .0; are = ap (λ (w : List ℕ). some (q .0, w)) z; is = sym y }
 
 -- ## Whether an accessible is next
 
@@ -93,6 +118,13 @@ module _ {A : Type 0} (of : List Table.Accessible → List A) (s : List ℕ) (c 
   unfolding leftFrom
   left-as = refl
 
+-- all that is left on the way
+abbrev pub whole : (s : List ℕ) (c : Cursor) → OnWay s c → List (Placed Table.Accessible)
+whole s c h = map (placed s c) (h .own) ++ placedFrom accessiblesOf (c .modules) (drop (c .modules) (tableOf s .modules))
+
+pub way-left : (s : List ℕ) (c : Cursor) (h : OnWay s c) → leftFrom accessiblesOf s c ≡ some (whole s c h)
+way-left s c h = left-as accessiblesOf s c ∙ rw (h .reads, h .follow)
+
 -- the same in the latest module, from position j on
 abbrev pub moved : Cursor → ℕ → Cursor
 moved c j = record { at = j; modules = c .modules; name = c .name }
@@ -108,50 +140,99 @@ module _ (s : List ℕ) (c : Cursor) (f : follows s c ≡ true) (a : Table.Acces
   unfolding accessiblesLeft
   left-moved = rw (n .tested)
 
-  pub past-begins : Begins accessiblesOf s c (moved c j) a
+  past-begins : (l : List (Placed Table.Accessible)) → leftFrom accessiblesOf s c ≡ some l → FirstIs accessiblesOf s c (moved c j) a
   past-begins l w = go (accessiblesFrom s j) refl (sym (left-as accessiblesOf s c ∙ ap (withRest accessiblesOf s c) left-one) ∙ w)
     where
-      second : (xs : List Table.Accessible) (r : List ℕ) → accessiblesFrom s j ≡ some (xs, r) → (o : Option (List Table.Module × List ℕ)) → modulesAt (length s) (length r) r ≡ o → withModules accessiblesOf s c (a ∷ xs) o ≡ some l → FirstIs accessiblesOf s (moved c j) a l
+      second : (xs : List Table.Accessible) (r : List ℕ) → accessiblesFrom s j ≡ some (xs, r) → (o : Option (List Table.Module × List ℕ)) → modulesAt (length s) (length r) r ≡ o → withModules accessiblesOf s c (a ∷ xs) o ≡ some l → FirstIs accessiblesOf s c (moved c j) a
       second xs r u none v z = absurd (never z)
       second xs r u (some y) v z =
           record {
             others = map (placed s c) xs ++ placedFrom accessiblesOf (c .modules) (y .0);
-            is = sym (in-some z);
+            is = w ∙ sym z;
             left = left-as accessiblesOf s (moved c j) ∙ ap (withRest accessiblesOf s (moved c j)) (left-moved ∙ u) ∙ ap (withModules accessiblesOf s (moved c j) xs) v;
           }
 
-      go : (o : Option (List Table.Accessible × List ℕ)) → accessiblesFrom s j ≡ o → withRest accessiblesOf s c (before a o) ≡ some l → FirstIs accessiblesOf s (moved c j) a l
+      go : (o : Option (List Table.Accessible × List ℕ)) → accessiblesFrom s j ≡ o → withRest accessiblesOf s c (before a o) ≡ some l → FirstIs accessiblesOf s c (moved c j) a
       go none u z = absurd (never z)
       go (some x) u z = second (x .0) (x .1) u (modulesAt (length s) (length (x .1)) (x .1)) refl z
 
-  past-after : j ≤ length s → Fits s c → After s c (moved c j)
-  past-after w h =
+  past-fits : j ≤ length s → Fits s c → Fits s (moved c j)
+  past-fits w h =
       let l = less s (c .at) j (accessible-less s (c .at) (drop j s) (n .begins) (ap rest e)) in
       let k = h .few in
       let m = h .within in
-      record { fits = record { within = w; name = h .name; few = omega arith }; later = omega arith; begun = n .begun }
+      record { within = w; name = h .name; few = omega arith }
 
-module _ (s : List ℕ) (c : Cursor) (h : Fits s c) (f : follows s c ≡ true) (r : A.Accessible) (hr : AccessibleIs s r (accessibleAt (length s) (drop (c .at) s))) where
+  past-way : j ≤ length s → OnWay s c → OnWay s (moved c j)
+  past-way w h =
+      let x = split a (accessiblesFrom s j) (h .own) (h .rest) (sym left-one ∙ h .reads) in
+      record {
+        fits = past-fits w (h .fits);
+        own = x .others;
+        rest = h .rest;
+        left = h .left;
+        reads = left-moved ∙ x .are;
+        follow = h .follow;
+        end = h .end;
+        home = h .home;
+      }
+
+  past-after : j ≤ length s → OnWay s c → After s c (moved c j)
+  past-after w h =
+      let l = less s (c .at) j (accessible-less s (c .at) (drop j s) (n .begins) (ap rest e)) in
+      let m = h .fits .within in
+      record { way = past-way w h; later = omega arith; begun = n .begun }
+
+module _ (s : List ℕ) (c : Cursor) (h : OnWay s c) (f : follows s c ≡ true) (r : A.Accessible) (hr : AccessibleIs s r (accessibleAt (length s) (drop (c .at) s))) where
   pub record-parameter : (q : ParameterAt) → r ≡ A.the-variants.Parameter q → ParameterFirst accessiblesOf Table.parameter s c q (moved c (q .next))
   record-parameter q e =
       let x = rw e at hr in
+      let b = past-begins s c f _ (q .next) (x .is) (whole s c h) (way-left s c h) in
       record {
         after = past-after s c f _ (q .next) (x .is) (x .nextWithin) h;
-        held = record { datainfo = x .datainfo; left = x .left; info = x .info; name = x .name; description = x .description; initial = x .initial; infoWithin = x .infoWithin };
-        first = past-begins s c f _ (q .next) (x .is);
+        next = refl;
+        held =
+            record {
+              datainfo = x .datainfo;
+              left = x .left;
+              info = x .info;
+              name = x .name;
+              description = x .description;
+              initial = x .initial;
+              infoWithin = x .infoWithin;
+              between = x .between;
+              flagged = x .flagged;
+              size = x .size;
+              end = x .end;
+            };
+        first = b;
       }
 
   pub record-command : (q : CommandAt) → r ≡ A.the-variants.Command q → CommandFirst accessiblesOf Table.command s c q (moved c (q .next))
   record-command q e =
       let x = rw e at hr in
+      let b = past-begins s c f _ (q .next) (x .is) (whole s c h) (way-left s c h) in
       record {
         after = past-after s c f _ (q .next) (x .is) (x .nextWithin) h;
-        held = record { argument = x .argument; left = drop (q .next) s; info = x .info; name = x .name; description = x .description; infoWithin = x .infoWithin };
-        first = past-begins s c f _ (q .next) (x .is);
+        next = refl;
+        held =
+            record {
+              argument = x .argument;
+              left = drop (q .next) s;
+              info = x .info;
+              name = x .name;
+              description = x .description;
+              infoWithin = x .infoWithin;
+              between = x .between;
+              flagged = x .flagged;
+              end = refl;
+              nextWithin = x .nextWithin;
+            };
+        first = b;
       }
 
   pub record-bad : r ≡ A.the-variants.Bad → Ended accessiblesOf s c
-  record-bad e l w = absurd (never (sym (left-as accessiblesOf s c ∙ ap (withRest accessiblesOf s c) none-left) ∙ w))
+  record-bad e = absurd (never (sym (left-as accessiblesOf s c ∙ ap (withRest accessiblesOf s c) none-left) ∙ way-left s c h))
     where
       none-left : accessiblesLeft s c ≡ none
       none-left = left-more s c f ∙ rw (rw e at hr)
@@ -176,16 +257,16 @@ module _ (s : List ℕ) (c : Cursor) (f : follows s c ≡ false) (h : H.Heading)
   on : leftFrom accessiblesOf s c ≡ withModules accessiblesOf s c [] (modulesFrom s (c .at))
   on = left-as accessiblesOf s c ∙ ap (withRest accessiblesOf s c) (left-none s c f)
 
-  pub enter-bad : h ≡ H.the-variants.Bad → Ended accessiblesOf s c
+  pub enter-bad : h ≡ H.the-variants.Bad → OnWay s c → Ended accessiblesOf s c
   unfolding placedFrom
-  enter-bad e l w = go (begins (bytes "MO") (drop (c .at) s)) refl
+  enter-bad e i = go (begins (bytes "MO") (drop (c .at) s)) refl
     where
       unread-modules : begins (bytes "MO") (drop (c .at) s) ≡ true → modulesFrom s (c .at) ≡ none
       unread-modules z = modules-more s (c .at) z ∙ simp (module-as, rw e at hh)
 
-      go : (b : Bool) → begins (bytes "MO") (drop (c .at) s) ≡ b → l ≡ []
-      go true z = absurd (never (sym (on ∙ ap (withModules accessiblesOf s c []) (unread-modules z)) ∙ w))
-      go false z = sym (in-some (sym (on ∙ ap (withModules accessiblesOf s c []) (modules-stop s (c .at) z)) ∙ w))
+      go : (b : Bool) → begins (bytes "MO") (drop (c .at) s) ≡ b → Ended accessiblesOf s c
+      go true z = absurd (never (sym (on ∙ ap (withModules accessiblesOf s c []) (unread-modules z)) ∙ way-left s c i))
+      go false z = on ∙ ap (withModules accessiblesOf s c []) (modules-stop s (c .at) z)
 
   module _ (q : ModuleAt) (e : h ≡ H.the-variants.Read q) where
     starts : begins (bytes "MO") (drop (c .at) s) ≡ true
@@ -218,45 +299,93 @@ module _ (s : List ℕ) (c : Cursor) (f : follows s c ≡ false) (h : H.Heading)
         go none = refl
         go (some x) = inner (x .0) (modulesAt (length s) (length (x .1)) (x .1))
 
-    pub enter-module : Fits s c → ModuleFirst s c (entered c q)
-    enter-module i =
-        let x = rw e at hh in
-        let l = less s (c .at) (q .next) (heading-less s (c .at) (drop (q .next) s) starts (ap rest (x .is))) in
-        let k = i .few in
-        let m = i .within in
-        let v = x .nextWithin in
-        record {
-          after = record { fits = record { within = v; name = x .name; few = omega arith }; later = omega arith; begun = omega arith };
-          goes = λ l w. sym same-left ∙ w;
-        }
+    module _ (i : OnWay s c) where
+      -- where the accessibles of the modules before are at an end, the next module is read
+      here : modulesFrom s (c .at) ≡ some (drop (c .modules) (tableOf s .modules), i .left)
+      here = let r = ap (λ (x : List Table.Accessible × List ℕ). x .1) (in-some (sym (i .reads) ∙ left-none s c f)) in rw r at (i .follow)
+
+      -- its own accessibles, and the modules after it
+      record Entered : Type 0 where
+        pub own : List Table.Accessible
+        pub rest : List ℕ
+        pub reads : accessiblesFrom s (q .next) ≡ some (own, rest)
+        pub follow : modulesAt (length s) (length rest) rest ≡ some (drop (c .modules + 1) (tableOf s .modules), i .left)
+
+      inside : Entered
+      inside = go (accessiblesFrom s (q .next)) refl (sym first-module ∙ here)
+        where
+          go : (o : Option (List Table.Accessible × List ℕ)) → accessiblesFrom s (q .next) ≡ o → ((o >>= λ x. some (withThem (moduleOf s q) x)) >>= λ p. before (p .0) (modulesAt (length s) (length (p .1)) (p .1))) ≡ some (drop (c .modules) (tableOf s .modules), i .left) → Entered
+          go none g z = absurd (never z)
+          go (some x) g z =
+              let y = split (withAccessibles (moduleOf s q) (x .0)) (modulesAt (length s) (length (x .1)) (x .1)) (drop (c .modules) (tableOf s .modules)) (i .left) z in
+              record {
+                own = x .0;
+                rest = x .1;
+                reads = g;
+                follow = y .are ∙ ap (λ (l : List Table.Module). some (l, i .left)) (sym (drop-next (c .modules) (tableOf s .modules) _ _ (y .is)));
+              }
+
+      entered-home : (n : ℕ) → n ≡ c .modules → HomeIs s n (q .name)
+      entered-home n z = rw z (record { begin = c .at; left = i .left; reads = here; end = i .end; it = q; heading = rw e at hh; name = refl })
+
+      pub enter-module : ModuleFirst s c (entered c q)
+      enter-module =
+          let x = rw e at hh in
+          let l = less s (c .at) (q .next) (heading-less s (c .at) (drop (q .next) s) starts (ap rest (x .is))) in
+          let k = i .fits .few in
+          let m = i .fits .within in
+          let v = x .nextWithin in
+          let y = inside in
+          let way : OnWay s (entered c q) =
+          record {
+            fits = record { within = v; name = x .name; few = omega arith };
+            own = y .own;
+            rest = y .rest;
+            left = i .left;
+            reads = left-entered ∙ y .reads;
+            follow = y .follow;
+            end = i .end;
+            home = λ z. entered-home (c .modules + 1 - 1) (omega arith);
+          } in
+          record { after = record { way = way; later = omega arith; begun = omega arith }; goes = sym same-left }
 
 -- ## Before the first module
 
-module _ (s : List ℕ) (r : T.Texts) (h : TextsAt s r (textsAt (78 ∷ 68 ∷ []) (drop 0 s))) where
-  pub first-bad : r ≡ T.the-variants.Bad → FirstCursor s (record { at = 0; modules = 0; name = record { from = 0; to = 0 } })
-  first-bad e =
-      record {
-        fits = record { within = omega arith; name = record { order = omega arith; within = omega arith }; few = omega arith };
-        accessibles = λ t w. absurd (unread s r h t w e);
-        parameters = λ t w. absurd (unread s r h t w e);
-        commands = λ t w. absurd (unread s r h t w e);
-      }
+module _ (s : List ℕ) (g : Readable s) (r : T.Texts) (h : TextsAt s r (textsAt (78 ∷ 68 ∷ []) (drop 0 s))) where
+  pub first-bad : r ≡ T.the-variants.Bad → {c : Cursor} → FirstCursor s c
+  first-bad e = absurd (unread s r h (tableOf s) (readable-whole s g) e)
 
   module _ (p q : Part) (e : r ≡ T.the-variants.At p q) where
     abbrev start : Cursor
     start = record { at = q .to; modules = 0; name = record { from = q .to; to = q .to } }
 
-    all-left : {A : Type 0} (of : List Table.Accessible → List A) → of [] ≡ [] → InTable s λ t. leftFrom of s start ≡ some (placedFrom of 0 (t .modules))
+    o : Opened s p q (tableOf s)
+    o = opened s r h (tableOf s) (readable-whole s g) p q e
+
+    all-left : {A : Type 0} (of : List Table.Accessible → List A) → of [] ≡ [] → leftFrom of s start ≡ some (placedFrom of 0 (tableOf s .modules))
     unfolding accessiblesLeft
-    all-left of z t w = left-as of s start ∙ rw (opened s r h t w p q e .modules, z)
+    all-left of z = left-as of s start ∙ rw (o .modules, z)
 
     pub first-good : FirstCursor s start
-    unfolding parameters commands parametersOf commandsOf
+    unfolding parameters commands parametersOf commandsOf accessiblesLeft bytes
     first-good =
-        let w = (rw e at h) .description .within in
+        let x = rw e at h in
+        let w = x .description .within in
         record {
-          fits = record { within = w; name = record { order = omega arith; within = w }; few = omega arith };
-          accessibles = all-left accessiblesOf refl;
+          way =
+              record {
+                fits = record { within = w; name = record { order = omega arith; within = w }; few = omega arith };
+                own = [];
+                rest = drop (q .to) s;
+                left = o .left;
+                reads = refl;
+                follow = o .modules;
+                end = o .end;
+                home = λ z. absurd (omega arith);
+              };
+          texts = rw (o .id, o .description) (x .is);
+          modules = refl;
+          unnamed = (refl, refl);
           parameters = all-left parametersOf refl;
           commands = all-left commandsOf refl;
         }

@@ -9,7 +9,7 @@ use lib.ListN.{length, drop}
 use Rattle.ascii.specs.Text.{bytes}
 use Rattle.ascii.specs.Bytes.{_>>=_, same}
 use Rattle.table.specs.Table as Table
-use Rattle.table.specs.Layout.{begins, moduleAt, modulesAt, wholeTable}
+use Rattle.table.specs.Layout.{begins, moduleAt, modulesAt, Readable, tableOf}
 use Rattle.table.specs.Search.{first, firstFrom, findModule}
 use Rattle.table.specs.declared.layout.Part.{Part}
 use Rattle.table.specs.declared.layout.Texts as T
@@ -17,30 +17,19 @@ use Rattle.table.specs.declared.judge.Kind.the-variants.{Modules}
 use Rattle.table.specs.declared.judge.Named as N
 use Rattle.search.specs.declared.find.FoundModule as F
 use Rattle.table.specs.At.{bytesOf, textsAt, TextsAt, modulesFrom}
-use Rattle.table.specs.Judged.{kindBegins, namedAt, NamedIs}
-use Rattle.search.specs.Found.{isCalled, ModuleAt, FindsModule}
+use Rattle.table.specs.Judged.{kindBegins, namedAt, namesFrom, howMany, NamedIs}
+use Rattle.search.specs.Found.{isCalled, FirstModule, FindsFirst, FindsModule}
 use Rattle.table.proofs.Accessibles.{in-some}
 use Rattle.table.proofs.Enough.{before, modules-stop, modules-more}
 use Rattle.table.proofs.Named.{Was, was, none-was}
-use Rattle.table.proofs.Whole.{opened, unread, never}
-
--- a first element that was read before others
-pub record Split {A : Type 0} (a : A) (o : Option (List A × List ℕ)) (l : List A) (x : List ℕ) : Type 0 where
-  pub others : List A
-  pub are : o ≡ some (others, x)
-  pub is : l ≡ a ∷ others
-
-pub split : {A : Type 0} (a : A) (o : Option (List A × List ℕ)) (l : List A) (x : List ℕ) → before a o ≡ some (l, x) → Split a o l x
-split a none l x e = absurd (never e)
-split {A} a (some q) l x e =
-    let y : a ∷ q .0 ≡ l = ap (λ (z : List A × List ℕ). z .0) (in-some e) in
-    let z : q .1 ≡ x = ap (λ (z : List A × List ℕ). z .1) (in-some e) in
-    record { others = q .0; are = ap (λ (w : List ℕ). some (q .0, w)) z; is = sym y }
+use Rattle.table.proofs.Whole.{Opened, opened, unread, readable-whole, modules-many, never}
+use Rattle.search.proofs.Lefts.{Split, split, drop-next}
 
 -- the modules ms from position i on, of which n come before, and what is still to be searched for the name
 pub record Left (s name : List ℕ) (n i : ℕ) (ms : List Table.Module) (x : List ℕ) : Type 0 where
   pub others : List Table.Module
   pub are : modulesFrom s i ≡ some (others, x)
+  pub last : others ≡ drop n ms
   pub finds : first (isCalled name) ms ≡ firstFrom (isCalled name) n others
 
 -- the same, whatever the modules from position `at` on are
@@ -49,7 +38,7 @@ Lefts s at name n i = (ms : List Table.Module) (x : List ℕ) → modulesFrom s 
 
 pub search-start : (s : List ℕ) (at : ℕ) (name : List ℕ) → Lefts s at name 0 at
 unfolding first
-search-start s at name ms x e = record { others = ms; are = e; finds = refl }
+search-start s at name ms x e = record { others = ms; are = e; last = refl; finds = refl }
 
 module _ (s : List ℕ) (at : ℕ) (name : List ℕ) (n i : ℕ) (ws : Lefts s at name n i) (b : Bool) (hb : b ≡ kindBegins Modules (drop i s)) where
   begun : {c : Bool} → b ≡ c → begins (bytes "MO") (drop i s) ≡ c
@@ -88,9 +77,11 @@ module _ (s : List ℕ) (at : ℕ) (name : List ℕ) (n i : ℕ) (ws : Lefts s a
       unfolding firstFrom on
       step w = w .finds ∙ ap (firstFrom (isCalled name) n) (parts w .is) ∙ ap (on w) (ap (same name) (it .name) ∙ sym ht)
 
-      pub search-found : t ≡ true → i ≤ length s → (ms : List Table.Module) (x : List ℕ) → modulesFrom s at ≡ some (ms, x) → ModuleAt s n i (first (isCalled name) ms)
+      pub search-found : t ≡ true → i ≤ length s → (ms : List Table.Module) (x : List ℕ) → modulesFrom s at ≡ some (ms, x) → FirstModule s name n i ms x
       unfolding on
-      search-found y l ms x u = record { it = it .it; left = drop j s; is = step (ws ms x u) ∙ ap (on (ws ms x u)) y; read = it .is; within = l }
+      search-found y l ms x u =
+          let w = ws ms x u in
+          record { it = it .it; is = step w ∙ ap (on w) y; reads = w .are ∙ ap (λ (o : List Table.Module). some (o, x)) (w .last); within = l }
 
       pub search-next : t ≡ false → Lefts s at name (n + 1) j
       unfolding on
@@ -99,16 +90,30 @@ module _ (s : List ℕ) (at : ℕ) (name : List ℕ) (n i : ℕ) (ws : Lefts s a
           record {
             others = parts w .others;
             are = parts w .are;
+            last = sym (drop-next n ms _ _ (sym (w .last) ∙ parts w .is));
             finds = step w ∙ ap (on w) y ∙ ap (λ (k : ℕ). firstFrom (isCalled name) k (parts w .others)) (sym (add-one n));
           }
 
-module _ (s name : List ℕ) (r : T.Texts) (h : TextsAt s r (textsAt (78 ∷ 68 ∷ []) (drop 0 s))) (t : Table.Table) (w : wholeTable s ≡ some t) where
-  pub find-untold : r ≡ T.the-variants.Bad → findModule t name ≡ none
-  find-untold e = absurd (unread s r h t w e)
+module _ (s : List ℕ) (g : Readable s) (r : T.Texts) (h : TextsAt s r (textsAt (78 ∷ 68 ∷ []) (drop 0 s))) where
+  told : r ≡ T.the-variants.Bad → ⊥
+  told e = unread s r h (tableOf s) (readable-whole s g) e
 
-  pub count-untold : (n : ℕ) → r ≡ T.the-variants.Bad → n ≡ length (t .modules)
-  count-untold n e = absurd (unread s r h t w e)
+  pub find-untold : (name : List ℕ) → r ≡ T.the-variants.Bad → findModule (tableOf s) name ≡ none
+  find-untold name e = absurd (told e)
 
-  pub find-modules : (p q : Part) → r ≡ T.the-variants.At p q → (f : F.FoundModule) → ((ms : List Table.Module) (x : List ℕ) → modulesFrom s (q .to) ≡ some (ms, x) → FindsModule s f (first (isCalled name) ms)) → FindsModule s f (findModule t name)
-  unfolding findModule
-  find-modules p q e f g = let x = opened s r h t w p q e in g (t .modules) (x .left) (x .modules)
+  pub count-untold : (n : ℕ) → r ≡ T.the-variants.Bad → n ≡ length (tableOf s .modules)
+  count-untold n e = absurd (told e)
+
+  module _ (p q : Part) (e : r ≡ T.the-variants.At p q) where
+    o : Opened s p q (tableOf s)
+    o = opened s r h (tableOf s) (readable-whole s g) p q e
+
+    pub find-modules : (name : List ℕ) (f : F.FoundModule) → ((ms : List Table.Module) (x : List ℕ) → modulesFrom s (q .to) ≡ some (ms, x) → FindsFirst s name f ms x) → FindsModule s name f
+    unfolding findModule
+    find-modules name (F.the-variants.At n i) k =
+        let x = k (tableOf s .modules) (o .left) (o .modules) in
+        record { it = x .it; is = x .is; left = o .left; reads = x .reads; end = o .end; within = x .within }
+    find-modules name F.the-variants.Nothing k = k (tableOf s .modules) (o .left) (o .modules)
+
+    pub count-modules : (n : ℕ) → n ≡ howMany 0 (namesFrom Modules s (q .to)) → n ≡ length (tableOf s .modules)
+    count-modules n k = modules-many s r h (tableOf s) (readable-whole s g) p q e n k

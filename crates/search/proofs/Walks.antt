@@ -12,11 +12,9 @@ use Rattle.table.specs.Search.{Placed, placedFrom, parametersOf, commandsOf}
 use Rattle.table.specs.declared.layout.ParameterAt.{ParameterAt}
 use Rattle.table.specs.declared.layout.CommandAt.{CommandAt}
 use Rattle.table.specs.At.{bytesOf, parameterOf, commandOf}
-use Rattle.table.proofs.Accessibles.{in-some}
-use Rattle.table.proofs.Whole.{never}
 use Rattle.search.specs.declared.cursor.Cursor.{Cursor}
 use Rattle.search.specs.declared.cursor.Record as R
-use Rattle.search.specs.Left.{accessiblesLeft, placed, leftFrom, accessiblesOf, Fits, After, Begins, Goes, Ended, ParameterFirst, CommandFirst, RecordIs}
+use Rattle.search.specs.Left.{accessiblesLeft, placed, leftFrom, accessiblesOf, OnWay, After, FirstIs, Goes, Ended, ParameterFirst, CommandFirst, RecordIs}
 use Rattle.search.proofs.Lefts.{withModules, withRest, left-as}
 
 -- ## Some of the accessibles
@@ -86,71 +84,55 @@ module _ {A : Type 0} (of : List Table.Accessible → List A) (k : Picks of) whe
   pick-there s c x z = pick-left s c ∙ rw z
 
   module _ (s : List ℕ) (c : Cursor) where
-    -- all that is left, of which l is picked
-    record Whole (l : List (Placed A)) : Type 0 where
-      pub them : List (Placed Table.Accessible)
-      pub left : leftFrom accessiblesOf s c ≡ some them
-      pub is : l ≡ pick of them
-
-    whole : (l : List (Placed A)) → leftFrom of s c ≡ some l → Whole l
-    whole l e = go (leftFrom accessiblesOf s c) refl (sym (pick-left s c) ∙ e)
-      where
-        go : (o : Option (List (Placed Table.Accessible))) → leftFrom accessiblesOf s c ≡ o → (o >>= λ x. some (pick of x)) ≡ some l → Whole l
-        go none u z = absurd (never z)
-        go (some x) u z = record { them = x; left = u; is = sym (in-some z) }
-
     picks-end : Ended accessiblesOf s c → Ended of s c
     unfolding pick
-    picks-end f l e = let w = whole l e in w .is ∙ rw (f (w .them) (w .left))
+    picks-end z = pick-there s c [] z
 
     module _ (e : Cursor) where
       picks-on : Goes accessiblesOf s c e → Goes of s c e
-      picks-on g l w = let u = whole l w in pick-there s e (u .them) (g (u .them) (u .left)) ∙ ap some (sym (u .is))
+      picks-on g = pick-left s e ∙ ap (λ o. o >>= λ l. some (pick of l)) g ∙ sym (pick-left s c)
 
-      module _ (x : Table.Accessible) (b : Begins accessiblesOf s c e x) where
+      module _ (x : Table.Accessible) (b : FirstIs accessiblesOf s c e x) where
         picks-past : of (x ∷ []) ≡ [] → Goes of s c e
         unfolding pick
-        picks-past z l w =
-            let u = whole l w in
-            let f = b (u .them) (u .left) in
-            let y : l ≡ pick of (f .others) = u .is ∙ ap (pick of) (f .is) ∙ rw z in
-            pick-there s e (f .others) (f .left) ∙ ap some (sym y)
+        picks-past z = pick-there s e (b .others) (b .left) ∙ sym (pick-there s c _ (b .is) ∙ rw z)
 
-        picks-first : (a : A) → of (x ∷ []) ≡ a ∷ [] → Begins of s c e a
+        picks-first : (a : A) → of (x ∷ []) ≡ a ∷ [] → FirstIs of s c e a
         unfolding pick
-        picks-first a z l w =
-            let u = whole l w in
-            let f = b (u .them) (u .left) in
-            record { others = pick of (f .others); is = u .is ∙ ap (pick of) (f .is) ∙ rw z; left = pick-there s e (f .others) (f .left) }
+        picks-first a z = record { others = pick of (b .others); is = pick-there s c _ (b .is) ∙ rw z; left = pick-there s e (b .others) (b .left) }
 
 -- ## A walk
 
 -- a walk that began at i has come to c, and nothing was passed by
 pub record Walked {A : Type 0} (of : List Table.Accessible → List A) (s : List ℕ) (i c : Cursor) : Type 0 where
-  pub fits : Fits s c
+  pub way : OnWay s c
   pub since : i .at ≤ c .at
   pub goes : Goes of s i c
 
-pub walk-start : {A : Type 0} (of : List Table.Accessible → List A) (s : List ℕ) (i : Cursor) → Fits s i → Walked of s i i
-walk-start of s i h = record { fits = h; since = omega arith; goes = λ l w. w }
+pub walk-start : {A : Type 0} (of : List Table.Accessible → List A) (s : List ℕ) (i : Cursor) → OnWay s i → Walked of s i i
+walk-start of s i h = record { way = h; since = omega arith; goes = refl }
 
-pub walk-fits : {A : Type 0} (of : List Table.Accessible → List A) (s : List ℕ) (i c : Cursor) → Walked of s i c → Fits s c
-walk-fits of s i c w = w .fits
+pub walk-way : {A : Type 0} (of : List Table.Accessible → List A) (s : List ℕ) (i c : Cursor) → Walked of s i c → OnWay s c
+walk-way of s i c w = w .way
 
 walk-on : {A : Type 0} (of : List Table.Accessible → List A) (s : List ℕ) (i c e : Cursor) → Walked of s i c → After s c e → Goes of s c e → Walked of s i e
 walk-on of s i c e w a g =
     let x = w .since in
     let y = a .later in
-    record { fits = a .fits; since = omega arith; goes = λ l u. g l (w .goes l u) }
+    record { way = a .way; since = omega arith; goes = g ∙ w .goes }
+
+-- what is first at c is first at i, from where the walk came to c
+walk-first : {A : Type 0} (of : List Table.Accessible → List A) (s : List ℕ) (i c e : Cursor) (a : A) → Walked of s i c → FirstIs of s c e a → FirstIs of s i e a
+walk-first of s i c e a w f = record { others = f .others; is = sym (w .goes) ∙ f .is; left = f .left }
 
 walk-after : {A : Type 0} (of : List Table.Accessible → List A) (s : List ℕ) (i c e : Cursor) → Walked of s i c → After s c e → After s i e
 walk-after of s i c e w a =
     let x = w .since in
     let y = a .later in
-    record { fits = a .fits; later = omega arith; begun = a .begun }
+    record { way = a .way; later = omega arith; begun = a .begun }
 
 pub walk-less : (s : List ℕ) (c e : Cursor) → After s c e → length s - e .at < length s - c .at
-walk-less s c e a = let x = a .later in let y = a .fits .within in omega arith
+walk-less s c e a = let x = a .later in let y = a .way .fits .within in omega arith
 
 module _ (s : List ℕ) (c : Cursor) (r : R.Record) (h : RecordIs s c r) where
   pub parameter-less : (q : ParameterAt) (e : Cursor) → r ≡ R.the-variants.Parameter q e → length s - e .at < length s - c .at
@@ -170,8 +152,9 @@ module _ (s : List ℕ) (c : Cursor) (r : R.Record) (h : RecordIs s c r) where
           let x = rw z at h in
           record {
             after = walk-after parametersOf s i c e w (x .after);
+            next = x .next;
             held = x .held;
-            first = λ l u. picks-first parametersOf picks-parameters s c e _ (x .first) (parameterOf s q (x .held .datainfo)) refl l (w .goes l u);
+            first = walk-first parametersOf s i c e _ w (picks-first parametersOf picks-parameters s c e _ (x .first) (parameterOf s q (x .held .datainfo)) refl);
           }
 
       pub past-command : (q : CommandAt) (e : Cursor) → r ≡ R.the-variants.Command q e → Walked parametersOf s i e
@@ -185,8 +168,9 @@ module _ (s : List ℕ) (c : Cursor) (r : R.Record) (h : RecordIs s c r) where
           let x = rw z at h in
           record {
             after = walk-after commandsOf s i c e w (x .after);
+            next = x .next;
             held = x .held;
-            first = λ l u. picks-first commandsOf picks-commands s c e _ (x .first) (commandOf s q (x .held .argument)) refl l (w .goes l u);
+            first = walk-first commandsOf s i c e _ w (picks-first commandsOf picks-commands s c e _ (x .first) (commandOf s q (x .held .argument)) refl);
           }
 
       pub past-parameter : (q : ParameterAt) (e : Cursor) → r ≡ R.the-variants.Parameter q e → Walked commandsOf s i e
@@ -198,4 +182,4 @@ module _ (s : List ℕ) (c : Cursor) (r : R.Record) (h : RecordIs s c r) where
       into-module e z = let x = rw z at h in walk-on of s i c e w (x .after) (picks-on of k s c e (x .goes))
 
       pub walk-end : r ≡ R.the-variants.End → Ended of s i
-      walk-end z l u = picks-end of k s c (rw z at h) l (w .goes l u)
+      walk-end z = sym (w .goes) ∙ picks-end of k s c (rw z at h)

@@ -6,13 +6,17 @@ use mathlib.Core.List.{List, [], _∷_, _++_, map}
 use mathlib.Core.Option.{Option, some}
 use lib.Dec.{eqb}
 use lib.ListN.{length, drop}
-use Rattle.ascii.specs.Bytes.{_>>=_}
+use Rattle.ascii.specs.Text.{bytes}
+use Rattle.ascii.specs.Bytes.{_>>=_, after}
+use Rattle.ascii.specs.Numbers.{unsigned}
 use Rattle.datainfo.specs.Datainfo.{Datainfo}
 use Rattle.datainfo.specs.Layout.{datainfoAt}
 use Rattle.table.specs.Table as Table
-use Rattle.table.specs.Layout.{argumentAt, modulesAt, wholeTable}
+use Rattle.table.specs.Layout.{flag, argumentAt, modulesAt, tableOf}
 use Rattle.table.specs.Search.{Placed, placedFrom, parametersOf, commandsOf, parameters, commands}
-use Rattle.table.specs.At.{bytesOf, Inside, accessibleBegins, accessiblesFrom, parameterOf, commandOf}
+use Rattle.table.specs.At.{bytesOf, Inside, textsAt, accessibleBegins, accessiblesFrom, parameterOf, commandOf, headingAt, ModuleIs, modulesFrom}
+use Rattle.table.specs.declared.layout.Part.{Part}
+use Rattle.table.specs.declared.layout.ModuleAt.{ModuleAt}
 use Rattle.table.specs.declared.layout.ParameterAt.{ParameterAt}
 use Rattle.table.specs.declared.layout.CommandAt.{CommandAt}
 use Rattle.search.specs.declared.cursor.Cursor.{Cursor}
@@ -53,13 +57,36 @@ pub record Fits (s : List ℕ) (c : Cursor) : Type 0 where
   pub name : Inside s (c .name)
   pub few : c .modules ≤ c .at
 
--- e comes after c, in a module
+-- p is the name of the module of number n: its record begins at `begin`, from where the modules from number n on are read, and the end mark is
+-- left
+pub record HomeIs (s : List ℕ) (n : ℕ) (p : Part) : Type 0 where
+  pub begin : ℕ
+  pub left : List ℕ
+  pub reads : modulesFrom s begin ≡ some (drop n (tableOf s .modules), left)
+  pub end : after (bytes "EN") left ≡ some []
+  pub it : ModuleAt
+  pub heading : ModuleIs s it (headingAt (drop begin s))
+  pub name : it .name ≡ p
+
+-- a cursor of the walk over the table that s is: there the latest module's own accessibles are left, then the modules that have not begun, then
+-- the end mark, and the cursor has the latest module's name
+pub record OnWay (s : List ℕ) (c : Cursor) : Type 0 where
+  pub fits : Fits s c
+  pub own : List Table.Accessible
+  pub rest : List ℕ
+  pub left : List ℕ
+  pub reads : accessiblesLeft s c ≡ some (own, rest)
+  pub follow : modulesAt (length s) (length rest) rest ≡ some (drop (c .modules) (tableOf s .modules), left)
+  pub end : after (bytes "EN") left ≡ some []
+  pub home : 0 < c .modules → HomeIs s (c .modules - 1) (c .name)
+
+-- the walk comes to e after c, in a module
 pub record After (s : List ℕ) (c e : Cursor) : Type 0 where
-  pub fits : Fits s e
+  pub way : OnWay s e
   pub later : c .at < e .at
   pub begun : 0 < e .modules
 
--- the parts of a parameter lie in s, and so does its datainfo
+-- the parts of a parameter lie in s, and so does its datainfo; `between`, `flagged` and `size` are what stands between the parts
 pub record ParameterIn (s : List ℕ) (q : ParameterAt) : Type 0 where
   pub datainfo : Datainfo
   pub left : List ℕ
@@ -68,8 +95,12 @@ pub record ParameterIn (s : List ℕ) (q : ParameterAt) : Type 0 where
   pub description : Inside s (q .description)
   pub initial : Inside s (q .initial)
   pub infoWithin : q .info ≤ length s
+  pub between : unsigned 1 (drop (q .name .to) s) ≡ some (q .description .to - q .description .from, drop (q .description .from) s)
+  pub flagged : flag (drop (q .description .to) s) ≡ some (q .readonly, drop (q .info) s)
+  pub size : unsigned 2 left ≡ some (q .initial .to - q .initial .from, drop (q .initial .from) s)
+  pub end : q .next ≡ q .initial .to
 
--- the parts of a command lie in s, and so does its argument's datainfo
+-- the parts of a command lie in s, and so does its argument's datainfo; `between` and `flagged` are what stands between the parts
 pub record CommandIn (s : List ℕ) (q : CommandAt) : Type 0 where
   pub argument : Option Datainfo
   pub left : List ℕ
@@ -77,57 +108,57 @@ pub record CommandIn (s : List ℕ) (q : CommandAt) : Type 0 where
   pub name : Inside s (q .name)
   pub description : Inside s (q .description)
   pub infoWithin : q .info ≤ length s
+  pub between : unsigned 1 (drop (q .name .to) s) ≡ some (q .description .to - q .description .from, drop (q .description .from) s)
+  pub flagged : flag (drop (q .description .to) s) ≡ some (q .argument, drop (q .info) s)
+  pub end : left ≡ drop (q .next) s
+  pub nextWithin : q .next ≤ length s
 
 -- ## Answers
 
--- a, of the module of e, is the first of l, and the others are what is left at e
-pub record FirstIs {A : Type 0} (of : List Table.Accessible → List A) (s : List ℕ) (e : Cursor) (a : A) (l : List (Placed A)) : Type 0 where
+-- a, of the module of e, is the first of those left at c, and the others are left at e
+pub record FirstIs {A : Type 0} (of : List Table.Accessible → List A) (s : List ℕ) (c e : Cursor) (a : A) : Type 0 where
   pub others : List (Placed A)
-  pub is : l ≡ placed s e a ∷ others
+  pub is : leftFrom of s c ≡ some (placed s e a ∷ others)
   pub left : leftFrom of s e ≡ some others
 
 module _ {A : Type 0} (of : List Table.Accessible → List A) (s : List ℕ) (c : Cursor) where
-  -- what is left at c begins with a, after which comes e
-  abbrev pub Begins : Cursor → A → Type 0
-  Begins e a = (l : List (Placed A)) → leftFrom of s c ≡ some l → FirstIs of s e a l
-
   -- what is left at c is left at e
   abbrev pub Goes : Cursor → Type 0
-  Goes e = (l : List (Placed A)) → leftFrom of s c ≡ some l → leftFrom of s e ≡ some l
+  Goes e = leftFrom of s e ≡ leftFrom of s c
 
   -- nothing is left at c
   abbrev pub Ended : Type 0
-  Ended = (l : List (Placed A)) → leftFrom of s c ≡ some l → l ≡ []
+  Ended = leftFrom of s c ≡ some []
 
 module _ {A : Type 0} (of : List Table.Accessible → List A) (asOne : Table.Parameter → A) (s : List ℕ) (c : Cursor) (q : ParameterAt) (e : Cursor) where
   -- the parameter of which q has the positions is the first of what is left at c, and e is the cursor after it
   pub record ParameterFirst : Type 0 where
     pub after : After s c e
+    pub next : e .at ≡ q .next
     pub held : ParameterIn s q
-    pub first : Begins of s c e (asOne (parameterOf s q (held .datainfo)))
+    pub first : FirstIs of s c e (asOne (parameterOf s q (held .datainfo)))
 
 module _ {A : Type 0} (of : List Table.Accessible → List A) (asOne : Table.Command → A) (s : List ℕ) (c : Cursor) (q : CommandAt) (e : Cursor) where
   -- the same of a command
   pub record CommandFirst : Type 0 where
     pub after : After s c e
+    pub next : e .at ≡ q .next
     pub held : CommandIn s q
-    pub first : Begins of s c e (asOne (commandOf s q (held .argument)))
+    pub first : FirstIs of s c e (asOne (commandOf s q (held .argument)))
 
 -- a module begins at c, and its accessibles at e
 pub record ModuleFirst (s : List ℕ) (c e : Cursor) : Type 0 where
   pub after : After s c e
   pub goes : Goes accessiblesOf s c e
 
--- what holds of the table that s can be read as
-abbrev pub InTable : List ℕ → (Table.Table → Type 0) → Type 0
-InTable s f = (t : Table.Table) → wholeTable s ≡ some t → f t
-
--- all of the table is left at c
+-- c is straight after the table's own texts, and all of the table is left there
 pub record FirstCursor (s : List ℕ) (c : Cursor) : Type 0 where
-  pub fits : Fits s c
-  pub accessibles : InTable s λ t. leftFrom accessiblesOf s c ≡ some (placedFrom accessiblesOf 0 (t .modules))
-  pub parameters : InTable s λ t. leftFrom parametersOf s c ≡ some (parameters t)
-  pub commands : InTable s λ t. leftFrom commandsOf s c ≡ some (commands t)
+  pub way : OnWay s c
+  pub texts : textsAt (bytes "ND") s ≡ some ((tableOf s .equipmentId, tableOf s .description), drop (c .at) s)
+  pub modules : c .modules ≡ 0
+  pub unnamed : (c .name .from ≡ c .at) × (c .name .to ≡ c .at)
+  pub parameters : leftFrom parametersOf s c ≡ some (parameters (tableOf s))
+  pub commands : leftFrom commandsOf s c ≡ some (commands (tableOf s))
 
 -- the next record from c on
 abbrev pub RecordIs : List ℕ → Cursor → R.Record → Type 0

@@ -1,4 +1,5 @@
-// A walk over the parameters and commands of a table that can be read, in table order.
+// A walk over the parameters and commands of a table that can be read, in table order. A cursor of the walk comes from `first_cursor` or from the
+// step before.
 use table::layout::Accessible;
 use table::layout::CommandAt;
 use table::layout::Heading;
@@ -13,7 +14,8 @@ ghost use mathlib.Core.Path.{_≡_};
 ghost use mathlib.Core.Bool.{false};
 ghost use Prim.Native.Nat.{_≤_};
 ghost use lib.ListN.{length};
-ghost use Rattle.search.specs.Left.{follows, Fits, FirstCursor, RecordIs, NextParameterIs, NextCommandIs};
+ghost use Rattle.table.specs.Layout.{Readable};
+ghost use Rattle.search.specs.Left.{follows, OnWay, FirstCursor, RecordIs, NextParameterIs, NextCommandIs};
 
 // Where the next record begins, how many modules have begun, and the name of the latest.
 pub struct Cursor {
@@ -22,8 +24,8 @@ pub struct Cursor {
     pub name: Part,
 }
 
-// The record at a cursor, with the cursor after it. `End` stands for the end of the table, and for what can't be read.
-pub enum Record {
+// The record at a cursor, with the cursor after it. `End` stands for the end of the table.
+pub(crate) enum Record {
     Parameter(ParameterAt, Cursor),
     Command(CommandAt, Cursor),
     Module(Cursor),
@@ -37,13 +39,14 @@ pub enum NextParameter {
 }
 
 // The next command, with the cursor after it.
-pub enum NextCommand {
+pub(crate) enum NextCommand {
     At(CommandAt, Cursor),
     End,
 }
 
 // The cursor before the first module, with no name yet.
 pub fn first_cursor(s: &[u8]) -> Cursor
+    requires { ⌜ Readable (now s) ⌝ }
     ensures { λ r. ⌜ FirstCursor (now (s .entry)) r ⌝ }
 {
     let Texts::At(_, description) = texts_at(s, 0, b'N', b'D') else {
@@ -75,7 +78,7 @@ fn is_next(s: &[u8], c: Cursor) -> bool
 
 // Into the next module.
 fn enter(s: &[u8], c: Cursor) -> Record
-    requires { ⌜ Fits (now s) c × (follows (now s) c ≡ false) ⌝ }
+    requires { ⌜ OnWay (now s) c × (follows (now s) c ≡ false) ⌝ }
     ensures { λ r. ⌜ RecordIs (now (s .entry)) c r ⌝ }
 {
     let at = c.at;
@@ -93,8 +96,8 @@ fn enter(s: &[u8], c: Cursor) -> Record
 }
 
 // The record at a cursor: a parameter or a command of the latest module, or else the next module.
-pub fn next_record(s: &[u8], c: Cursor) -> Record
-    requires { ⌜ Fits (now s) c ⌝ }
+fn next_record(s: &[u8], c: Cursor) -> Record
+    requires { ⌜ OnWay (now s) c ⌝ }
     ensures { λ r. ⌜ RecordIs (now (s .entry)) c r ⌝ }
 {
     let at = c.at;
@@ -132,7 +135,7 @@ pub fn next_record(s: &[u8], c: Cursor) -> Record
 
 // Past commands, and into the modules that follow.
 pub fn next_parameter(s: &[u8], c: Cursor) -> NextParameter
-    requires { ⌜ Fits (now s) c ⌝ }
+    requires { ⌜ OnWay (now s) c ⌝ }
     ensures { λ r. ⌜ NextParameterIs (now (s .entry)) c r ⌝ }
 {
     let mut i = c;
@@ -155,8 +158,8 @@ pub fn next_parameter(s: &[u8], c: Cursor) -> NextParameter
 }
 
 // Past parameters, and into the modules that follow.
-pub fn next_command(s: &[u8], c: Cursor) -> NextCommand
-    requires { ⌜ Fits (now s) c ⌝ }
+pub(crate) fn next_command(s: &[u8], c: Cursor) -> NextCommand
+    requires { ⌜ OnWay (now s) c ⌝ }
     ensures { λ r. ⌜ NextCommandIs (now (s .entry)) c r ⌝ }
 {
     let mut i = c;

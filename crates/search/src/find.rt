@@ -23,10 +23,9 @@ ghost use Prim.Native.Nat.{ℕ, _≤_};
 ghost use lib.ListN.{length};
 ghost use Rattle.ascii.specs.Bytes.{same};
 ghost use Rattle.table.specs.Table.{Module};
-ghost use Rattle.table.specs.Search.{first, findModule};
+ghost use Rattle.table.specs.Layout.{Readable, tableOf};
 ghost use Rattle.table.specs.At.{bytesOf, Inside, modulesFrom};
-ghost use Rattle.search.specs.Left.{InTable};
-ghost use Rattle.search.specs.Found.{FindsModule, isCalled, FindsParameter, FindsCommand, NumberedParameter};
+ghost use Rattle.search.specs.Found.{FindsFirst, FindsModule, FindsParameter, FindsCommand, NumberedParameter};
 
 // A module's number and where its record begins.
 pub enum FoundModule {
@@ -58,7 +57,7 @@ fn part_is(s: &[u8], p: Part, name: &[u8]) -> bool
 // The first module of a name among those that follow.
 fn module_from(s: &[u8], at: usize, name: &[u8]) -> FoundModule
     requires { ⌜ at ≤ length (now s) ⌝ }
-    ensures { λ r. ⌜ ((ms : List Module) (x : List ℕ) → modulesFrom (now (s .entry)) at ≡ some (ms, x) → FindsModule (now (s .entry)) r (first (isCalled (now (name .entry))) ms)) ⌝ }
+    ensures { λ r. ⌜ ((ms : List Module) (x : List ℕ) → modulesFrom (now (s .entry)) at ≡ some (ms, x) → FindsFirst (now (s .entry)) (now (name .entry)) r ms x) ⌝ }
 {
     let mut n = 0;
     let mut i = at;
@@ -76,7 +75,8 @@ fn module_from(s: &[u8], at: usize, name: &[u8]) -> FoundModule
 }
 
 pub fn find_module(s: &[u8], name: &[u8]) -> FoundModule
-    ensures { λ r. ⌜ (InTable (now (s .entry)) λ t. FindsModule (now (s .entry)) r (findModule t (now (name .entry)))) ⌝ }
+    requires { ⌜ Readable (now s) ⌝ }
+    ensures { λ r. ⌜ FindsModule (now (s .entry)) (now (name .entry)) r ⌝ }
 {
     let Texts::At(_, description) = texts_at(s, 0, b'N', b'D') else {
         return FoundModule::Nothing;
@@ -97,6 +97,7 @@ fn are_named(s: &[u8], p: Part, q: Part, module: &[u8], name: &[u8]) -> bool
 }
 
 pub fn find_parameter(s: &[u8], module: &[u8], name: &[u8]) -> FoundParameter
+    requires { ⌜ Readable (now s) ⌝ }
     ensures { λ r. ⌜ FindsParameter (now (s .entry)) (now («module» .entry)) (now (name .entry)) r ⌝ }
 {
     let mut k = 0;
@@ -117,6 +118,7 @@ pub fn find_parameter(s: &[u8], module: &[u8], name: &[u8]) -> FoundParameter
 }
 
 pub fn find_command(s: &[u8], module: &[u8], name: &[u8]) -> FoundCommand
+    requires { ⌜ Readable (now s) ⌝ }
     ensures { λ r. ⌜ FindsCommand (now (s .entry)) (now («module» .entry)) (now (name .entry)) r ⌝ }
 {
     let mut k = 0;
@@ -138,6 +140,7 @@ pub fn find_command(s: &[u8], module: &[u8], name: &[u8]) -> FoundCommand
 
 // The parameter of a number, with the cursor after it.
 pub fn parameter_by_number(s: &[u8], k: usize) -> NextParameter
+    requires { ⌜ Readable (now s) ⌝ }
     ensures { λ r. ⌜ NumberedParameter (now (s .entry)) k r ⌝ }
 {
     let mut i = 0;
@@ -156,7 +159,8 @@ pub fn parameter_by_number(s: &[u8], k: usize) -> NextParameter
 
 // How many modules the table has.
 pub fn module_count(s: &[u8]) -> usize
-    ensures { λ r. ⌜ (InTable (now (s .entry)) λ t. r ≡ length (t .modules)) ⌝ }
+    requires { ⌜ Readable (now s) ⌝ }
+    ensures { λ r. ⌜ r ≡ length (tableOf (now (s .entry)) .modules) ⌝ }
 {
     let Texts::At(_, description) = texts_at(s, 0, b'N', b'D') else {
         return 0;

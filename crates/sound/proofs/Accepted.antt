@@ -1,7 +1,7 @@
 -- What an accepted call says of its table and its time, and what an accepted table says of its parameters and commands.
 -- Assumes nothing.
 use Prim.Native.Nat.{ℕ, suc, _≤_}
-use mathlib.Core.Bool.{Bool, true, false, cond, not, _&&_}
+use mathlib.Core.Bool.{Bool, true, false, not, _&&_}
 use mathlib.Core.List.{List, [], _∷_, map}
 use mathlib.Core.Option.{Option, none, some}
 use mathlib.Core.Path.{_≡_, refl}
@@ -15,7 +15,7 @@ use Rattle.ascii.specs.Numbers.{latest}
 use Rattle.datainfo.specs.Rules.{isBetween, goodNames}
 use Rattle.fit.specs.Fit.{isStored}
 use Rattle.table.specs.Table.{Parameter, Command, Accessible, parameter, command, Module, Table}
-use Rattle.table.specs.Layout.{wholeTable, readTable, orEmpty, tableOf}
+use Rattle.table.specs.Layout.{readTable, orEmpty, tableOf}
 use Rattle.table.specs.Rules.{accessibleName, accessibleCount, countsGood, noteGood, accessibleNamesGood, moduleNamesGood, namesGood, initialGood, initialsGood}
 use Rattle.table.specs.Search.{Placed, parametersOf, commandsOf, placedFrom, parameters, commands}
 use Rattle.report.specs.Report.{report}
@@ -163,13 +163,3 @@ accepted table e = go (readTable table) e
     go : (o : Option Table) → numberOf o ≡ 0 → Accepted (orEmpty o)
     go none e = absurd (omega arith)
     go (some w) e = accepted-tree w e
-
--- an accepted table can be read
-pub accepted-whole : (table : List ℕ) → tableNumber table ≡ 0 → wholeTable table ≡ some (tableOf table)
-unfolding tableNumber tableOf numberOf orEmpty readTable
-accepted-whole table e = go (leb (length table) 16384) (wholeTable table) e
-  where
-    go : (b : Bool) (o : Option Table) → numberOf (cond b o none) ≡ 0 → o ≡ some (orEmpty (cond b o none))
-    go true none e = absurd (omega arith)
-    go true (some w) e = refl
-    go false o e = absurd (omega arith)

@@ -1,6 +1,6 @@
 -- Laws of a change of one client: what the state holds of client c is new, and what it holds of every other is as it was. Assumes nothing.
 use Prim.Native.Nat.{ℕ, _<_}
-use mathlib.Core.Path.{_≡_, refl, sym, ap, fun-ext, _∙_}
+use mathlib.Core.Path.{_≡_, refl, sym, ap, subst, fun-ext, _∙_}
 use mathlib.Core.Bool.{Bool, true, false, cond, not, _&&_, _||_, false≢true}
 use mathlib.Core.List.{List, []}
 use lib.Dec.{eqb, ltb}
@@ -13,7 +13,8 @@ use Rattle.plain.specs.Node.{Client, closed, connected, fresh, put, emptied, ac
 use Rattle.state.specs.declared.Clients.{Clients}
 use Rattle.state.specs.View.{isSet, bit, lineBytes, lineAt, clientAt}
 use Rattle.state.specs.Fit.{clientUnfit, pastLast}
-use Rattle.state.specs.Becomes.{Becomes, Always, Activatable, Sized}
+use Rattle.state.specs.Changed.{withOpened, withClosed, withEnded, withActive}
+use Rattle.state.proofs.Becomes.{Becomes, Always, Activatable, Sized}
 use Rattle.state.proofs.Flags.{neither}
 use Rattle.state.proofs.Masks.{no-bit, past-last}
 
@@ -127,9 +128,9 @@ module _ {s r : Clients} {c o v a n : ℕ} {bs : List ℕ} (x : Change s r c o v
 nothing-past : (m : ℕ) → pastLast 0 m ≡ false
 nothing-past m = past-last 0 m (λ j h. no-bit j)
 
--- the clients that each function hands back
+-- nothing is held of client c, and only whether it is open; and of its line only whether it is overlong
 module _ (s : Clients) (c : ℕ) where
-  abbrev pub anew : ℕ → Clients
+  abbrev anew : ℕ → Clients
   anew o =
       record {
         «open» = set (s .open) c o;
@@ -149,12 +150,6 @@ module _ (s : Clients) (c : ℕ) where
         lines = s .lines;
       }
 
-  abbrev pub withMask : ℕ → Clients
-  withMask a = record { «open» = s .open; overlong = s .overlong; active = set (s .active) c a; length = s .length; lines = s .lines }
-
-  abbrev pub withLine : ℕ → List ℕ → Clients
-  withLine n l = record { «open» = s .open; overlong = s .overlong; active = s .active; length = set (s .length) c n; lines = l }
-
 -- client c, below 8, of the clients s
 module _ (s : Clients) (z : Sized s) (c : ℕ) (h : c < 8) where
   is-anew : (o : ℕ) → Change s (anew s c o) c o 0 0 0 []
@@ -169,17 +164,19 @@ module _ (s : Clients) (z : Sized s) (c : ℕ) (h : c < 8) where
         others = still s (anew s c o) c 0 refl sized;
       }
 
-  pub opened-is : Becomes s c fresh Always (anew s c 1)
+  pub opened-becomes : {r : Clients} → r ≡ withOpened s c → Becomes s c fresh Always r
   unfolding any
-  opened-is =
-      becomes (is-anew 1) fresh Always (ap (connected (whole [])) (fun-ext no-bit))
-      (λ m f k. record { short = refl; noFeed = refl; dropped = refl; within = nothing-past m; forgotten = refl })
+  opened-becomes e =
+      subst (Becomes s c fresh Always) (sym e)
+      (becomes (is-anew 1) fresh Always (ap (connected (whole [])) (fun-ext no-bit))
+      λ m f k. record { short = refl; noFeed = refl; dropped = refl; within = nothing-past m; forgotten = refl })
 
-  pub closed-is : Becomes s c closed Always (anew s c 0)
+  pub closed-becomes : {r : Clients} → r ≡ withClosed s c → Becomes s c closed Always r
   unfolding any
-  closed-is =
-      becomes (is-anew 0) closed Always refl
-      (λ m f k. record { short = refl; noFeed = refl; dropped = refl; within = nothing-past m; forgotten = refl })
+  closed-becomes e =
+      subst (Becomes s c closed Always) (sym e)
+      (becomes (is-anew 0) closed Always refl
+      λ m f k. record { short = refl; noFeed = refl; dropped = refl; within = nothing-past m; forgotten = refl })
 
   pub without-line : (v : ℕ) → Change s (withoutLine s c v) c (getD (s .open) c 0) v (getD (s .active) c 0) 0 []
   without-line v =
@@ -193,11 +190,12 @@ module _ (s : Clients) (z : Sized s) (c : ℕ) (h : c < 8) where
         others = still s (withoutLine s c v) c 0 refl sized;
       }
 
-  pub ended-is : Becomes s c (emptied (clientAt s c)) Always (withoutLine s c 0)
+  pub ended-becomes : {r : Clients} → r ≡ withEnded s c → Becomes s c (emptied (clientAt s c)) Always r
   unfolding any emptied clientAt isSet
-  ended-is =
-      becomes (without-line 0) (emptied (clientAt s c)) Always (go (yes (getD (s .open) c 0)))
-      (λ m f k. record { short = refl; noFeed = refl; dropped = refl; within = f .within; forgotten = forget (yes (getD (s .open) c 0)) (yes (getD (s .length) c 0)) (yes (getD (s .overlong) c 0)) (yes (getD (s .active) c 0)) (f .forgotten) })
+  ended-becomes e =
+      subst (Becomes s c (emptied (clientAt s c)) Always) (sym e)
+      (becomes (without-line 0) (emptied (clientAt s c)) Always (go (yes (getD (s .open) c 0)))
+      λ m f k. record { short = refl; noFeed = refl; dropped = refl; within = f .within; forgotten = forget (yes (getD (s .open) c 0)) (yes (getD (s .length) c 0)) (yes (getD (s .overlong) c 0)) (yes (getD (s .active) c 0)) (f .forgotten) })
     where
       go : (t : Bool) → cond t (connected (whole []) (bit (getD (s .active) c 0))) closed ≡ emptied (cond t (connected (lineAt s c) (bit (getD (s .active) c 0))) closed)
       go true = refl
@@ -209,7 +207,7 @@ module _ (s : Clients) (z : Sized s) (c : ℕ) (h : c < 8) where
       forget false false true a e = absurd (false≢true (sym e))
       forget false false false a e = e
 
-  with-mask : (a : ℕ) → Change s (withMask s c a) c (getD (s .open) c 0) (getD (s .overlong) c 0) a (getD (s .length) c 0) (lineBytes s c)
+  with-mask : (a : ℕ) → Change s (withActive s c a) c (getD (s .open) c 0) (getD (s .overlong) c 0) a (getD (s .length) c 0) (lineBytes s c)
   unfolding lineBytes
   with-mask a =
       record {
@@ -221,11 +219,12 @@ module _ (s : Clients) (z : Sized s) (c : ℕ) (h : c < 8) where
         others = λ d n. refl;
       }
 
-  pub active-is : (a : ℕ) → Becomes s c (activated (bit a) (clientAt s c)) (Activatable s c a) (withMask s c a)
+  pub active-becomes : (a : ℕ) {r : Clients} → r ≡ withActive s c a → Becomes s c (activated (bit a) (clientAt s c)) (Activatable s c a) r
   unfolding activated clientAt lineAt isSet
-  active-is a =
-      becomes (with-mask a) (activated (bit a) (clientAt s c)) (Activatable s c a) (go (yes (getD (s .open) c 0)))
-      (λ m f k. record { short = f .short; noFeed = f .noFeed; dropped = f .dropped; within = k .within; forgotten = rw (k .isOpen) })
+  active-becomes a e =
+      subst (Becomes s c (activated (bit a) (clientAt s c)) (Activatable s c a)) (sym e)
+      (becomes (with-mask a) (activated (bit a) (clientAt s c)) (Activatable s c a) (go (yes (getD (s .open) c 0)))
+      λ m f k. record { short = f .short; noFeed = f .noFeed; dropped = f .dropped; within = k .within; forgotten = rw (k .isOpen) })
     where
       go : (t : Bool) → cond t (connected (lineAt s c) (bit a)) closed ≡ activated (bit a) (cond t (connected (lineAt s c) (bit (getD (s .active) c 0))) closed)
       go true = refl

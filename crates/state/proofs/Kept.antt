@@ -11,7 +11,7 @@ use Rattle.ascii.specs.Bytes.{any}
 use Rattle.plain.specs.Node.{Client, clientNumbers}
 use Rattle.state.specs.declared.Clients.{Clients}
 use Rattle.state.specs.Fit.{clientUnfit}
-use Rattle.state.specs.Becomes.{Becomes, Sized, LinesFit}
+use Rattle.state.proofs.Becomes.{Becomes, Sized, LinesFit}
 use Rattle.state.proofs.Flags.{neither, nor}
 use Rattle.state.proofs.Cells.{fit-at}
 use Rattle.state.proofs.Judged.{number-at}

@@ -1,6 +1,7 @@
 pub mod Flags
 pub mod Masks
 pub mod Areas
+pub mod Becomes
 pub mod Forms
 pub mod Received
 pub mod Cells

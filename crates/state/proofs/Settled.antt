@@ -8,7 +8,10 @@ use mathlib.Core.List.{List, [], _∷_}
 use mathlib.Core.Option.{Option, none, some}
 use lib.Dec.{eqb, ltb}
 use lib.ListN.{length, getD, set, take, drop, getElem?}
+use borrow.Author.Needs.{length-unmapped}
 use borrow.Author.Tests.{eqb-true, eqb-false, ne-eqb, ltb-false, le-ltb}
+use denote.Shadow.{shadow}
+use mir.Val.{Val}
 use Rattle.ascii.specs.Numbers.{latest}
 use Rattle.ascii.specs.Bytes.{head, dropWhile, isIn}
 use Rattle.decimal.specs.Token.{digits, minus, int, number}
@@ -22,23 +25,26 @@ use Rattle.table.specs.At.{bytesOf}
 use Rattle.table.proofs.Accessibles.{in-some}
 use Rattle.plain.specs.Node.{put}
 use Rattle.state.specs.declared.Settings.{Settings}
-use Rattle.state.specs.View.{placeOf, storedText, shown, valueAt, withStored, withLength}
+use Rattle.state.specs.View.{storedText, shown, shownBytes, valueAt, withStored, withLength}
 use Rattle.state.specs.Fit.{settingUnfit, settingsUnfit}
+use Rattle.state.proofs.Settings.{the-type, the-field}
 use Rattle.state.proofs.Flags.{neither, nor}
 use Rattle.state.proofs.Areas.{other-value, written}
 use Rattle.state.proofs.Cells.{Changed, changed}
 
 -- ## What is shown
 
-module _ (table values : List ℕ) (size : ℕ) (p : Part) (k : ℕ) where
-  pub shows-initial : size ≡ 0 → take (p .to - p .from) (drop (p .from) table) ≡ cond (eqb size 0) (bytesOf table p) (take size (drop (placeOf k) values))
-  unfolding bytesOf
+module _ (table : List ℕ) (s : Settings) (values : List ℕ) (p : Part) (k : ℕ) where
+  pub shows-initial : getD (s .length) k 0 ≡ 0 → take (p .to - p .from) (drop (p .from) table) ≡ shownBytes table s values k p
+  unfolding shownBytes bytesOf
   shows-initial h = rw h
 
-  pub shows-stored : (size ≡ 0 → ⊥) → take ((256 * k + size) - 256 * k) (drop (256 * k) values) ≡ cond (eqb size 0) (bytesOf table p) (take size (drop (placeOf k) values))
+  pub shows-stored : (getD (s .length) k 0 ≡ 0 → ⊥)
+      → take ((256 * k + getD (s .length) k 0) - 256 * k) (drop (256 * k) values) ≡ shownBytes table s values k p
+  unfolding shownBytes storedText
   shows-stored h =
-      let e : (256 * k + size) - 256 * k ≡ size = omega arith in
-      rw (e, ne-eqb size 0 h)
+      let e : (256 * k + getD (s .length) k 0) - 256 * k ≡ getD (s .length) k 0 = omega arith in
+      rw (e, ne-eqb (getD (s .length) k 0) 0 h)
 
 -- ## Fit settings, one by one
 
@@ -94,6 +100,10 @@ some-stored d (x ∷ xs) h = omega arith
 pub record Sized (s : Settings) : Type 0 where
   pub size : length (s .length) ≡ 64
   pub time : length (s .time) ≡ 64
+
+-- as the fields of a struct are handed to a proof
+pub settings-sized : (s : Settings) {v : List Val} → shadow (the-field .row .own (the-type .to s) v) → Sized s
+settings-sized s g = record { size = length-unmapped ℕ (s .length) 64 (g .1 .1 .0 .1 .0 .1); time = length-unmapped ℕ (s .time) 64 (g .1 .1 .1 .0 .1 .0 .1) }
 
 module _ (s : Settings) (z : Sized s) (values : List ℕ) (room : 16384 ≤ length values) (k : ℕ) (h : k < 64) (text : List ℕ) (some-bytes : 0 < length text) (short : length text ≤ 256) (time : ℕ) where
   lengths : Changed (s .length) (set (s .length) k (length text)) k (length text)

@@ -16,7 +16,7 @@ use Rattle.state.specs.declared.Settings.{Settings}
 use Rattle.state.specs.declared.State.{State}
 use Rattle.state.specs.View.{shown, valueAt, clientAt, view, withStored, withLength}
 use Rattle.state.specs.Fit.{settingsUnfit}
-use Rattle.state.specs.Becomes.{Becomes}
+use Rattle.state.proofs.Becomes.{Becomes}
 use Rattle.state.proofs.Settled.{Sized, stored-view}
 
 -- one client becomes another

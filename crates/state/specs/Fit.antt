@@ -15,7 +15,8 @@ use Rattle.state.specs.declared.Settings.{Settings}
 use Rattle.state.specs.declared.State.{State}
 use Rattle.state.specs.View.{isSet, lineBytes, storedText}
 
--- "a stored length is over 256; a stored value is not in stored form or doesn't fit its datainfo; a stored time is above the limit"
+-- "a stored length is over 256 ..": that, or a value is stored (its length is not 0) and is no stored form that fits, or the time is above the
+-- limit
 unfoldable pub settingUnfit : Settings → List ℕ → ℕ → Parameter → Bool
 settingUnfit s values p x =
     ltb 256 (getD (s .length) p 0)
@@ -31,8 +32,8 @@ settingsUnfit s values p (x ∷ xs) = settingUnfit s values p (x .it) || setting
 unfoldable pub pastLast : ℕ → ℕ → Bool
 pastLast mask modules = not (eqb (mask / 2 ^ modules) 0)
 
--- "an unfinished line is over 1,024 bytes or has a line feed in it; a client inside an overlong line keeps bytes of it; a module past the last
--- is active; or a closed client has bytes, an overlong line or active modules"
+-- "an unfinished line is over 1,024 bytes ..": of client c the faults of a line, bytes of an overlong one, modules past the last, and whatever a
+-- closed client holds, in document 01's order
 unfoldable pub clientUnfit : ℕ → Clients → ℕ → Bool
 clientUnfit modules s c =
     ltb 1024 (getD (s .length) c 0)

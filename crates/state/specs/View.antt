@@ -9,6 +9,8 @@ use lib.ListN.{length, getD, set, take, drop, getElem?}
 use lib.Seq.{sets}
 use Rattle.message.specs.Line.{Line, whole, overlong}
 use Rattle.table.specs.Table.{Parameter}
+use Rattle.table.specs.At.{bytesOf}
+use Rattle.table.specs.declared.layout.Part.{Part}
 use Rattle.table.specs.Layout.{tableOf}
 use Rattle.table.specs.Search.{Placed, parameters}
 use Rattle.outbox.specs.Outbox.{Record, encodeAll}
@@ -46,11 +48,14 @@ placeOf p = 256 * p
 unfoldable pub storedText : Settings → List ℕ → ℕ → List ℕ
 storedText s values p = take (getD (s .length) p 0) (drop (placeOf p) values)
 
--- "Length 0 means never set: the value shown is then the part of the table that holds its initial value, otherwise the part of the values
--- area that holds the stored one"
+-- "Length 0 means never set ..": the value shown is then a part of the table's bytes, else a part of the values area
 unfoldable pub shown : List ℕ → Settings → List ℕ → ℕ → Parameter → List ℕ
 shown table s values p x =
     cond (eqb (getD (s .length) p 0) 0) (take (length (x .initial)) (drop (x .place) table)) (storedText s values p)
+
+-- the same by where the initial value lies in the table
+unfoldable pub shownBytes : List ℕ → Settings → List ℕ → ℕ → Part → List ℕ
+shownBytes table s values p initial = cond (eqb (getD (s .length) p 0) 0) (bytesOf table initial) (storedText s values p)
 
 -- past the last parameter nothing is looked at
 unfoldable pub valueAt : List ℕ → Settings → List ℕ → ℕ → Option (Placed Parameter) → Value
@@ -64,7 +69,7 @@ view table s values =
       values = λ p. valueAt table (s .settings) values p (getElem? (parameters (tableOf table)) p);
     }
 
--- "An accepted setting writes its stored form at the front of them and no other byte."
+-- "An accepted setting writes its stored form ..": from the parameter's place on, and nothing else is written
 unfoldable pub withStored : List ℕ → ℕ → List ℕ → List ℕ
 withStored values p text = sets values (placeOf p) text
 

@@ -4,21 +4,20 @@ use crate::bits::has_bit;
 use crate::bits::is_past;
 use ascii::write::put;
 ghost use mathlib.Core.Path.{_≡_};
-ghost use mathlib.Core.Bool.{false, not, _&&_, _||_};
-ghost use Prim.Native.Nat.{_*_, _+_, _<_, _≤_};
+ghost use mathlib.Core.Bool.{not, _&&_, _||_};
+ghost use Prim.Native.Nat.{_<_, _≤_};
 ghost use lib.Dec.{eqb};
-ghost use lib.ListN.{length, getD};
+ghost use lib.ListN.{getD};
 ghost use Rattle.ascii.specs.Bytes.{any};
-ghost use Rattle.plain.specs.Node as Node;
-ghost use Rattle.plain.specs.Node.{fresh, receive, emptied, activated, isActive};
-ghost use Rattle.state.specs.View.{isSet, bit, clientAt};
+ghost use Rattle.plain.specs.Node.{isActive, clientNumbers};
+ghost use Rattle.state.specs.View.{isSet, clientAt};
 ghost use Rattle.state.specs.Fit.{clientUnfit};
-ghost use Rattle.state.specs.Becomes.{Becomes, Always, Joinable, Activatable, Judged, LinesFit};
+ghost use Rattle.state.specs.Changed.{withOpened, withClosed, withEnded, withActive, withJoined};
 
 // "Open begins with an empty line and nothing active".
 pub fn opened(s: Clients, c: usize) -> Clients
     requires { ⌜ c < 8 ⌝ }
-    ensures { λ r. ⌜ Becomes s c fresh Always r ⌝ }
+    ensures { λ r. ⌜ r ≡ withOpened s c ⌝ }
 {
     let mut next = s;
     next.open[c] = 1;
@@ -31,7 +30,7 @@ pub fn opened(s: Clients, c: usize) -> Clients
 // "close forgets both".
 pub fn closed(s: Clients, c: usize) -> Clients
     requires { ⌜ c < 8 ⌝ }
-    ensures { λ r. ⌜ Becomes s c Node.closed Always r ⌝ }
+    ensures { λ r. ⌜ r ≡ withClosed s c ⌝ }
 {
     let mut next = s;
     next.open[c] = 0;
@@ -41,10 +40,10 @@ pub fn closed(s: Clients, c: usize) -> Clients
     next
 }
 
-// A line was carried out: no bytes stay.
+// "a line feed ends a line, which is carried out .., and no bytes stay".
 pub fn ended(s: Clients, c: usize) -> Clients
     requires { ⌜ c < 8 ⌝ }
-    ensures { λ r. ⌜ Becomes s c (emptied (clientAt s c)) Always r ⌝ }
+    ensures { λ r. ⌜ r ≡ withEnded s c ⌝ }
 {
     let mut next = s;
     next.overlong[c] = 0;
@@ -52,53 +51,36 @@ pub fn ended(s: Clients, c: usize) -> Clients
     next
 }
 
+// "Activation held as .. eight module masks .., one entry changed per activate": client c's active modules become those of a mask.
 pub fn with_active(s: Clients, c: usize, mask: u16) -> Clients
     requires { ⌜ c < 8 ⌝ }
-    ensures { λ r. ⌜ Becomes s c (activated (bit mask) (clientAt s c)) (Activatable s c mask) r ⌝ }
+    ensures { λ r. ⌜ r ≡ withActive s c mask ⌝ }
 {
     let mut next = s;
     next.active[c] = mask;
     next
 }
 
-// The line gets over 1,024 bytes, and only that is kept.
-fn overflowed(s: Clients, c: usize, bytes: &[u8]) -> Clients
-    requires { ⌜ (c < 8) × ((LinesFit s) × ((isSet (s .overlong) c ≡ false) × (1024 < getD (s .length) c 0 + length (now bytes)))) ⌝ }
-    ensures { λ r. ⌜ Becomes s c (receive (clientAt s c) (now (bytes .entry))) (Joinable s c (now (bytes .entry))) r ⌝ }
+// "The bytes a piece uses join its client's"; "once over 1,024, only that" is kept.
+pub fn joined(s: Clients, c: usize, bytes: &[u8]) -> Clients
+    requires { ⌜ (c < 8) × (getD (s .length) c 0 ≤ 1024) ⌝ }
+    ensures { λ r. ⌜ r ≡ withJoined s c (now (bytes .entry)) ⌝ }
 {
-    let mut next = s;
-    next.overlong[c] = 1;
-    next.length[c] = 0;
-    next
-}
-
-// The line still has at most 1,024 bytes.
-fn extended(s: Clients, c: usize, bytes: &[u8]) -> Clients
-    requires { ⌜ (c < 8) × ((LinesFit s) × ((isSet (s .overlong) c ≡ false) × (getD (s .length) c 0 + length (now bytes) ≤ 1024))) ⌝ }
-    ensures { λ r. ⌜ Becomes s c (receive (clientAt s c) (now (bytes .entry))) (Joinable s c (now (bytes .entry))) r ⌝ }
-{
+    if s.overlong[c] != 0 {
+        return s;
+    }
     let mut next = s;
     let length = s.length[c] as usize;
+    if 1024 - length < bytes.len() {
+        next.overlong[c] = 1;
+        next.length[c] = 0;
+        return next;
+    }
     let mut lines = s.lines;
     put(&mut lines, 1024 * c + length, bytes);
     next.lines = lines;
     next.length[c] = (length + bytes.len()) as u16;
     next
-}
-
-// "The bytes a piece uses join its client's"; "once over 1,024, only that" is kept.
-pub fn joined(s: Clients, c: usize, bytes: &[u8]) -> Clients
-    requires { ⌜ (c < 8) × (LinesFit s) ⌝ }
-    ensures { λ r. ⌜ Becomes s c (receive (clientAt s c) (now (bytes .entry))) (Joinable s c (now (bytes .entry))) r ⌝ }
-{
-    if s.overlong[c] != 0 {
-        return s;
-    }
-    let length = s.length[c] as usize;
-    if 1024 - length < bytes.len() {
-        return overflowed(s, c, bytes);
-    }
-    extended(s, c, bytes)
 }
 
 pub fn is_open(s: Clients, c: usize) -> bool
@@ -119,7 +101,7 @@ pub fn is_active(s: Clients, c: usize, i: usize) -> bool
     has_bit(s.active[c], i)
 }
 
-pub fn has_feed(bytes: &[u8]) -> bool
+fn has_feed(bytes: &[u8]) -> bool
     ensures { λ r. ⌜ r ≡ any (λ b. eqb b 10) (now (bytes .entry)) ⌝ }
 {
     let mut i = 0;
@@ -184,9 +166,10 @@ fn client_unfit(s: Clients, modules: usize, c: usize) -> bool
     keeps_closed(s, c)
 }
 
+// "State is unfit if, for this table: ..", as far as it speaks of clients: whether one of the eight is at fault.
 pub fn clients_unfit(s: Clients, modules: usize) -> bool
     requires { ⌜ modules ≤ 16 ⌝ }
-    ensures { λ r. ⌜ Judged modules s r ⌝ }
+    ensures { λ r. ⌜ r ≡ any (clientUnfit modules s) clientNumbers ⌝ }
 {
     let mut c = 0;
     while c < 8 {

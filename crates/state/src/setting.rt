@@ -2,12 +2,10 @@
 use crate::Settings;
 use table::layout::Part;
 ghost use mathlib.Core.Path.{_≡_};
-ghost use mathlib.Core.Bool.{cond};
-ghost use Prim.Native.Nat.{_*_, _+_, _<_, _≤_};
-ghost use lib.Dec.{eqb};
-ghost use lib.ListN.{length, take, drop};
-ghost use Rattle.table.specs.At.{bytesOf, Inside};
-ghost use Rattle.state.specs.View.{placeOf, withLength};
+ghost use Prim.Native.Nat.{_<_, _≤_};
+ghost use lib.ListN.{length, getD};
+ghost use Rattle.table.specs.At.{Inside};
+ghost use Rattle.state.specs.View.{shownBytes, withLength};
 
 // Parameter k has a stored value of so many bytes, from this time on.
 pub fn stored(s: Settings, k: usize, size: usize, time: u64) -> Settings
@@ -20,18 +18,19 @@ pub fn stored(s: Settings, k: usize, size: usize, time: u64) -> Settings
     next
 }
 
-// The value that parameter k shows: if its stored length is 0, "the part of the table that holds its initial value, otherwise the part of
-// the values area that holds the stored one, no copy".
+// The value that parameter k shows, "no copy": a part of the table if its stored length is 0, else a part of the values area. Both are lent
+// for one lifetime, since the part may be of either.
 pub fn shown<'a>(
     table: &'a [u8],
     values: &'a [u8],
-    size: usize,
-    initial: Part,
+    s: Settings,
     k: usize,
+    initial: Part,
 ) -> &'a [u8]
-    requires { ⌜ (Inside (now table) initial) × ((size ≤ 256) × (256 * k + 256 ≤ length (now values))) ⌝ }
-    ensures { λ r. ⌜ now r ≡ cond (eqb size 0) (bytesOf (now (table .entry)) initial) (take size (drop (placeOf k) (now (values .entry)))) ⌝ }
+    requires { ⌜ (Inside (now table) initial) × ((k < 64) × ((getD (s .length) k 0 ≤ 256) × (16384 ≤ length (now values)))) ⌝ }
+    ensures { λ r. ⌜ now r ≡ shownBytes (now (table .entry)) s (now (values .entry)) k initial ⌝ }
 {
+    let size = s.length[k] as usize;
     if size == 0 {
         let from = initial.from;
         let to = initial.to;

@@ -3,19 +3,17 @@ use Prim.Native.Nat.{ℕ, suc, _≤_, _<_}
 use native.Mathlib.Omega.{arith}
 use mathlib.Core.Path.{_≡_, refl, sym, ap, subst, fun-ext, _∙_}
 use mathlib.Core.Bool.{Bool, true, false, cond, not, _&&_, _||_}
-use mathlib.Core.List.{List, [], _∷_, _++_, map}
+use mathlib.Core.List.{List, [], _∷_, _++_}
 use mathlib.Core.Option.{Option, none, some}
 use lib.Dec.{eqb, ltb}
 use lib.ListN.{length, getD}
 use borrow.Author.Tests.{eqb-true, lt-ltb, le-ltb}
-use borrow.Author.Needs.{length-unmapped}
 use Rattle.ascii.specs.Names.{isName}
 use Rattle.ascii.specs.Writer.{Puts}
 use Rattle.table.specs.Table.{Parameter, Module, Table}
 use Rattle.table.specs.Layout.{tableOf}
 use Rattle.table.specs.Search.{Placed, parameters, findModule}
 use Rattle.report.specs.Judge.{tableNumber}
-use Rattle.search.specs.Left.{InTable}
 use Rattle.search.specs.Found.{FindsModule}
 use Rattle.search.specs.declared.find.FoundModule as F
 use Rattle.search.proofs.Finds.{module-there, module-named}
@@ -29,7 +27,7 @@ use Rattle.plain.specs.Node.{Client, closed, connected, Value, Node, withClient
 use Rattle.plain.specs.Answer.{refused, carried, found, activates, deactivates, inScope, outcome}
 use Rattle.sound.specs.Theorems.{ClientHeld, Sound}
 use Rattle.sound.proofs.Lists.{each-at, there-low}
-use Rattle.sound.proofs.Accepted.{GoodModule, accepted, accepted-whole}
+use Rattle.sound.proofs.Accepted.{GoodModule, accepted}
 use Rattle.sound.proofs.Records.{says-inactive, written-final}
 use Rattle.sound.proofs.Room.{puts-none, puts-after, room-after}
 use Rattle.sound.proofs.Steps.{comes-activates}
@@ -37,7 +35,7 @@ use Rattle.state.specs.declared.Clients.{Clients}
 use Rattle.state.specs.declared.State.{State}
 use Rattle.state.specs.View.{isSet, bit, clientAt, view}
 use Rattle.state.specs.Fit.{pastLast}
-use Rattle.state.specs.Becomes.{Sized}
+use Rattle.state.proofs.Becomes.{Sized}
 use Rattle.state.proofs.Masks.{no-bit, past-last, not-past}
 use Rattle.state.proofs.Stands.{fit-is-sound}
 use Rattle.outcome.specs.Setting.{settingIn}
@@ -54,13 +52,13 @@ pub record ModuleFound (table name : List ℕ) (i : ℕ) : Type 0 where
   pub few : i < 16
   pub named : isName name ≡ true
 
-module _ (table name : List ℕ) (a : tableNumber table ≡ 0) (r : F.FoundModule) (hr : InTable table λ t. FindsModule table r (findModule t name)) where
+module _ (table name : List ℕ) (a : tableNumber table ≡ 0) (r : F.FoundModule) (hr : FindsModule table name r) where
   pub found-none : r ≡ F.the-variants.Nothing → findModule (tableOf table) name ≡ none
-  found-none z = (rw z at hr) (tableOf table) (accepted-whole table a)
+  found-none z = rw z at hr
 
   pub found-at : (i p : ℕ) → r ≡ F.the-variants.At i p → ModuleFound table name i
   found-at i p z =
-      let f = (rw z at hr) (tableOf table) (accepted-whole table a) in
+      let f = rw z at hr in
       let w = accepted table a in
       let there = module-there (tableOf table) name (i, f .it) (f .is) in
       let low = there-low (tableOf table .modules) i (f .it) there in
@@ -219,20 +217,6 @@ module _ (w : Table) (n : Node) (c t : ℕ) (before after values : List ℕ) whe
 
 -- ## An activate, at a state that is fit
 
--- the arrays of clients, as a struct's fields are handed to a proof
-pub clients-sized :
-    (s : Clients) → length (map (λ (v : ℕ). v) (s .open)) ≡ 8 → length (map (λ (v : ℕ). v) (s .overlong)) ≡ 8
-    → length (map (λ (v : ℕ). v) (s .active)) ≡ 8 → length (map (λ (v : ℕ). v) (s .length)) ≡ 8 → length (map (λ (v : ℕ). v) (s .lines)) ≡ 8192
-    → Sized s
-clients-sized s h i j k l =
-    record {
-      isOpen = length-unmapped ℕ (s .open) 8 h;
-      isOverlong = length-unmapped ℕ (s .overlong) 8 i;
-      mask = length-unmapped ℕ (s .active) 8 j;
-      size = length-unmapped ℕ (s .length) 8 k;
-      room = length-unmapped ℕ (s .lines) 8192 l;
-    }
-
 module _ (table : List ℕ) (s : State) (z : Sized (s .clients)) (values out : List ℕ) (c : ℕ) (r : Ready table s values out c) where
   abbrev w : Table
   w = tableOf table
@@ -255,14 +239,14 @@ module _ (table : List ℕ) (s : State) (z : Sized (s .clients)) (values out : L
 
   module _ (t : ℕ) (mid after : List ℕ) (p next written : ℕ) where
     pub activated-all :
-        (k : ℕ) → InTable table (λ t. k ≡ length (t .modules))
+        (k : ℕ) → k ≡ length (w .modules)
         → ((j : ℕ) → bit next j ≡ bit (getD (s .clients .active) c 0) j || ltb j k)
         → Puts out 0 (encodeAll (updatesOf c (λ i. true) (n .values) 0 (parameters w))) mid p
         → Puts mid p (encode (final c (active none))) after written
         → Activates w n c t out after values values (outcome w n c t (activate none)) next written
     activated-all k f h =
         all-active w n c t out after values sound (getD (s .clients .active) c 0) (open-bits table s values c (r .isOpen)) mid p written next
-        (λ j. h j ∙ ap (λ (m : ℕ). bit (getD (s .clients .active) c 0) j || ltb j m) (f w (accepted-whole table (r .lent .accepted))))
+        (λ j. h j ∙ ap (λ (m : ℕ). bit (getD (s .clients .active) c 0) j || ltb j m) f)
 
     pub activated-one :
         (name : List ℕ) (i : ℕ) → ModuleFound table name i

@@ -25,11 +25,10 @@ use state::bits::without_bit;
 use update::Scope;
 use update::put_updates_of;
 
-// "`activate` sends an update for each parameter of those modules, table order, then `active` or `active M`": all modules. What was active
-// before stays so.
-pub fn activate_all(
-    table: &[u8],
-    values: &[u8],
+// "`activate` sends an update for each parameter ..": of all modules. What was active before stays so.
+pub fn activate_all<'a>(
+    table: &'a [u8],
+    values: &'a [u8],
     out: &mut [u8],
     state: State,
     client: u8,
@@ -46,9 +45,9 @@ pub fn activate_all(
 }
 
 // The same for the module of a name, which has to be there.
-pub fn activate(
-    table: &[u8],
-    values: &[u8],
+pub fn activate<'a>(
+    table: &'a [u8],
+    values: &'a [u8],
     out: &mut [u8],
     state: State,
     client: u8,

@@ -123,6 +123,10 @@ module _ (s : List ℕ) (at : ℕ) (t : T.Texts) (ht : TextsAt s t (textsAt (80 
                   initial = x .inside;
                   infoWithin = (rw ef at hf) .1;
                   nextWithin = w;
+                  between = (rw et at ht) .between;
+                  flagged = (rw ef at hf) .0;
+                  size = x .size;
+                  end = refl;
                 }
 
 -- ## Commands
@@ -170,6 +174,8 @@ module _ (s : List ℕ) (at : ℕ) (t : T.Texts) (ht : TextsAt s t (textsAt (67 
             description = (rw et at ht) .description;
             infoWithin = (rw ef at hf) .1;
             nextWithin = (rw ed at hd) .1;
+            between = (rw et at ht) .between;
+            flagged = (rw ef at hf) .0;
           }
 
 -- ## Either

@@ -2,7 +2,7 @@
 use Prim.Native.Nat.{ℕ, _-_, _≤_, _<_}
 use native.Mathlib.Omega.{arith}
 use mathlib.Core.Path.{_≡_, refl, sym, ap, _∙_}
-use mathlib.Core.Bool.{Bool, true, false, cond}
+use mathlib.Core.Bool.{Bool, true, false, cond, false≢true}
 use mathlib.Core.List.{List, [], _∷_}
 use mathlib.Core.Option.{Option, none, some}
 use lib.ListN.{length, drop, length-drop}
@@ -58,6 +58,10 @@ module _ (s : List ℕ) (at : ℕ) (t : T.Texts) (ht : TextsAt s t (textsAt (77 
           description = (rw et at ht) .description;
           note = (rw e at hn) .inside;
           nextWithin = (rw e at hn) .inside .within;
+          between = (rw et at ht) .between;
+          noteRead = (rw e at hn) .is;
+          noteEnd = refl;
+          noteless = λ z. absurd (false≢true (sym z));
         }
 
     pub heading-plain : n ≡ N.the-variants.Nothing → ModuleIs s (record { name = p; description = q; noted = false; note = record { from = q .to; to = q .to }; next = q .to }) (headingAt (drop at s))
@@ -70,6 +74,10 @@ module _ (s : List ℕ) (at : ℕ) (t : T.Texts) (ht : TextsAt s t (textsAt (77 
           description = (rw et at ht) .description;
           note = record { order = omega arith; within = w };
           nextWithin = w;
+          between = (rw et at ht) .between;
+          noteRead = rw e at hn;
+          noteEnd = refl;
+          noteless = λ z. refl;
         }
 
     pub heading-bad : n ≡ N.the-variants.Bad → headingAt (drop at s) ≡ none

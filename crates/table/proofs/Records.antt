@@ -135,6 +135,7 @@ module _ (s : List ℕ) (at : ℕ) (m : List ℕ) (n : Next) (hn : Ends s n (aft
       texts-two d z =
           record {
             is = simp ((rw en at hn) .0, text-is s a r h p e, text-is s (p .to) q k d z);
+            between = (rw z at k) .size;
             name = text-inside s a r h p e;
             description = text-inside s (p .to) q k d z;
           }

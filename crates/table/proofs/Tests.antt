@@ -15,7 +15,7 @@ use Rattle.ascii.specs.Names.{isText}
 use Rattle.ascii.specs.Reader.{Ends, rest}
 use Rattle.datainfo.specs.Datainfo.{Datainfo}
 use Rattle.datainfo.specs.Rules as Datainfo
-use Rattle.datainfo.specs.Layout.{datainfoIn, datainfoAt}
+use Rattle.datainfo.specs.Layout.{datainfoIn, datainfoAt, ReadableAt}
 use Rattle.fit.specs.Fit.{isStored}
 use Rattle.table.specs.Table as Table
 use Rattle.table.specs.Layout.{begins, argumentAt, accessiblesAt, moduleAt, modulesAt}
@@ -25,7 +25,7 @@ use Rattle.table.specs.declared.layout.CommandAt.{CommandAt}
 use Rattle.table.specs.declared.layout.Accessible as A
 use Rattle.table.specs.declared.judge.Test.{Test}
 use Rattle.table.specs.declared.judge.Test.the-variants.{Names, Rules, Initials}
-use Rattle.table.specs.At.{bytesOf, Inside, accessibleBegins, accessibleAt, accessiblesFrom, parameterOf, commandOf, AccessibleIs, modulesFrom}
+use Rattle.table.specs.At.{bytesOf, Inside, ArgumentReadable, accessibleBegins, accessibleAt, accessiblesFrom, parameterOf, commandOf, AccessibleIs, modulesFrom}
 use Rattle.table.specs.Judged.{passed, textPasses, infoPasses, valuePasses, passes}
 use Rattle.table.proofs.Accessibles.{in-some}
 use Rattle.table.proofs.Enough.{before, accessibles-stop, accessibles-more, modules-stop, modules-more}
@@ -135,6 +135,15 @@ module _ (s : List ℕ) (test : Test) (t : Bool) where
         go none f z = let y : _≡_ {A = ℕ} 0 1 = cc in absurd (omega arith)
         go (some p) f z = let y : some (p .0) ≡ a = ap (λ (y : Option Datainfo × List ℕ). y .0) (in-some z) in rw (← y) (f (p .0) (p .1) refl)
 
+-- a declared argument is a datainfo
+pub argument-readable : {s : List ℕ} {b : Bool} {at : ℕ} → ArgumentReadable s b at → b ≡ true → ReadableAt s at 4
+unfolding argumentAt
+argument-readable {s} {b} {at} h e = go (datainfoAt (drop at s)) refl (rw e at (h .is))
+  where
+    go : (o : Option (Datainfo × List ℕ)) → datainfoAt (drop at s) ≡ o → (o >>= λ p. some (asArgument p)) ≡ some (h .argument, h .left) → ReadableAt s at 4
+    go none i z = let y : _≡_ {A = ℕ} 0 1 = cc in absurd (omega arith)
+    go (some p) i z = record { within = h .within; datainfo = p .0; left = p .1; is = i }
+
 module _ (s : List ℕ) (r : A.Accessible) (o : Option (Table.Accessible × List ℕ)) (h : AccessibleIs s r o) where
   module _ (q : ParameterAt) (e : r ≡ A.the-variants.Parameter q) where
     pub parameter-text : Inside s (q .description)
@@ -146,6 +155,9 @@ module _ (s : List ℕ) (r : A.Accessible) (o : Option (Table.Accessible × List
     pub parameter-info : q .info ≤ length s
     parameter-info = (rw e at h) .infoWithin
 
+    pub parameter-readable : ReadableAt s (q .info) 4
+    parameter-readable = let x = rw e at h in record { within = x .infoWithin; datainfo = x .datainfo; left = x .left; is = x .info }
+
     pub parameter-passes : (test : Test) (b : Bool) → ((d : Datainfo) (x : List ℕ) → datainfoIn 4 (drop (q .info) s) ≡ some (d, x) → b ≡ passes test (Table.parameter (parameterOf s q d))) → b ≡ passed (passes test) o
     parameter-passes test b f = let x = rw e at h in rw (x .is) (f (x .datainfo) (x .left) (x .info))
 
@@ -155,6 +167,9 @@ module _ (s : List ℕ) (r : A.Accessible) (o : Option (Table.Accessible × List
 
     pub command-info : q .info ≤ length s
     command-info = (rw e at h) .infoWithin
+
+    pub command-readable : ArgumentReadable s (q .argument) (q .info)
+    command-readable = let x = rw e at h in record { within = x .infoWithin; argument = x .argument; left = drop (q .next) s; is = x .info }
 
     pub command-passes : (test : Test) (b : Bool) → ((a : Option Datainfo) (x : List ℕ) → argumentAt (q .argument) (drop (q .info) s) ≡ some (a, x) → b ≡ passes test (Table.command (commandOf s q a))) → b ≡ passed (passes test) o
     command-passes test b f = let x = rw e at h in rw (x .is) (f (x .argument) (drop (q .next) s) (x .info))

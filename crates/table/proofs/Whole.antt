@@ -7,7 +7,7 @@ use mathlib.Core.List.{List, [], _∷_, map}
 use mathlib.Core.Option.{Option, none, some}
 use lib.ListN.{length, drop}
 use lib.Dec.{leb, eqb}
-use borrow.Author.Tests.{not-true, not-false, leb-true, leb-false, le-leb, lt-leb}
+use borrow.Author.Tests.{eqb-true, not-true, not-false, leb-true, leb-false, le-leb, lt-leb}
 use Rattle.ascii.specs.declared.Next.{Next}
 use Rattle.ascii.specs.declared.Next.the-variants.{At, Bad}
 use Rattle.ascii.specs.Text.{bytes}
@@ -16,8 +16,8 @@ use Rattle.ascii.specs.Names.{isText}
 use Rattle.ascii.specs.Reader.{Ends, rest}
 use Rattle.datainfo.specs.Rules.{goodNames, isBetween}
 use Rattle.table.specs.Table as Table
-use Rattle.table.specs.Layout.{begins, moduleAt, modulesAt, wholeTable, readTable}
-use Rattle.table.specs.Rules.{accessibleName, accessibleCount, countsGood, namesGood, datainfosGood, initialsGood}
+use Rattle.table.specs.Layout.{begins, moduleAt, modulesAt, wholeTable, readTable, Readable, orEmpty, tableOf}
+use Rattle.table.specs.Rules.{accessibleName, accessibleCount, countsGood, namesGood, datainfosGood, initialsGood, lowest}
 use Rattle.table.specs.declared.layout.Part.{Part}
 use Rattle.table.specs.declared.layout.Texts as T
 use Rattle.table.specs.declared.layout.ModuleAt.{ModuleAt}
@@ -39,6 +39,7 @@ pub record Opened (s : List ℕ) (p q : Part) (t : Table.Table) : Type 0 where
   pub description : t .description ≡ bytesOf s q
   pub left : List ℕ
   pub modules : modulesFrom s (q .to) ≡ some (t .modules, left)
+  pub end : after (bytes "EN") left ≡ some []
 
 module _ (s : List ℕ) (r : T.Texts) (o : Option ((List ℕ × List ℕ) × List ℕ)) (h : TextsAt s r o) (p q : Part) (e : r ≡ T.the-variants.At p q) where
   pub name-text : Inside s p
@@ -50,6 +51,16 @@ module _ (s : List ℕ) (r : T.Texts) (o : Option ((List ℕ × List ℕ) × Lis
 pub never : {A : Type 0} {t : A} → none ≡ some t → ⊥
 never e = let z : _≡_ {A = ℕ} 0 1 = cc in omega arith
 
+-- bytes that can be read are their table
+pub readable-whole : (s : List ℕ) → Readable s → wholeTable s ≡ some (tableOf s)
+unfolding readTable tableOf orEmpty
+readable-whole s e = go (leb (length s) 16384) (wholeTable s) e
+  where
+    go : (b : Bool) (o : Option Table.Table) → isSome (cond b o none) ≡ true → o ≡ some (orEmpty (cond b o none))
+    go true none e = absurd (false≢true e)
+    go true (some t) e = refl
+    go false o e = absurd (false≢true e)
+
 module _ (s : List ℕ) (r : T.Texts) (h : TextsAt s r (textsAt (78 ∷ 68 ∷ []) (drop 0 s))) (t : Table.Table) (w : wholeTable s ≡ some t) where
   pub unread : r ≡ T.the-variants.Bad → ⊥
   unread e = never (sym (table-as s ∙ rw (rw e at h)) ∙ w)
@@ -59,29 +70,35 @@ module _ (s : List ℕ) (r : T.Texts) (h : TextsAt s r (textsAt (78 ∷ 68 ∷ [
 
   module _ (p q : Part) (e : r ≡ T.the-variants.At p q) where
     pub opened : Opened s p q t
+    unfolding bytes
     opened = go (modulesFrom s (q .to)) refl (sym (table-as s ∙ rw ((rw e at h) .is)) ∙ w)
       where
         read : List Table.Module → Table.Table
         read ms = record { equipmentId = bytesOf s p; description = bytesOf s q; modules = ms }
 
-        ends : (ms : List Table.Module) (x : List ℕ) → modulesFrom s (q .to) ≡ some (ms, x) → (b : Bool) → cond b (some (read ms)) none ≡ some t → Opened s p q t
-        ends ms x g false z = absurd (never z)
-        ends ms x g true z =
+        none-left : (l : List ℕ) → eqb (length l) 0 ≡ true → l ≡ []
+        none-left [] k = refl
+        none-left (b ∷ l) k = let z = eqb-true (length (b ∷ l)) 0 k in absurd (omega arith)
+
+        ends : (ms : List Table.Module) (x : List ℕ) → modulesFrom s (q .to) ≡ some (ms, x) → (l : List ℕ) → after (69 ∷ 78 ∷ []) x ≡ some l → (b : Bool) → eqb (length l) 0 ≡ b → cond b (some (read ms)) none ≡ some t → Opened s p q t
+        ends ms x g l a false k z = absurd (never z)
+        ends ms x g l a true k z =
             let y = in-some z in
             record {
               id = sym (ap (λ (u : Table.Table). u .equipmentId) y);
               description = sym (ap (λ (u : Table.Table). u .description) y);
               left = x;
               modules = rw (← y) g;
+              end = a ∙ ap some (none-left l k);
             }
 
-        marked : (ms : List Table.Module) (x : List ℕ) → modulesFrom s (q .to) ≡ some (ms, x) → (o : Option (List ℕ)) → (o >>= λ l. cond (eqb (length l) 0) (some (read ms)) none) ≡ some t → Opened s p q t
-        marked ms x g none z = absurd (never z)
-        marked ms x g (some l) z = ends ms x g (eqb (length l) 0) z
+        marked : (ms : List Table.Module) (x : List ℕ) → modulesFrom s (q .to) ≡ some (ms, x) → (o : Option (List ℕ)) → after (69 ∷ 78 ∷ []) x ≡ o → (o >>= λ l. cond (eqb (length l) 0) (some (read ms)) none) ≡ some t → Opened s p q t
+        marked ms x g none a z = absurd (never z)
+        marked ms x g (some l) a z = ends ms x g l a (eqb (length l) 0) refl z
 
         go : (o : Option (List Table.Module × List ℕ)) → modulesFrom s (q .to) ≡ o → (o >>= λ m. after (69 ∷ 78 ∷ []) (m .1) >>= λ l. cond (eqb (length l) 0) (some (read (m .0))) none) ≡ some t → Opened s p q t
         go none g z = absurd (never z)
-        go (some m) g z = marked (m .0) (m .1) g (after (69 ∷ 78 ∷ []) (m .1)) z
+        go (some m) g z = marked (m .0) (m .1) g (after (69 ∷ 78 ∷ []) (m .1)) refl z
 
 -- ## Names and datainfos
 
@@ -252,24 +269,24 @@ module _ (s : List ℕ) (b : Bool) (h : b ≡ isSome (readTable s)) (n : not b �
 
   module _ (c : Bool) (hc : (t : Table.Table) → wholeTable s ≡ some t → c ≡ countsGood t) where
     pub number-2 : not c ≡ true → 2 ≡ numberBelow6 (readTable s)
-    unfolding numberBelow6
+    unfolding numberBelow6 lowest
     number-2 k = let g = is-read in rw (g .is, ← (hc (g .it) (whole (g .it) (g .is))), not-true c k)
 
     module _ (nc : not c ≡ false) (d : Bool) (hd : (t : Table.Table) → wholeTable s ≡ some t → d ≡ namesGood t) where
       pub number-3 : not d ≡ true → 3 ≡ numberBelow6 (readTable s)
-      unfolding numberBelow6
+      unfolding numberBelow6 lowest
       number-3 k = let g = is-read in let w = whole (g .it) (g .is) in rw (g .is, ← (hc (g .it) w), not-false c nc, ← (hd (g .it) w), not-true d k)
 
       module _ (nd : not d ≡ false) (e : Bool) (he : (t : Table.Table) → wholeTable s ≡ some t → e ≡ datainfosGood t) where
         pub number-4 : not e ≡ true → 4 ≡ numberBelow6 (readTable s)
-        unfolding numberBelow6
+        unfolding numberBelow6 lowest
         number-4 k = let g = is-read in let w = whole (g .it) (g .is) in rw (g .is, ← (hc (g .it) w), not-false c nc, ← (hd (g .it) w), not-false d nd, ← (he (g .it) w), not-true e k)
 
         module _ (ne : not e ≡ false) (f : Bool) (hf : (t : Table.Table) → wholeTable s ≡ some t → f ≡ initialsGood t) where
           pub number-5 : not f ≡ true → 5 ≡ numberBelow6 (readTable s)
-          unfolding numberBelow6
+          unfolding numberBelow6 lowest
           number-5 k = let g = is-read in let w = whole (g .it) (g .is) in rw (g .is, ← (hc (g .it) w), not-false c nc, ← (hd (g .it) w), not-false d nd, ← (he (g .it) w), not-false e ne, ← (hf (g .it) w), not-true f k)
 
           pub number-0 : not f ≡ false → 0 ≡ numberBelow6 (readTable s)
-          unfolding numberBelow6
+          unfolding numberBelow6 lowest
           number-0 k = let g = is-read in let w = whole (g .it) (g .is) in rw (g .is, ← (hc (g .it) w), not-false c nc, ← (hd (g .it) w), not-false d nd, ← (he (g .it) w), not-false e ne, ← (hf (g .it) w), not-false f k)

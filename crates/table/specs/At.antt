@@ -1,7 +1,7 @@
 -- What the code that reads records answers: positions of the table's bytes, and what they stand for. Assumes nothing.
 use Prim.Native.Nat.{ℕ, _-_, _≤_}
 use mathlib.Core.Path.{_≡_}
-use mathlib.Core.Bool.{Bool, cond, _||_}
+use mathlib.Core.Bool.{Bool, false, cond, _||_}
 use mathlib.Core.List.{List, []}
 use mathlib.Core.Option.{Option, none, some}
 use lib.ListN.{length, take, drop}
@@ -11,7 +11,7 @@ use Rattle.ascii.specs.Numbers.{unsigned}
 use Rattle.datainfo.specs.Datainfo.{Datainfo}
 use Rattle.datainfo.specs.Layout.{counted, datainfoAt}
 use Rattle.table.specs.Table as Table
-use Rattle.table.specs.Layout.{begins, argumentAt, parameterAt, commandAt, accessiblesAt, noteAt, modulesAt}
+use Rattle.table.specs.Layout.{begins, flag, argumentAt, parameterAt, commandAt, accessiblesAt, noteAt, modulesAt}
 use Rattle.table.specs.declared.layout.Part.{Part}
 use Rattle.table.specs.declared.layout.Bytes as B
 use Rattle.table.specs.declared.layout.Texts as T
@@ -50,8 +50,10 @@ textsAt m xs = do
   (text, c) ← counted b
   some ((name, text), c)
 
+-- o is the texts p and q; `between` is the second one's length byte
 pub record TextsAre (s : List ℕ) (p q : Part) (o : Option ((List ℕ × List ℕ) × List ℕ)) : Type 0 where
   pub is : o ≡ some ((bytesOf s p, bytesOf s q), drop (q .to) s)
+  pub between : unsigned 1 (drop (p .to) s) ≡ some (q .to - q .from, drop (q .from) s)
   pub name : Inside s p
   pub description : Inside s q
 
@@ -89,7 +91,7 @@ parameterOf s q d =
       place = q .initial .from;
     }
 
--- o is the parameter of which q has the positions
+-- o is the parameter of which q has the positions; `between`, `flagged` and `size` are what stands between its parts
 pub record ParameterIs (s : List ℕ) (q : ParameterAt) (o : Option (Table.Accessible × List ℕ)) : Type 0 where
   pub datainfo : Datainfo
   pub left : List ℕ
@@ -100,12 +102,23 @@ pub record ParameterIs (s : List ℕ) (q : ParameterAt) (o : Option (Table.Acces
   pub initial : Inside s (q .initial)
   pub infoWithin : q .info ≤ length s
   pub nextWithin : q .next ≤ length s
+  pub between : unsigned 1 (drop (q .name .to) s) ≡ some (q .description .to - q .description .from, drop (q .description .from) s)
+  pub flagged : flag (drop (q .description .to) s) ≡ some (q .readonly, drop (q .info) s)
+  pub size : unsigned 2 left ≡ some (q .initial .to - q .initial .from, drop (q .initial .from) s)
+  pub end : q .next ≡ q .initial .to
 
 -- the command of which q has the positions, and a is the argument
 unfoldable pub commandOf : List ℕ → CommandAt → Option Datainfo → Table.Command
 commandOf s q a = record { name = bytesOf s (q .name); description = bytesOf s (q .description); argument = a }
 
--- o is the command of which q has the positions
+-- the argument that follows a flag can be read from s at a position
+pub record ArgumentReadable (s : List ℕ) (declared : Bool) (at : ℕ) : Type 0 where
+  pub within : at ≤ length s
+  pub argument : Option Datainfo
+  pub left : List ℕ
+  pub is : argumentAt declared (drop at s) ≡ some (argument, left)
+
+-- o is the command of which q has the positions; `between` and `flagged` are what stands between its parts
 pub record CommandIs (s : List ℕ) (q : CommandAt) (o : Option (Table.Accessible × List ℕ)) : Type 0 where
   pub argument : Option Datainfo
   pub is : o ≡ some (Table.command (commandOf s q argument), drop (q .next) s)
@@ -114,6 +127,8 @@ pub record CommandIs (s : List ℕ) (q : CommandAt) (o : Option (Table.Accessibl
   pub description : Inside s (q .description)
   pub infoWithin : q .info ≤ length s
   pub nextWithin : q .next ≤ length s
+  pub between : unsigned 1 (drop (q .name .to) s) ≡ some (q .description .to - q .description .from, drop (q .description .from) s)
+  pub flagged : flag (drop (q .description .to) s) ≡ some (q .argument, drop (q .info) s)
 
 -- the answer of a reader of s that reads the accessible o
 abbrev pub AccessibleIs : List ℕ → A.Accessible → Option (Table.Accessible × List ℕ) → Type 0
@@ -150,12 +165,18 @@ moduleOf s q =
       accessibles = [];
     }
 
+-- o is the module of which q has the positions, with no accessibles yet; `between` is the description's length byte. A note ends where the
+-- accessibles begin, and no note is an empty part there
 pub record ModuleIs (s : List ℕ) (q : ModuleAt) (o : Option (Table.Module × List ℕ)) : Type 0 where
   pub is : o ≡ some (moduleOf s q, drop (q .next) s)
   pub name : Inside s (q .name)
   pub description : Inside s (q .description)
   pub note : Inside s (q .note)
   pub nextWithin : q .next ≤ length s
+  pub between : unsigned 1 (drop (q .name .to) s) ≡ some (q .description .to - q .description .from, drop (q .description .from) s)
+  pub noteRead : noteAt (drop (q .description .to) s) ≡ some (cond (q .noted) (some (bytesOf s (q .note))) none, drop (q .next) s)
+  pub noteEnd : q .note .to ≡ q .next
+  pub noteless : q .noted ≡ false → q .note .from ≡ q .next
 
 abbrev pub HeadingIs : List ℕ → H.Heading → Option (Table.Module × List ℕ) → Type 0
 HeadingIs s (H.the-variants.Read q) o = ModuleIs s q o

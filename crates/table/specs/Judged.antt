@@ -15,7 +15,7 @@ use Rattle.datainfo.specs.Rules.{goodNames}
 use Rattle.fit.specs.Fit.{isStored}
 use Rattle.table.specs.Table.{Accessible, Module, Table}
 use Rattle.table.specs.Layout.{begins, moduleAt}
-use Rattle.table.specs.Rules.{accessibleName, accessibleCount, noteGood, accessibleNamesGood, moduleNamesGood, rulesKept, initialGood, countsGood, namesGood, datainfosGood, initialsGood}
+use Rattle.table.specs.Rules.{accessibleName, accessibleCount, noteGood, accessibleNamesGood, moduleNamesGood, rulesKept, initialGood, lowest, faultsBelow6}
 use Rattle.table.specs.At.{bytesOf, Inside, accessibleBegins, accessibleAt, accessiblesFrom, modulesFrom}
 use Rattle.table.specs.declared.layout.Part.{Part}
 use Rattle.table.specs.declared.layout.ModuleAt.{ModuleAt}
@@ -128,14 +128,7 @@ few most ms = leb (accessibleCount ms) most
 
 -- ## The number
 
--- "Several faults: the lowest number.", of the numbers 1 to 5
+-- the lowest of the numbers 1 to 5
 unfoldable pub numberBelow6 : Option Table → ℕ
 numberBelow6 none = 1
-numberBelow6 (some t) =
-    cond (countsGood t)
-    (cond (namesGood t)
-    (cond (datainfosGood t)
-    (cond (initialsGood t) 0 5)
-    4)
-    3)
-    2
+numberBelow6 (some t) = lowest (faultsBelow6 t)

@@ -1,5 +1,5 @@
-// What is asked of a table that can be read: numbers 2 to 5. A table that can't be read is number 1, which comes before: what is
-// answered about such a table does not matter.
+// What is asked of a table: its number, 1 to 5. Number 1, a table that can't be read, comes before the others, so those are asked of a table
+// that can be read.
 use crate::layout::Accessible;
 use crate::layout::CommandAt;
 use crate::layout::Heading;
@@ -30,13 +30,13 @@ ghost use lib.ListN.{length, drop};
 ghost use Rattle.ascii.specs.Bytes.{all};
 ghost use Rattle.ascii.specs.Names.{isName, isText};
 ghost use Rattle.datainfo.specs.Datainfo.{Datainfo};
-ghost use Rattle.datainfo.specs.Layout.{datainfoIn};
+ghost use Rattle.datainfo.specs.Layout.{datainfoIn, ReadableAt};
 ghost use Rattle.datainfo.specs.Rules.{goodNames};
 ghost use Rattle.fit.specs.Fit.{isStored};
 ghost use Rattle.table.specs.Table.{Table, parameter, command};
 ghost use Rattle.table.specs.Layout.{argumentAt, moduleAt, wholeTable, readTable};
 ghost use Rattle.table.specs.Rules.{noteGood, countsGood, namesGood, datainfosGood, initialsGood};
-ghost use Rattle.table.specs.At.{bytesOf, Inside, accessibleAt, accessiblesFrom, parameterOf, commandOf, moduleOf, modulesFrom};
+ghost use Rattle.table.specs.At.{bytesOf, Inside, ArgumentReadable, accessibleAt, accessiblesFrom, parameterOf, commandOf, moduleOf, modulesFrom};
 ghost use Rattle.table.specs.declared.judge.Kind.the-variants as Kind;
 ghost use Rattle.table.specs.declared.judge.Test.the-variants as Test;
 ghost use Rattle.table.specs.Judged.{passed, textPasses, infoPasses, valuePasses, passes, modulePasses, headPasses, kindBegins, namedAt, namesFrom, differs, NamedIs, howMany, MembersAre, few, numberBelow6};
@@ -77,7 +77,7 @@ fn part_is_text(s: &[u8], p: Part) -> bool
 
 // Whether a datainfo passes.
 fn info_passes(s: &[u8], at: usize, test: Test) -> bool
-    requires { ⌜ at ≤ length (now s) ⌝ }
+    requires { ⌜ ReadableAt (now s) at 4 ⌝ }
     ensures { λ r. ⌜ ((d : Datainfo) (x : List ℕ) → datainfoIn 4 (drop at (now (s .entry))) ≡ some (d, x) → r ≡ infoPasses test d) ⌝ }
 {
     match test {
@@ -100,7 +100,7 @@ fn text_passes(s: &[u8], p: Part, test: Test) -> bool
 }
 
 fn part_is_stored(s: &[u8], info: usize, p: Part) -> bool
-    requires { ⌜ (info ≤ length (now s)) × Inside (now s) p ⌝ }
+    requires { ⌜ ReadableAt (now s) info 4 × Inside (now s) p ⌝ }
     ensures { λ r. ⌜ ((d : Datainfo) (x : List ℕ) → datainfoIn 4 (drop info (now (s .entry))) ≡ some (d, x) → r ≡ isStored d (bytesOf (now (s .entry)) p)) ⌝ }
 {
     let from = p.from;
@@ -110,7 +110,7 @@ fn part_is_stored(s: &[u8], info: usize, p: Part) -> bool
 
 // Whether an initial value passes.
 fn value_passes(s: &[u8], info: usize, p: Part, test: Test) -> bool
-    requires { ⌜ (info ≤ length (now s)) × Inside (now s) p ⌝ }
+    requires { ⌜ ReadableAt (now s) info 4 × Inside (now s) p ⌝ }
     ensures { λ r. ⌜ ((d : Datainfo) (x : List ℕ) → datainfoIn 4 (drop info (now (s .entry))) ≡ some (d, x) → r ≡ valuePasses test d (bytesOf (now (s .entry)) p)) ⌝ }
 {
     match test {
@@ -121,7 +121,7 @@ fn value_passes(s: &[u8], info: usize, p: Part, test: Test) -> bool
 }
 
 fn parameter_passes(s: &[u8], q: ParameterAt, test: Test) -> bool
-    requires { ⌜ (Inside (now s) (q .description) × Inside (now s) (q .initial)) × (q .info ≤ length (now s)) ⌝ }
+    requires { ⌜ (Inside (now s) (q .description) × Inside (now s) (q .initial)) × ReadableAt (now s) (q .info) 4 ⌝ }
     ensures { λ r. ⌜ ((d : Datainfo) (x : List ℕ) → datainfoIn 4 (drop (q .info) (now (s .entry))) ≡ some (d, x) → r ≡ passes test (parameter (parameterOf (now (s .entry)) q d))) ⌝ }
 {
     let description = q.description;
@@ -137,7 +137,7 @@ fn parameter_passes(s: &[u8], q: ParameterAt, test: Test) -> bool
 }
 
 fn command_passes(s: &[u8], q: CommandAt, test: Test) -> bool
-    requires { ⌜ Inside (now s) (q .description) × (q .info ≤ length (now s)) ⌝ }
+    requires { ⌜ Inside (now s) (q .description) × ArgumentReadable (now s) (q .argument) (q .info) ⌝ }
     ensures { λ r. ⌜ ((a : Option Datainfo) (x : List ℕ) → argumentAt (q .argument) (drop (q .info) (now (s .entry))) ≡ some (a, x) → r ≡ passes test (command (commandOf (now (s .entry)) q a))) ⌝ }
 {
     let description = q.description;
@@ -417,7 +417,7 @@ fn accessibles_are_few(s: &[u8], at: usize, most: usize) -> bool
 }
 
 // Number 2: whether there are 1 to 16 modules and at most 64 accessibles in all.
-pub fn counts_good(s: &[u8]) -> bool
+fn counts_good(s: &[u8]) -> bool
     ensures { λ r. ⌜ ((t : Table) → wholeTable (now (s .entry)) ≡ some t → r ≡ countsGood t) ⌝ }
 {
     let Texts::At(_, description) = texts_at(s, 0, b'N', b'D') else {
@@ -435,7 +435,7 @@ pub fn counts_good(s: &[u8]) -> bool
 }
 
 // Number 3: whether names and texts are good, and names unique where they have to be.
-pub fn names_good(s: &[u8]) -> bool
+fn names_good(s: &[u8]) -> bool
     ensures { λ r. ⌜ ((t : Table) → wholeTable (now (s .entry)) ≡ some t → r ≡ namesGood t) ⌝ }
 {
     let Texts::At(id, description) = texts_at(s, 0, b'N', b'D') else {
@@ -455,7 +455,7 @@ pub fn names_good(s: &[u8]) -> bool
 }
 
 // Number 4: whether all datainfos keep their own rules.
-pub fn datainfos_good(s: &[u8]) -> bool
+fn datainfos_good(s: &[u8]) -> bool
     ensures { λ r. ⌜ ((t : Table) → wholeTable (now (s .entry)) ≡ some t → r ≡ datainfosGood t) ⌝ }
 {
     let Texts::At(_, description) = texts_at(s, 0, b'N', b'D') else {
@@ -466,7 +466,7 @@ pub fn datainfos_good(s: &[u8]) -> bool
 }
 
 // Number 5: whether all initial values are in stored form and fit.
-pub fn initials_good(s: &[u8]) -> bool
+fn initials_good(s: &[u8]) -> bool
     ensures { λ r. ⌜ ((t : Table) → wholeTable (now (s .entry)) ≡ some t → r ≡ initialsGood t) ⌝ }
 {
     let Texts::At(_, description) = texts_at(s, 0, b'N', b'D') else {

@@ -259,7 +259,7 @@ pub fn accessible_end(s: &[u8], at: usize) -> Next
 }
 
 // Past the accessibles that follow.
-pub fn accessibles_end(s: &[u8], at: usize) -> Next
+pub(crate) fn accessibles_end(s: &[u8], at: usize) -> Next
     requires { ⌜ at ≤ length (now s) ⌝ }
     ensures { λ r. ⌜ Ends (now (s .entry)) r (rest (accessiblesFrom (now (s .entry)) at)) ⌝ }
 {
@@ -340,7 +340,7 @@ pub fn module_end(s: &[u8], at: usize) -> Next
 }
 
 // Past the modules that follow.
-pub fn modules_end(s: &[u8], at: usize) -> Next
+fn modules_end(s: &[u8], at: usize) -> Next
     requires { ⌜ at ≤ length (now s) ⌝ }
     ensures { λ r. ⌜ Ends (now (s .entry)) r (rest (modulesFrom (now (s .entry)) at)) ⌝ }
 {

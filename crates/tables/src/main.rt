@@ -50,12 +50,18 @@ fn report_in(s: &[u8], out: &mut [u8]) -> usize
     put_report(out, 500, s)
 }
 
+fn write_length(s: &[u8])
+    requires { ⌜ tableNumber (now s) ≡ 0 ⌝ }
+{
+    searches::write_number(b" ", report_length(s));
+}
+
 fn write_report(s: &[u8], out: &mut [u8])
     requires { ⌜ (tableNumber (now s) ≡ 0) × (33000 ≤ length (now out)) ⌝ }
 {
     let from = 500;
     let to = report_in(s, out);
-    searches::write_number(b" ", report_length(s));
+    write_length(s);
     io::write_all(STDOUT_FILENO, b" ");
     io::write_all(STDOUT_FILENO, &out[from..to]);
     write_stray(out, from, to);

@@ -14,10 +14,12 @@ use search::find::module_count;
 use search::find::parameter_by_number;
 use table::layout::CommandAt;
 use table::layout::ParameterAt;
+use table::layout::is_readable;
+ghost use Rattle.table.specs.Layout.{Readable};
 ghost use Rattle.io.specs.Counts.{Counts};
 
 // What stands before a number, and the number.
-pub fn write_number(label: &[u8], n: usize) {
+pub(crate) fn write_number(label: &[u8], n: usize) {
     io::write_all(STDOUT_FILENO, label);
     io::print_decimal(STDOUT_FILENO, n as u64);
 }
@@ -74,7 +76,9 @@ fn name_in(space: &mut [u8]) -> usize
     n
 }
 
-fn find_module_in(s: &[u8]) {
+fn find_module_in(s: &[u8])
+    requires { ⌜ Readable (now s) ⌝ }
+{
     let mut name = io::buffer();
     let n = name_in(&mut name);
     match find_module(s, &name[..n]) {
@@ -87,7 +91,9 @@ fn find_module_in(s: &[u8]) {
     }
 }
 
-fn find_parameter_in(s: &[u8]) {
+fn find_parameter_in(s: &[u8])
+    requires { ⌜ Readable (now s) ⌝ }
+{
     let mut module = io::buffer();
     let mut name = io::buffer();
     let m = name_in(&mut module);
@@ -102,7 +108,9 @@ fn find_parameter_in(s: &[u8]) {
     }
 }
 
-fn find_command_in(s: &[u8]) {
+fn find_command_in(s: &[u8])
+    requires { ⌜ Readable (now s) ⌝ }
+{
     let mut module = io::buffer();
     let mut name = io::buffer();
     let m = name_in(&mut module);
@@ -118,7 +126,9 @@ fn find_command_in(s: &[u8]) {
 }
 
 // The parameter of a number, which is a byte.
-fn find_number_in(s: &[u8]) {
+fn find_number_in(s: &[u8])
+    requires { ⌜ Readable (now s) ⌝ }
+{
     let k = byte_in() as usize;
     match parameter_by_number(s, k) {
         NextParameter::At(q, e) => {
@@ -131,7 +141,9 @@ fn find_number_in(s: &[u8]) {
     }
 }
 
-fn count_modules(s: &[u8]) {
+fn count_modules(s: &[u8])
+    requires { ⌜ Readable (now s) ⌝ }
+{
     write_number(b"modules ", module_count(s));
     io::write_all(STDOUT_FILENO, b"\n");
 }
@@ -152,9 +164,11 @@ fn judge_again(s: &[u8]) {
     io::write_all(STDOUT_FILENO, b"\n");
 }
 
-// One search; whether there was one.
-fn write_found(s: &[u8]) -> bool {
-    match byte_in() {
+// One search of a kind in a table that can be read; whether there is such a kind.
+fn write_search(s: &[u8], kind: u8) -> bool
+    requires { ⌜ Readable (now s) ⌝ }
+{
+    match kind {
         b'm' => {
             find_module_in(s);
         }
@@ -170,9 +184,6 @@ fn write_found(s: &[u8]) -> bool {
         b'k' => {
             count_modules(s);
         }
-        b'j' => {
-            judge_again(s);
-        }
         _ => {
             return false;
         }
@@ -180,8 +191,21 @@ fn write_found(s: &[u8]) -> bool {
     true
 }
 
+// One search, or the table judged again; whether there was one. In a table that can't be read nothing is sought.
+fn write_found(s: &[u8]) -> bool {
+    let kind = byte_in();
+    if kind == b'j' {
+        judge_again(s);
+        return true;
+    }
+    if is_readable(s) {
+        return write_search(s, kind);
+    }
+    false
+}
+
 // Each search that follows a table; there are far fewer than a million.
-pub fn write_all_found(s: &[u8]) {
+pub(crate) fn write_all_found(s: &[u8]) {
     let mut turns: u32 = 1000000;
     while turns > 0 && write_found(s) {
         turns -= 1;

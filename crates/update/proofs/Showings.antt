@@ -1,5 +1,5 @@
 -- Laws of updates of parameters to one client: one parameter's update by its positions, and all of them in table order. Assumes nothing.
-use Prim.Native.Nat.{ℕ, suc, _+_, _*_, _-_, _≤_, _<_}
+use Prim.Native.Nat.{ℕ, suc, _+_, _-_, _≤_, _<_}
 use native.Mathlib.Nat.{zero-add}
 use native.Mathlib.Numerals.{add-one}
 use native.Mathlib.Omega.{arith}
@@ -8,7 +8,7 @@ use mathlib.Core.List.{List, [], _∷_, _++_}
 use mathlib.Core.Option.{some}
 use mathlib.Core.Path.{_≡_, refl, sym, ap, subst, _∙_}
 use lib.Dec.{eqb}
-use lib.ListN.{length, getD, take, drop, getElem?}
+use lib.ListN.{length, getD, drop, getElem?}
 use borrow.Author.Tests.{not-true, not-false}
 use Rattle.ascii.specs.Writer.{Puts}
 use Rattle.message.specs.Reply.{Report}
@@ -23,23 +23,23 @@ use Rattle.table.specs.declared.layout.ParameterAt.{ParameterAt}
 use Rattle.table.proofs.Places.{initial-lies}
 use Rattle.search.specs.declared.cursor.Cursor.{Cursor}
 use Rattle.search.specs.declared.cursor.NextParameter as P
-use Rattle.search.specs.Left.{placed, Fits, FirstCursor, NextParameterIs}
+use Rattle.search.specs.Left.{placed, OnWay, FirstCursor, NextParameterIs}
 use Rattle.search.specs.Found.{ParameterNumbered}
-use Rattle.search.proofs.Finds.{Counted, counted-parameters, number-is, number-on}
+use Rattle.search.proofs.Finds.{Counted, counted-parameters, number-end, number-is, number-on}
 use Rattle.report.specs.Judge.{tableNumber}
 use Rattle.plain.specs.Node as Node
 use Rattle.plain.specs.Node.{Value, updatesOf}
 use Rattle.sound.specs.Theorems.{Sound}
-use Rattle.sound.proofs.Accepted.{accepted, accepted-whole}
+use Rattle.sound.proofs.Accepted.{accepted}
 use Rattle.sound.proofs.Records.{Fine, name-short, written-of}
 use Rattle.sound.proofs.Steps.{fine}
 use Rattle.sound.proofs.Room.{encode-one, puts-none}
 use Rattle.state.specs.declared.Settings.{Settings}
 use Rattle.state.specs.declared.State.{State}
-use Rattle.state.specs.View.{placeOf, storedText, shown, valueAt}
+use Rattle.state.specs.View.{storedText, shown, shownBytes, valueAt}
 use Rattle.state.specs.Fit.{settingsUnfit, isUnfit}
 use Rattle.state.proofs.Flags.{neither}
-use Rattle.state.proofs.Settled.{shows-stored, each-fit, fit-parts}
+use Rattle.state.proofs.Settled.{each-fit, fit-parts}
 use Rattle.state.proofs.Stands.{was-read, value-held}
 use Rattle.fitness.proofs.Whole.{drop-there, past-64}
 use Rattle.outcome.specs.Ready.{Ready}
@@ -59,42 +59,18 @@ module _ (table : List ℕ) (s : Settings) (values out : List ℕ) (at c : ℕ) 
   pub unwanted : not b ≡ true → Puts out at (encodeAll (updateIf scope c e (shownReport table s values k q e))) out at
   unwanted z = rw (← h, not-true b z) (puts-none out)
 
-  -- what the code has for the names
-  module _ (z : not b ≡ false) (m a : List ℕ) (hm : m ≡ bytesOf table (e .name)) (ha : a ≡ bytesOf table (q .name)) where
-    -- and for the value
-    module _ (v : List ℕ) (hv : v ≡ cond (eqb (getD (s .length) k 0) 0) (bytesOf table (q .initial)) (take (getD (s .length) k 0) (drop (placeOf k) values))) where
-      same-report : shownReport table s values k q e ≡ reportOf m a v (getD (s .time) k 0)
-      unfolding shownReport storedText
-      same-report = rw (hm, ha, hv)
+  -- what the code has for the names and for the value
+  module _ (z : not b ≡ false) (m a v : List ℕ) (hm : m ≡ bytesOf table (e .name)) (ha : a ≡ bytesOf table (q .name)) (hv : v ≡ shownBytes table s values k (q .initial)) where
+    same-report : shownReport table s values k q e ≡ reportOf m a v (getD (s .time) k 0)
+    unfolding shownReport
+    same-report = rw (hm, ha, hv)
 
-      own-room : Shows table s values out at c scope k q e → RoomFor out at (update c (reportOf m a v (getD (s .time) k 0)))
-      own-room g = rw same-report at (g .room (sym h ∙ not-false b z))
+    pub shown-room : Shows table s values out at c scope k q e → RoomFor out at (update c (reportOf m a v (getD (s .time) k 0)))
+    shown-room g = rw same-report at (g .room (sym h ∙ not-false b z))
 
-      own-put : {f : List ℕ} {p : ℕ} → Puts out at (encode (update c (reportOf m a v (getD (s .time) k 0)))) f p
-          → Puts out at (encodeAll (updateIf scope c e (shownReport table s values k q e))) f p
-      own-put x = rw (← h, not-false b z, encode-one (update c (shownReport table s values k q e)), same-report) x
-
-    module _ (n : getD (s .length) k 0 ≡ 0) (v : List ℕ) (hv : v ≡ bytesOf table (q .initial)) where
-      is-initial : v ≡ cond (eqb (getD (s .length) k 0) 0) (bytesOf table (q .initial)) (take (getD (s .length) k 0) (drop (placeOf k) values))
-      is-initial = rw n hv
-
-      pub initial-room : Shows table s values out at c scope k q e → RoomFor out at (update c (reportOf m a v (getD (s .time) k 0)))
-      initial-room g = own-room v is-initial g
-
-      pub initial-put : {f : List ℕ} {p : ℕ} → Puts out at (encode (update c (reportOf m a v (getD (s .time) k 0)))) f p
-          → Puts out at (encodeAll (updateIf scope c e (shownReport table s values k q e))) f p
-      initial-put x = own-put v is-initial x
-
-    module _ (n : getD (s .length) k 0 ≡ 0 → ⊥) where
-      abbrev stored : List ℕ
-      stored = take ((256 * k + getD (s .length) k 0) - 256 * k) (drop (256 * k) values)
-
-      pub stored-room : Shows table s values out at c scope k q e → RoomFor out at (update c (reportOf m a stored (getD (s .time) k 0)))
-      stored-room g = own-room stored (shows-stored table values (getD (s .length) k 0) (q .initial) k n) g
-
-      pub stored-put : {f : List ℕ} {p : ℕ} → Puts out at (encode (update c (reportOf m a stored (getD (s .time) k 0)))) f p
-          → Puts out at (encodeAll (updateIf scope c e (shownReport table s values k q e))) f p
-      stored-put x = own-put stored (shows-stored table values (getD (s .length) k 0) (q .initial) k n) x
+    pub shown-put : {f : List ℕ} {p : ℕ} → Puts out at (encode (update c (reportOf m a v (getD (s .time) k 0)))) f p
+        → Puts out at (encodeAll (updateIf scope c e (shownReport table s values k q e))) f p
+    shown-put x = rw (← h, not-false b z, encode-one (update c (shownReport table s values k q e)), same-report) x
 
 -- room for the update of a fine report
 fine-room : (d : List ℕ) (at c : ℕ) (r : Report) → Fine r → at + length (encodeAll (update c r ∷ [])) ≤ length d → RoomFor d at (update c r)
@@ -128,8 +104,8 @@ module _ (table : List ℕ) (s : Settings) (values : List ℕ) (c : ℕ) (scope 
   sent-start d i f = record { counted = counted-parameters table i f; going = going-start d 0 every }
 
   module _ (d : List ℕ) (k : ℕ) (i : Cursor) (e : List ℕ) (p : ℕ) (h : Sent d k i e p) where
-    pub sent-fits : Fits table i
-    sent-fits = h .counted .fits
+    pub sent-way : OnWay table i
+    sent-way = h .counted .way
 
     pub sent-length : length e ≡ length d
     sent-length = going-length (h .going)
@@ -142,8 +118,8 @@ module _ (table : List ℕ) (s : Settings) (values : List ℕ) (c : ℕ) (scope 
     sent-all a l = none-left (past-64 table a k l)
 
     module _ (r : P.NextParameter) (hr : NextParameterIs table i r) where
-      pub sent-end : tableNumber table ≡ 0 → r ≡ P.the-variants.End → Puts d 0 (encodeAll every) e p
-      sent-end a z = none-left ((rw z at hr) _ (h .counted .left (tableOf table) (accepted-whole table a)))
+      pub sent-end : r ≡ P.the-variants.End → Puts d 0 (encodeAll every) e p
+      sent-end z = none-left (number-end table k k i (h .counted) r hr z)
 
       module _ (q : ParameterAt) (n : Cursor) (z : r ≡ P.the-variants.At q n) (a : tableNumber table ≡ 0) where
         number : ParameterNumbered table k q n
@@ -153,7 +129,7 @@ module _ (table : List ℕ) (s : Settings) (values : List ℕ) (c : ℕ) (scope 
         it = placed table n (parameterOf table q (number .held .datainfo))
 
         there : getElem? (parameters (tableOf table)) k ≡ some it
-        there = number .is (tableOf table) (accepted-whole table a)
+        there = number .is
 
         value-is : shownAt k ≡ record { text = cond (eqb (getD (s .length) k 0) 0) (it .it .initial) (storedText s values k); time = getD (s .time) k 0 }
         unfolding valueAt shown
@@ -166,7 +142,7 @@ module _ (table : List ℕ) (s : Settings) (values : List ℕ) (c : ℕ) (scope 
         own = shownReport table s values k q n
 
         report-is : Node.reportOf it (shownAt k) ≡ own
-        unfolding shownReport parameterOf
+        unfolding shownReport shownBytes parameterOf
         report-is = ap (λ (v : Value). Node.reportOf it v) value-is
 
         step : left k ≡ updateIf scope c n own ++ left (k + 1)

@@ -1,9 +1,8 @@
 -- The update of one parameter as the code writes it, from positions in the table and the parameter's setting. Assumes nothing.
 use Prim.Native.Nat.{ℕ, _-_, _≤_, _<_}
-use mathlib.Core.Bool.{true, cond}
+use mathlib.Core.Bool.{true}
 use mathlib.Core.List.{List}
 use mathlib.Core.Path.{_≡_}
-use lib.Dec.{eqb}
 use lib.ListN.{length, getD}
 use Rattle.message.specs.Reply.{Report}
 use Rattle.outbox.specs.Outbox.{update}
@@ -13,7 +12,7 @@ use Rattle.table.specs.At.{bytesOf}
 use Rattle.search.specs.declared.cursor.Cursor.{Cursor}
 use Rattle.search.specs.Left.{Fits, ParameterIn}
 use Rattle.state.specs.declared.Settings.{Settings}
-use Rattle.state.specs.View.{storedText}
+use Rattle.state.specs.View.{shownBytes}
 use Rattle.update.specs.declared.Scope.{Scope}
 use Rattle.update.specs.Scope.{wanted}
 
@@ -23,7 +22,7 @@ shownReport table s values k q e =
     record {
       moduleName = bytesOf table (e .name);
       accessible = bytesOf table (q .name);
-      value = cond (eqb (getD (s .length) k 0) 0) (bytesOf table (q .initial)) (storedText s values k);
+      value = shownBytes table s values k (q .initial);
       time = getD (s .time) k 0;
     }
 

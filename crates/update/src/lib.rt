@@ -25,6 +25,7 @@ use state::Clients;
 use state::Settings;
 use state::State;
 use state::client::is_active;
+use state::setting::shown;
 use table::layout::ParameterAt;
 use table::layout::Part;
 
@@ -55,7 +56,7 @@ fn put_update_to(
     at
 }
 
-// "an update to each open client with M active, lowest client number first": of a parameter of the module of number `home`
+// "an update to each open client with M active ..": of a parameter of the module of number `home`
 pub fn put_updates_to(
     out: &mut [u8],
     at: usize,
@@ -87,11 +88,10 @@ fn wants(scope: Scope, i: usize) -> bool
     }
 }
 
-// The update of one parameter to a client, with the value shown, if the scope has its module. If its stored length is 0, the value shown is "the
-// part of the table that holds its initial value, otherwise the part of the values area that holds the stored one, no copy".
-fn put_shown(
-    table: &[u8],
-    values: &[u8],
+// The update of one parameter to a client, with the value shown, if the scope has its module.
+fn put_shown<'a>(
+    table: &'a [u8],
+    values: &'a [u8],
     out: &mut [u8],
     at: usize,
     settings: Settings,
@@ -108,26 +108,19 @@ fn put_shown(
     if !wants(scope, home) {
         return at;
     }
-    let size = settings.length[k] as usize;
-    let time = settings.time[k];
     let home_name = next.name;
     let module = bytes_of(table, home_name);
     let own_name = p.name;
     let name = bytes_of(table, own_name);
-    if size == 0 {
-        let initial = p.initial;
-        let value = bytes_of(table, initial);
-        return put_update(out, at, client, module, name, value, time);
-    }
-    let first = 256 * k;
-    let last = first + size;
-    put_update(out, at, client, module, name, &values[first..last], time)
+    let initial = p.initial;
+    let value = shown(table, values, settings, k, initial);
+    put_update(out, at, client, module, name, value, settings.time[k])
 }
 
 // "an update for each parameter of those modules, table order", to one client, from the front of the outbox on
-pub fn put_updates_of(
-    table: &[u8],
-    values: &[u8],
+pub fn put_updates_of<'a>(
+    table: &'a [u8],
+    values: &'a [u8],
     out: &mut [u8],
     state: State,
     client: u8,

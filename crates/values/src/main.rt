@@ -1,21 +1,31 @@
 // Reads cases from standard input, each a datainfo and a text, and writes what the text comes to, one to a line: `fits` and its stored
-// form, or the error class. A case is two bytes with the datainfo's length, two with the text's, and the bytes of both.
+// form, or the error class; `no datainfo` where there is none. A case is two bytes with the datainfo's length, two with the text's, and the
+// bytes of both.
+use ascii::Next;
 use fit::Verdict;
 use libc::STDIN_FILENO;
 use libc::STDOUT_FILENO;
+ghost use Rattle.datainfo.specs.Layout.{ReadableAt};
 
 fn number(high: u8, low: u8) -> usize {
     high as usize * 256 + low as usize
 }
 
+// A text that fits is JSON and has a short stored form, so both tests pass.
 fn write_fit(text: &[u8], stored: &mut [u8]) {
-    let n = json::compact::put_compact(stored, 0, text);
-    io::write_all(STDOUT_FILENO, b"fits ");
-    io::write_all(STDOUT_FILENO, &stored[..n]);
-    io::write_all(STDOUT_FILENO, b"\n");
+    if json::read::is_text(text) {
+        if json::compact::compact_length(text) <= stored.len() {
+            let n = json::compact::put_compact(stored, 0, text);
+            io::write_all(STDOUT_FILENO, b"fits ");
+            io::write_all(STDOUT_FILENO, &stored[..n]);
+            io::write_all(STDOUT_FILENO, b"\n");
+        }
+    }
 }
 
-fn write_verdict(info: &[u8], text: &[u8], stored: &mut [u8]) {
+fn write_verdict(info: &[u8], text: &[u8], stored: &mut [u8])
+    requires { ⌜ ReadableAt (now info) 0 4 ⌝ }
+{
     match fit::fit::verdict(info, 0, text) {
         Verdict::Fits => {
             write_fit(text, stored);
@@ -32,11 +42,22 @@ fn write_verdict(info: &[u8], text: &[u8], stored: &mut [u8]) {
     }
 }
 
+fn judge_case(info: &[u8], text: &[u8], stored: &mut [u8]) {
+    match datainfo::layout::datainfo_end(info, 0, 4) {
+        Next::At(_) => {
+            write_verdict(info, text, stored);
+        }
+        Next::Bad => {
+            io::write_all(STDOUT_FILENO, b"no datainfo\n");
+        }
+    }
+}
+
 // The bytes of a case whose lengths were read.
 fn read_case(info: &mut [u8], text: &mut [u8], stored: &mut [u8]) {
     io::read_full(STDIN_FILENO, info);
     io::read_full(STDIN_FILENO, text);
-    write_verdict(info, text, stored);
+    judge_case(info, text, stored);
 }
 
 // A case, read into lent buffers; whether there was one.

@@ -1,6 +1,7 @@
 -- `access::change` meets its contract. Assumes nothing.
 use Rattle.access.proofs.Changed.{change-no-module, change-no-parameter, change-readonly, change-refused, change-settable, change-set}
-use Rattle.access.proofs.Finding.{no-module, has-module, no-parameter, parameter-known}
+use Rattle.report.proofs.Faults.{accepted-readable}
+use Rattle.access.proofs.Finding.{no-module, has-module, no-parameter, info-known, parameter-known}
 use Rattle.message.specs.declared.say.Class.the-variants as K
 use Rattle.plain.specs.Answer.{letIn}
 use mathlib.Core.Path.{refl}
@@ -9,7 +10,7 @@ use Rattle.access.proofs.change.Statement.{statement}
 use Rattle.access.proofs.change.Tie as tie
 
 find-module-requires : tie.Need-find-module-requires
-find-module-requires c κs = search needs
+find-module-requires c κs = search accepted-readable
 
 enum-told : tie.Need-enum-told
 enum-told c = search needs
@@ -21,7 +22,7 @@ returns : tie.Need-returns
 returns c = change-no-module _ _ _ _ _ _ _ _ _ (search no-module)
 
 find-parameter-requires : tie.Need-find-parameter-requires
-find-parameter-requires c κs = search needs
+find-parameter-requires c κs = search accepted-readable
 
 enum-known-k : tie.Need-enum-known-k
 enum-known-k c = search needs
@@ -41,8 +42,8 @@ returns-3 c =
 
 verdict-requires : tie.Need-verdict-requires
 verdict-requires c κs =
-    parameter-known _ (c .before .before .before .before .before .before .before .before .before .before .before .before .before .before .before .pre .0 .lent .accepted) _ _ _
-    (c .before .before .before .before .before .find-parameter .ensures) _ _ _ (c .before .before .before .k .given .1) .within
+    info-known (parameter-known _ (c .before .before .before .before .before .before .before .before .before .before .before .before .before .before .before .pre .0 .lent .accepted) _ _ _
+    (c .before .before .before .before .before .find-parameter .ensures) _ _ _ (c .before .before .before .k .given .1))
 
 enum-told-4 : tie.Need-enum-told-4
 enum-told-4 c = search needs

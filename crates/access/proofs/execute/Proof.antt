@@ -3,13 +3,14 @@ use Rattle.message.specs.declared.say.Class.the-variants as K
 use Rattle.plain.specs.Answer.{letIn}
 use mathlib.Core.Path.{refl}
 use borrow.Author.Needs.{needs}
-use Rattle.access.proofs.Finding.{no-module, has-module, no-command, command-known}
+use Rattle.report.proofs.Faults.{accepted-readable}
+use Rattle.access.proofs.Finding.{no-module, has-module, no-command, argument-known, command-known}
 use Rattle.access.proofs.Executed.{execute-no-module, execute-no-command, execute-refused, execute-ordered, execute-sent}
 use Rattle.access.proofs.execute.Statement.{statement}
 use Rattle.access.proofs.execute.Tie as tie
 
 find-module-requires : tie.Need-find-module-requires
-find-module-requires c κs = search needs
+find-module-requires c κs = search accepted-readable
 
 enum-told : tie.Need-enum-told
 enum-told c = search needs
@@ -21,7 +22,7 @@ returns : tie.Need-returns
 returns c = execute-no-module _ _ _ _ _ _ _ (search no-module)
 
 find-command-requires : tie.Need-find-command-requires
-find-command-requires c κs = search needs
+find-command-requires c κs = search accepted-readable
 
 enum-known-k : tie.Need-enum-known-k
 enum-known-k c = search needs
@@ -34,8 +35,8 @@ returns-2 c = execute-no-command _ _ _ _ _ _ _ (search has-module) (search no-co
 
 argument-verdict-requires : tie.Need-argument-verdict-requires
 argument-verdict-requires c κs =
-    command-known _ (c .before .before .before .before .before .before .before .before .before .before .before .before .pre .0 .accepted) _ _ _
-    (c .before .before .before .find-command .ensures) _ _ _ (c .before .k .given .1) .within
+    argument-known (command-known _ (c .before .before .before .before .before .before .before .before .before .before .before .before .pre .0 .accepted) _ _ _
+    (c .before .before .before .find-command .ensures) _ _ _ (c .before .k .given .1))
 
 enum-told-4 : tie.Need-enum-told-4
 enum-told-4 c = search needs

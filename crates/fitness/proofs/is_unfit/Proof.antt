@@ -1,5 +1,6 @@
 -- `fitness::is_unfit` meets its contract. Assumes nothing.
 use borrow.Author.Needs.{needs}
+use Rattle.report.proofs.Faults.{accepted-readable}
 use Rattle.fitness.proofs.Unfits.{settings-make, clients-make, few-counted}
 use Rattle.fitness.proofs.is_unfit.Statement.{statement}
 use Rattle.fitness.proofs.is_unfit.Tie as tie
@@ -11,7 +12,7 @@ returns : tie.Need-returns
 returns c = search settings-make
 
 module-count-requires : tie.Need-module-count-requires
-module-count-requires c κs = search needs
+module-count-requires c κs = search accepted-readable
 
 clients-unfit-requires : tie.Need-clients-unfit-requires
 clients-unfit-requires c κs = search few-counted

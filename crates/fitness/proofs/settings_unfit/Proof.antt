@@ -2,7 +2,8 @@
 use borrow.Author.Needs.{needs}
 use native.Mathlib.Omega.{arith}
 use Prim.Native.Nat.{_-_, _≤_}
-use Rattle.fitness.proofs.Unfits.{Passed, passed-start, passed-fits, passed-all, passed-end, info-within, one-unfit, passed-on}
+use Rattle.report.proofs.Faults.{accepted-readable}
+use Rattle.fitness.proofs.Unfits.{Passed, passed-start, passed-way, passed-all, passed-end, info-readable, one-unfit, passed-on}
 use Rattle.fitness.proofs.settings_unfit.Statement.{statement}
 use Rattle.fitness.proofs.settings_unfit.Tie as tie
 
@@ -13,13 +14,13 @@ abbrev μ-loop : tie.MeasureT-loop
 μ-loop table values settings k₀ cursor₀ k cursor = 64 - k
 
 first-cursor-requires : tie.Need-first-cursor-requires Inv-loop μ-loop
-first-cursor-requires c κs = search needs
+first-cursor-requires c κs = search accepted-readable
 
 loop-holds : tie.Need-loop-holds Inv-loop μ-loop
 loop-holds c = (omega arith, search passed-start)
 
 next-parameter-requires : tie.Need-next-parameter-requires Inv-loop μ-loop
-next-parameter-requires c κs = search passed-fits
+next-parameter-requires c κs = search passed-way
 
 enum-known-p : tie.Need-enum-known-p Inv-loop μ-loop
 enum-known-p c = search needs
@@ -31,7 +32,7 @@ returns : tie.Need-returns Inv-loop μ-loop
 returns c = search passed-end
 
 setting-unfit-requires : tie.Need-setting-unfit-requires Inv-loop μ-loop
-setting-unfit-requires c κs = search (info-within, needs)
+setting-unfit-requires c κs = search (info-readable, needs)
 
 returns-2 : tie.Need-returns-2 Inv-loop μ-loop
 returns-2 c = search one-unfit

@@ -1,5 +1,4 @@
 -- `line::answer_line` meets its contract. Assumes nothing.
-use Prim.Native.Nat.{ℕ}
 use native.Mathlib.Omega.{arith}
 use mathlib.Core.Path.{refl, subst}
 use mathlib.Core.List.{[]}
@@ -7,10 +6,11 @@ use Rattle.message.specs.Parsed.{Parses}
 use Rattle.table.specs.Layout.{tableOf}
 use Rattle.plain.specs.Answer.{outcome}
 use Rattle.state.specs.View.{view}
-use Rattle.state.proofs.Settled.{Sized}
+use Rattle.state.proofs.Becomes.{clients-sized}
+use Rattle.state.proofs.Settled.{settings-sized}
 use Rattle.line.proofs.Carried.{error-room}
 use Rattle.line.proofs.Answers.{bad-answered, concludable, line-answered}
-use borrow.Author.Needs.{needs, length-unmapped}
+use borrow.Author.Needs.{needs}
 use Rattle.line.proofs.answer_line.Statement.{statement}
 use Rattle.line.proofs.answer_line.Tie as tie
 
@@ -82,9 +82,9 @@ returns-2 : tie.Need-returns-2
 returns-2 c =
     let at = c .before .before .before .before .before .before .before .before .before .before .before .before .before .before .before .before .before .before .before .before .before .before in
     let h = subst (Parses (at .args .line .now)) (c .before .before .before .before .before .before .before .before .before .before .before .before .before .before .before .action .given .1) (c .before .before .before .before .before .before .before .before .before .before .before .before .before .before .before .before .before .part-line .ensures) in
-    let fs = at .good .1 .1 .1 .0 .1 .1 .1 .0 .1 .1 in
-    let z : Sized (at .args .state .settings) = record { size = length-unmapped ℕ (at .args .state .settings .length) 64 (fs .0 .1 .0 .1); time = length-unmapped ℕ (at .args .state .settings .time) 64 (fs .1 .0 .1 .0 .1) } in
-    line-answered (at .args .table .now) (at .args .state) (at .args .values .now) (at .args .out .now) (at .args .client) (at .args .time) (at .pre .0) (at .args .line .now) (at .pre .1 .1) _ _ _ h _ (c .before .before .before .before .before .before .before .before .before .before .before .before .before .request-of .ensures) z (at .pre .1 .0) (c .before .before .before .before .before .before .before .before .before .before .outcome .last .1 .1 .0) _ _ (c .before .before .before .before .before .before .before .before .before .before .outcome .result) _ (c .before .before .before .before .before .before .before .before .before .before .outcome .ensures)
+    let y = clients-sized (at .args .state .clients) (at .good .1 .1 .1 .0 .1 .1 .0) in
+    let z = settings-sized (at .args .state .settings) (at .good .1 .1 .1 .0 .1 .1 .1 .0) in
+    line-answered (at .args .table .now) (at .args .state) (at .args .values .now) (at .args .out .now) (at .args .client) (at .args .time) (at .pre .0) (at .args .line .now) (at .pre .1 .1) _ _ _ h _ (c .before .before .before .before .before .before .before .before .before .before .before .before .before .request-of .ensures) y z (at .pre .1 .0) (c .before .before .before .before .before .before .before .before .before .before .outcome .last .1 .1 .0) _ _ (c .before .before .before .before .before .before .before .before .before .before .outcome .result) _ (c .before .before .before .before .before .before .before .before .before .before .outcome .ensures)
     (rw (c .before .before .before .before .bytes-of .ensures, c .before .before .before .bytes-of2 .ensures) at (c .before .before .conclude .ensures))
 
 pub answer-line-spec : {M : Type 1} → statement M

@@ -3,12 +3,14 @@ use denote.Ref.{now}
 use lib.Dec.{eqb}
 use mathlib.Core.Option.{some}
 use borrow.Author.Needs.{needs}
-use Rattle.switch.proofs.Switches.{clients-sized, found-none, found-at, none-active, active-room, activated-one}
+use Rattle.report.proofs.Faults.{accepted-readable}
+use Rattle.state.proofs.Becomes.{clients-sized}
+use Rattle.switch.proofs.Switches.{found-none, found-at, none-active, active-room, activated-one}
 use Rattle.switch.proofs.activate.Statement.{statement}
 use Rattle.switch.proofs.activate.Tie as tie
 
 find-module-requires : tie.Need-find-module-requires
-find-module-requires c κs = search needs
+find-module-requires c κs = search accepted-readable
 
 enum-known-i : tie.Need-enum-known-i
 enum-known-i c = search needs
@@ -44,8 +46,7 @@ put-updates-of-requires c κs = c .before .before .before .before .before .befor
 put-final-switched-name-requires : tie.Need-put-final-switched-name-requires
 put-final-switched-name-requires c κs =
     let start = c .before .before .before .before .before .before .before .before .before .before .before .before .before .before .before .before in
-    let fs = start .good .1 .1 .1 .0 .1 .1 .0 .1 .1 in
-    let z = clients-sized (start .args .state .clients) (fs .0 .1 .0 .1) (fs .1 .0 .1 .0 .1) (fs .1 .1 .0 .1 .0 .1) (fs .1 .1 .1 .0 .1 .0 .1) (fs .1 .1 .1 .1 .0 .1 .0 .1) in
+    let z = clients-sized (start .args .state .clients) (start .good .1 .1 .1 .0 .1 .1 .0) in
     let f =
     found-at (now (start .args .table)) (now (start .args .«module»)) (start .pre .lent .accepted) _ (c .before .before .before .before .before .before .before .before .before .before .before .find-module .ensures) _ _
     (c .before .before .before .before .before .before .before .before .before .i .given .1) in
@@ -57,8 +58,7 @@ same-length c = search needs
 returns-2 : tie.Need-returns-2
 returns-2 c =
     let start = c .before .before .before .before .before .before .before .before .before .before .before .before .before .before .before .before .before .before .before in
-    let fs = start .good .1 .1 .1 .0 .1 .1 .0 .1 .1 in
-    let z = clients-sized (start .args .state .clients) (fs .0 .1 .0 .1) (fs .1 .0 .1 .0 .1) (fs .1 .1 .0 .1 .0 .1) (fs .1 .1 .1 .0 .1 .0 .1) (fs .1 .1 .1 .1 .0 .1 .0 .1) in
+    let z = clients-sized (start .args .state .clients) (start .good .1 .1 .1 .0 .1 .1 .0) in
     let f =
     found-at (now (start .args .table)) (now (start .args .«module»)) (start .pre .lent .accepted) _ (c .before .before .before .before .before .before .before .before .before .before .before .before .before .before .find-module .ensures) _ _
     (c .before .before .before .before .before .before .before .before .before .before .before .before .i .given .1) in

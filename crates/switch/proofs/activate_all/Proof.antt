@@ -4,7 +4,9 @@ use mathlib.Core.Bool.{true}
 use mathlib.Core.Option.{none}
 use borrow.Author.Needs.{needs}
 use Rattle.fitness.proofs.Unfits.{few-counted}
-use Rattle.switch.proofs.Switches.{clients-sized, active-room, activated-all}
+use Rattle.report.proofs.Faults.{accepted-readable}
+use Rattle.state.proofs.Becomes.{clients-sized}
+use Rattle.switch.proofs.Switches.{active-room, activated-all}
 use Rattle.switch.proofs.activate_all.Statement.{statement}
 use Rattle.switch.proofs.activate_all.Tie as tie
 
@@ -15,7 +17,7 @@ element-copy-out-mask : tie.Need-element-copy-out-mask
 element-copy-out-mask c = search needs
 
 module-count-requires : tie.Need-module-count-requires
-module-count-requires c κs = search needs
+module-count-requires c κs = search accepted-readable
 
 with-bits-requires : tie.Need-with-bits-requires
 with-bits-requires c κs = few-counted (now (c .before .before .before .before .before .before .args .table)) (c .before .before .before .before .before .before .pre .lent .accepted) _ (c .module-count .ensures)
@@ -26,8 +28,7 @@ put-updates-of-requires c κs = c .before .before .before .before .before .befor
 put-final-switched-requires : tie.Need-put-final-switched-requires
 put-final-switched-requires c κs =
     let start = c .before .before .before .before .before .before .before .before .before .before .before .before in
-    let fs = start .good .1 .1 .1 .0 .1 .1 .0 .1 .1 in
-    let z = clients-sized (start .args .state .clients) (fs .0 .1 .0 .1) (fs .1 .0 .1 .0 .1) (fs .1 .1 .0 .1 .0 .1) (fs .1 .1 .1 .0 .1 .0 .1) (fs .1 .1 .1 .1 .0 .1 .0 .1) in
+    let z = clients-sized (start .args .state .clients) (start .good .1 .1 .1 .0 .1 .1 .0) in
     active-room _ (start .args .state) z _ _ _ (start .pre) (λ i. true) none tt _ _ (c .before .before .before .put-updates-of .ensures)
 
 same-length : tie.Need-same-length
@@ -36,8 +37,7 @@ same-length c = search needs
 returns : tie.Need-returns
 returns c =
     let start = c .before .before .before .before .before .before .before .before .before .before .before .before .before .before .before in
-    let fs = start .good .1 .1 .1 .0 .1 .1 .0 .1 .1 in
-    let z = clients-sized (start .args .state .clients) (fs .0 .1 .0 .1) (fs .1 .0 .1 .0 .1) (fs .1 .1 .0 .1 .0 .1) (fs .1 .1 .1 .0 .1 .0 .1) (fs .1 .1 .1 .1 .0 .1 .0 .1) in
+    let z = clients-sized (start .args .state .clients) (start .good .1 .1 .1 .0 .1 .1 .0) in
     λ t.
     activated-all _ (start .args .state) z _ _ _ (start .pre) t _ _ _ _ _ _ (c .before .before .before .before .before .before .before .before .before .module-count .ensures)
     (c .before .before .before .before .before .before .before .before .with-bits .ensures) (c .before .before .before .before .before .before .put-updates-of .ensures) (c .before .before .put-final-switched .ensures)

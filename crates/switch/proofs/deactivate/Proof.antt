@@ -4,10 +4,11 @@ use mathlib.Core.Option.{some}
 use borrow.Author.Needs.{needs}
 use Rattle.switch.proofs.deactivate.Statement.{statement}
 use Rattle.switch.proofs.deactivate.Tie as tie
+use Rattle.report.proofs.Faults.{accepted-readable}
 use Rattle.switch.proofs.Switches.{found-none, found-at, inactive-room, none-inactive, one-inactive}
 
 find-module-requires : tie.Need-find-module-requires
-find-module-requires c κs = search needs
+find-module-requires c κs = search accepted-readable
 
 enum-known-i : tie.Need-enum-known-i
 enum-known-i c = search needs

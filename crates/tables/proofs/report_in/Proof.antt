@@ -11,7 +11,7 @@ same-length : tie.Need-same-length
 same-length c = search needs
 
 returns : tie.Need-returns
-returns c = let p = c .before .before .put-report .ensures in (report-begins _ _ _ _ p (search needs), report-ends _ _ _ _ p (search needs) (search needs))
+returns c = (search report-begins, search report-ends)
 
 pub report-in-spec : {M : Type 1} → statement M
 report-in-spec = tie.close (tie.spec put-report-requires same-length returns)

@@ -2,8 +2,9 @@
 use borrow.Author.Needs.{needs}
 use native.Mathlib.Omega.{arith}
 use Prim.Native.Nat.{_-_, _≤_}
+use Rattle.report.proofs.Faults.{accepted-readable}
 use Rattle.state.specs.View.{view}
-use Rattle.update.proofs.Showings.{Sent, sent-start, sent-fits, sent-length, sent-all, sent-end, sent-on, next-shows}
+use Rattle.update.proofs.Showings.{Sent, sent-start, sent-way, sent-length, sent-all, sent-end, sent-on, next-shows}
 use Rattle.update.proofs.put_updates_of.Statement.{statement}
 use Rattle.update.proofs.put_updates_of.Tie as tie
 
@@ -15,13 +16,13 @@ abbrev μ-loop : tie.MeasureT-loop
 μ-loop table values out₀ client scope settings end₀ k₀ cursor₀ out end k cursor = 64 - k
 
 first-cursor-requires : tie.Need-first-cursor-requires Inv-loop μ-loop
-first-cursor-requires c κs = search needs
+first-cursor-requires c κs = search accepted-readable
 
 loop-holds : tie.Need-loop-holds Inv-loop μ-loop
 loop-holds c = (omega arith, search sent-start)
 
 next-parameter-requires : tie.Need-next-parameter-requires Inv-loop μ-loop
-next-parameter-requires c κs = search sent-fits
+next-parameter-requires c κs = search sent-way
 
 enum-known-p : tie.Need-enum-known-p Inv-loop μ-loop
 enum-known-p c = search needs
@@ -38,7 +39,7 @@ returns c =
     let start = c .before .before .before .before .before .before .before .before .before .before in
     let at = c .before .before .before .before .loop in
     sent-end (start .args .table .now) (start .args .state .settings) (start .args .values .now) (start .args .client) (start .args .scope) (start .args .out .now) (at .k) (at .cursor) (at .out) (at .end) (at .inv .1)
-    (c .before .before .next-parameter .result) (c .before .before .next-parameter .ensures) (start .pre .lent .accepted) (search needs)
+    (c .before .before .next-parameter .result) (c .before .before .next-parameter .ensures) (search needs)
 
 put-shown-requires : tie.Need-put-shown-requires Inv-loop μ-loop
 put-shown-requires c κs =

@@ -1,12 +1,18 @@
--- `values::write_fit` is safe: the length of a part is its count. Assumes nothing.
-use native.Mathlib.Omega.{arith}
-use lib.ListN.{length-take}
+-- `values::write_fit` is safe: the stored form was written where it has room. Assumes nothing.
 use borrow.Author.Needs.{needs}
+use Rattle.fit.proofs.Stored.{told-text}
+use Rattle.values.proofs.Cases.{form-within, form-length}
 use Rattle.values.proofs.write_fit.Statement.{statement}
 use Rattle.values.proofs.write_fit.Tie as tie
 
+is-text-requires : tie.Need-is-text-requires
+is-text-requires c κs = search needs
+
+compact-length-requires : tie.Need-compact-length-requires
+compact-length-requires c κs = search told-text
+
 put-compact-requires : tie.Need-put-compact-requires
-put-compact-requires c κs = search needs
+put-compact-requires c κs = (search told-text, search needs)
 
 slice-aggregate-write-all : tie.Need-slice-aggregate-write-all
 slice-aggregate-write-all c = search needs
@@ -15,10 +21,10 @@ write-all-requires : tie.Need-write-all-requires
 write-all-requires c κs = search needs
 
 slice-reshare-prefix-write-all : tie.Need-slice-reshare-prefix-write-all
-slice-reshare-prefix-write-all c = search needs
+slice-reshare-prefix-write-all c = search form-within
 
 slice-aggregate-write-all-2 : tie.Need-slice-aggregate-write-all-2
-slice-aggregate-write-all-2 c = simp length-take (omega arith)
+slice-aggregate-write-all-2 c = search form-length
 
 write-all-requires-2 : tie.Need-write-all-requires-2
 write-all-requires-2 c κs = search needs
@@ -35,10 +41,18 @@ same-length c = search needs
 returns : tie.Need-returns
 returns c = search needs
 
+returns-2 : tie.Need-returns-2
+returns-2 c = search needs
+
+returns-3 : tie.Need-returns-3
+returns-3 c = search needs
+
 pub write-fit-spec : {M : Type 1} → statement M
 write-fit-spec =
     tie.close
     (tie.spec
+    is-text-requires
+    compact-length-requires
     put-compact-requires
     slice-aggregate-write-all
     write-all-requires
@@ -48,4 +62,6 @@ write-fit-spec =
     slice-aggregate-write-all-3
     write-all-requires-3
     same-length
-    returns)
+    returns
+    returns-2
+    returns-3)

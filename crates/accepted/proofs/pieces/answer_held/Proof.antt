@@ -2,7 +2,8 @@
 use borrow.Author.Needs.{needs}
 use native.Mathlib.Omega.{arith}
 use Rattle.promise.proofs.Held.{line-short, emptied-ready}
-use Rattle.switch.proofs.Switches.{clients-sized}
+use Rattle.state.proofs.Becomes.{clients-sized}
+use Rattle.state.proofs.Cells.{ended-becomes}
 use Rattle.accepted.proofs.Joins.{held-short, held-answered}
 use Rattle.accepted.proofs.pieces.answer_held.Statement.{statement}
 use Rattle.accepted.proofs.pieces.answer_held.Tie as tie
@@ -34,14 +35,14 @@ part-answer-line-start c = search needs
 part-answer-line-end : tie.Need-part-answer-line-end
 part-answer-line-end c =
     let start = c .before .before .before .before .before .before .before .before .before .before .before in
-    let fs = start .good .1 .1 .1 .0 .1 .1 .0 .1 .1 in
-    let z = clients-sized (start .args .state .clients) (fs .0 .1 .0 .1) (fs .1 .0 .1 .0 .1) (fs .1 .1 .0 .1 .0 .1) (fs .1 .1 .1 .0 .1 .0 .1) (fs .1 .1 .1 .1 .0 .1 .0 .1) in
+    let z = clients-sized (start .args .state .clients) (start .good .1 .1 .1 .0 .1 .1 .0) in
     omega (arith, z .room, line-short _ _ _ _ _ (start .pre .0), start .pre .0 .lent .low)
 
 answer-line-requires : tie.Need-answer-line-requires
 answer-line-requires c κs =
-    let start = c .before .before .before .before .before .before .before .before .before .before .before .before in (
-      emptied-ready _ (start .args .state) _ _ _ (start .pre .0) _ (c .before .before .before .before .ended .ensures),
+    let start = c .before .before .before .before .before .before .before .before .before .before .before .before in
+    let z = clients-sized (start .args .state .clients) (start .good .1 .1 .1 .0 .1 .1 .0) in (
+      emptied-ready _ (start .args .state) _ _ _ (start .pre .0) _ (ended-becomes _ z _ (start .pre .0 .lent .low) (c .before .before .before .before .ended .ensures)),
       (start .pre .1, held-short _ (start .args .state) _ _ _ (start .args .time) (start .pre .0)),
     )
 
@@ -54,7 +55,8 @@ same-length-2 c = search needs
 returns : tie.Need-returns
 returns c =
     let start = c .before .before .before .before .before .before .before .before .before .before .before .before .before .before .before .before .before in
-    held-answered _ (start .args .state) _ _ _ (start .args .time) (start .pre .0) _ (c .before .before .before .before .before .before .before .before .before .ended .ensures) (c .before .before .before .before .answer-line .ensures)
+    let z = clients-sized (start .args .state .clients) (start .good .1 .1 .1 .0 .1 .1 .0) in
+    held-answered _ (start .args .state) _ _ _ (start .args .time) (start .pre .0) _ (ended-becomes _ z _ (start .pre .0 .lent .low) (c .before .before .before .before .before .before .before .before .before .ended .ensures)) (c .before .before .before .before .answer-line .ensures)
 
 pub answer-held-spec : {M : Type 1} → statement M
 answer-held-spec =

@@ -1,8 +1,8 @@
 -- `accepted::pieces::take_piece` meets its contract. Assumes nothing.
 use native.Mathlib.Omega.{arith}
 use borrow.Author.Needs.{needs}
-use Rattle.promise.proofs.Held.{lines-fit}
-use Rattle.switch.proofs.Switches.{clients-sized}
+use Rattle.promise.proofs.Held.{line-short}
+use Rattle.state.proofs.Becomes.{clients-sized}
 use Rattle.accepted.proofs.Joins.{taken-length, piece-more, piece-joins, piece-held, piece-feeds}
 use Rattle.accepted.proofs.pieces.take_piece.Statement.{statement}
 use Rattle.accepted.proofs.pieces.take_piece.Tie as tie
@@ -16,14 +16,13 @@ slice-aggregate-joined c = taken-length _ _ _ _ _ 0 (c .before .before .before .
 joined-requires : tie.Need-joined-requires
 joined-requires c κs =
     let start = c .before .before .before .before .before .before .before in
-    let fs = start .good .1 .1 .1 .0 .1 .1 .0 .1 .1 in
-    let z = clients-sized (start .args .state .clients) (fs .0 .1 .0 .1) (fs .1 .0 .1 .0 .1) (fs .1 .1 .0 .1 .0 .1) (fs .1 .1 .1 .0 .1 .0 .1) (fs .1 .1 .1 .1 .0 .1 .0 .1) in
-    (start .pre .0 .lent .low, lines-fit _ (start .args .state) _ _ _ (start .pre .0) z)
+    (start .pre .0 .lent .low, line-short _ (start .args .state) _ _ _ (start .pre .0))
 
 returns : tie.Need-returns
 returns c =
     let start = c .before .before .before .before .before .before .before .before .before in
-    piece-joins _ (start .args .state) _ _ _ _ (start .args .bytes .now) (start .pre .0) (c .before .before .before .before .feed-at .ensures) (c .before .joined .ensures) (search needs)
+    let z = clients-sized (start .args .state .clients) (start .good .1 .1 .1 .0 .1 .1 .0) in
+    piece-joins _ (start .args .state) _ _ _ _ (start .args .bytes .now) (start .pre .0) (c .before .before .before .before .feed-at .ensures) z (c .before .joined .ensures) (search needs)
 
 past-feed-requires : tie.Need-past-feed-requires
 past-feed-requires c κs =
@@ -32,8 +31,9 @@ past-feed-requires c κs =
 
 answer-held-requires : tie.Need-answer-held-requires
 answer-held-requires c κs =
-    let start = c .before .before .before .before .before .before .before .before .before .before .before .before in (
-      piece-held _ (start .args .state) _ _ _ 0 (start .args .bytes .now) (start .pre .0) (c .before .before .before .before .before .before .before .feed-at .ensures) (c .before .before .before .before .joined .ensures),
+    let start = c .before .before .before .before .before .before .before .before .before .before .before .before in
+    let z = clients-sized (start .args .state .clients) (start .good .1 .1 .1 .0 .1 .1 .0) in (
+      piece-held _ (start .args .state) _ _ _ 0 (start .args .bytes .now) (start .pre .0) (c .before .before .before .before .before .before .before .feed-at .ensures) z (c .before .before .before .before .joined .ensures),
       omega (arith, start .pre .1),
     )
 
@@ -46,7 +46,8 @@ same-length-2 c = search needs
 returns-2 : tie.Need-returns-2
 returns-2 c =
     let start = c .before .before .before .before .before .before .before .before .before .before .before .before .before .before .before .before .before .before in
-    piece-feeds _ (start .args .state) _ _ _ _ (start .args .bytes .now) (start .pre .0) (c .before .before .before .before .before .before .before .before .before .before .before .before .before .feed-at .ensures) (c .before .before .before .before .before .before .before .before .before .before .joined .ensures) (search needs)
+    let z = clients-sized (start .args .state .clients) (start .good .1 .1 .1 .0 .1 .1 .0) in
+    piece-feeds _ (start .args .state) _ _ _ _ (start .args .bytes .now) (start .pre .0) (c .before .before .before .before .before .before .before .before .before .before .before .before .before .feed-at .ensures) z (c .before .before .before .before .before .before .before .before .before .before .joined .ensures) (search needs)
     (c .before .before .before .before .before .before .before .before .past-feed .ensures) _ (c .before .before .before .before .before .answer-held .ensures)
 
 pub take-piece-spec : {M : Type 1} → statement M

@@ -1,6 +1,7 @@
 -- `accepted::readings::take_reading` meets its contract. Assumes nothing.
 use borrow.Author.Needs.{needs}
-use Rattle.accepted.proofs.Takes.{settings-sized, read-start, read-room, read-size, is-taken}
+use Rattle.state.proofs.Settled.{settings-sized}
+use Rattle.accepted.proofs.Takes.{read-room, read-end, updates-room, read-size, is-taken}
 use Rattle.accepted.proofs.readings.take_reading.Statement.{statement}
 use Rattle.accepted.proofs.readings.take_reading.Tie as tie
 
@@ -8,7 +9,7 @@ mul-at : tie.Need-mul-at
 mul-at c = search needs
 
 put-compact-requires : tie.Need-put-compact-requires
-put-compact-requires c κs = search read-start
+put-compact-requires c κs = search read-room
 
 bytes-of-requires : tie.Need-bytes-of-requires
 bytes-of-requires c κs = search needs
@@ -26,11 +27,11 @@ part-put-updates-to-start : tie.Need-part-put-updates-to-start
 part-put-updates-to-start c = search needs
 
 part-put-updates-to-end : tie.Need-part-put-updates-to-end
-part-put-updates-to-end c = search needs
+part-put-updates-to-end c = search read-end
 
 put-updates-to-requires : tie.Need-put-updates-to-requires
 put-updates-to-requires c κs =
-    read-room _ (c .before .before .before .before .before .before .before .before .before .before .before .before .before .before .before .args .state) _ _ _ _ _ _ _ (c .before .before .before .before .before .before .before .before .before .before .before .before .before .before .before .pre) _ _ (c .before .before .before .before .before .before .before .before .put-compact .ensures) _ _ (c .before .before .before .before .before .bytes-of .ensures) (c .before .before .before .before .bytes-of2 .ensures)
+    updates-room _ (c .before .before .before .before .before .before .before .before .before .before .before .before .before .before .before .args .state) _ _ _ _ _ _ _ (c .before .before .before .before .before .before .before .before .before .before .before .before .before .before .before .pre) _ _ (c .before .before .before .before .before .before .before .before .put-compact .ensures) _ _ (c .before .before .before .before .before .bytes-of .ensures) (c .before .before .before .before .bytes-of2 .ensures)
 
 sub-stored : tie.Need-sub-stored
 sub-stored c = search needs
@@ -47,8 +48,7 @@ same-length-2 c = search needs
 returns : tie.Need-returns
 returns c =
     let start = c .before .before .before .before .before .before .before .before .before .before .before .before .before .before .before .before .before .before .before in
-    let fs = start .good .1 .1 .1 .0 .1 .1 .1 .0 .1 .1 in
-    let z = settings-sized (start .args .state .settings) (fs .0 .1 .0 .1) (fs .1 .0 .1 .0 .1) in
+    let z = settings-sized (start .args .state .settings) (start .good .1 .1 .1 .0 .1 .1 .1 .0) in
     is-taken _ (start .args .state) _ _ _ _ _ _ _ (start .pre) _ _ (c .before .before .before .before .before .before .before .before .before .before .before .before .put-compact .ensures) _ _ (c .before .before .before .before .before .before .before .before .before .bytes-of .ensures) (c .before .before .before .before .before .before .before .before .bytes-of2 .ensures) z _ (c .stored .ensures) _ _ (c .before .before .before .put-updates-to .ensures)
 
 pub take-reading-spec : {M : Type 1} → statement M

@@ -1,11 +1,12 @@
 -- `access::command::argument_verdict` meets its contract. Assumes nothing.
 use borrow.Author.Needs.{needs}
+use Rattle.table.proofs.Tests.{argument-readable}
 use Rattle.access.proofs.Arguments.{judged, judged-null}
 use Rattle.access.proofs.command.argument_verdict.Statement.{statement}
 use Rattle.access.proofs.command.argument_verdict.Tie as tie
 
 verdict-requires : tie.Need-verdict-requires
-verdict-requires c κs = search needs
+verdict-requires c κs = search argument-readable
 
 returns : tie.Need-returns
 returns c = search judged

@@ -2,7 +2,7 @@
 use borrow.Author.Needs.{needs}
 use native.Mathlib.Omega.{arith}
 use mathlib.Core.List.{[]}
-use Rattle.access.proofs.Orders.{order-room, order-none, order-slice, order-room-form, order-some}
+use Rattle.access.proofs.Orders.{order-room, order-none, argument-text, argument-room, form-within, order-slice, order-room-form, order-some}
 use Rattle.access.proofs.command.put_order.Statement.{statement}
 use Rattle.access.proofs.command.put_order.Tie as tie
 
@@ -26,13 +26,13 @@ slice-aggregate-put-compact : tie.Need-slice-aggregate-put-compact
 slice-aggregate-put-compact c = search needs
 
 put-compact-requires : tie.Need-put-compact-requires
-put-compact-requires c κs = search needs
+put-compact-requires c κs = (search argument-text, search (argument-room, needs))
 
 cast-put-order-command-2 : tie.Need-cast-put-order-command-2
 cast-put-order-command-2 c = search needs
 
 array-share-prefix-form : tie.Need-array-share-prefix-form
-array-share-prefix-form c = search needs
+array-share-prefix-form c = search form-within
 
 slice-aggregate-put-order-command-2 : tie.Need-slice-aggregate-put-order-command-2
 slice-aggregate-put-order-command-2 c = search order-slice

@@ -1,5 +1,5 @@
 -- `access::setting::set` meets its contract. Assumes nothing.
-use Rattle.access.proofs.Sets.{value-settable, set-is}
+use Rattle.access.proofs.Sets.{set-text, set-room, set-within, value-settable, set-is}
 use borrow.Author.Needs.{needs}
 use Rattle.access.proofs.setting.set.Statement.{statement}
 use Rattle.access.proofs.setting.set.Tie as tie
@@ -8,7 +8,7 @@ mul-at : tie.Need-mul-at
 mul-at c = search needs
 
 put-compact-requires : tie.Need-put-compact-requires
-put-compact-requires c κs = search needs
+put-compact-requires c κs = (search set-text, search set-room)
 
 sub-value : tie.Need-sub-value
 sub-value c = search needs
@@ -17,7 +17,7 @@ part-value-start : tie.Need-part-value-start
 part-value-start c = search needs
 
 part-value-end : tie.Need-part-value-end
-part-value-end c = search needs
+part-value-end c = search set-within
 
 put-set-requires : tie.Need-put-set-requires
 put-set-requires c κs =

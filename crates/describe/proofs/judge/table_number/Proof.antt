@@ -1,5 +1,5 @@
 -- `describe::judge::table_number` meets its contract. Assumes nothing.
-use Rattle.describe.proofs.Numbered.{number-low, number-6, number-0}
+use Rattle.describe.proofs.Numbered.{number-low, number-readable, number-6, number-0}
 use borrow.Author.Needs.{needs}
 use Prim.Native.Nat.{_≤_, _<_}
 use native.Mathlib.Omega.{arith}
@@ -14,7 +14,7 @@ returns : tie.Need-returns
 returns c = let h : c .before .number-below-6 .result ≡ 0 → ⊥ = λ z. omega arith in search number-low
 
 report-length-requires : tie.Need-report-length-requires
-report-length-requires c κs = search needs
+report-length-requires c κs = search number-readable
 
 returns-2 : tie.Need-returns-2
 returns-2 c = let h : 32000 < c .before .report-length .result = omega arith in search number-6

@@ -11,7 +11,7 @@ same-length : tie.Need-same-length
 same-length c = search needs
 
 returns : tie.Need-returns
-returns c = λ t w. search report-put
+returns c = search report-put
 
 pub put-report-spec : {M : Type 1} → statement M
 put-report-spec = tie.close (tie.spec emit-report-requires same-length returns)

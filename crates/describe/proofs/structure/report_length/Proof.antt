@@ -11,7 +11,7 @@ emit-report-requires : tie.Need-emit-report-requires
 emit-report-requires c κs = search needs
 
 returns : tie.Need-returns
-returns c = λ t w. report-measured t _ _ _ (c .before .emit-report .ensures t w)
+returns c = search report-measured
 
 pub report-length-spec : {M : Type 1} → statement M
 report-length-spec = tie.close (tie.spec slice-aggregate-emit-report emit-report-requires returns)

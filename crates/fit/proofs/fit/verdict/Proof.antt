@@ -1,5 +1,5 @@
 -- `fit::fit::verdict` meets its contract: the value is judged, and the length of its stored form. Assumes nothing.
-use Rattle.fit.proofs.Stored.{verdict-good, verdict-bad}
+use Rattle.fit.proofs.Stored.{told-text, verdict-good, verdict-bad}
 use borrow.Author.Needs.{needs}
 use Rattle.fit.proofs.fit.verdict.Statement.{statement}
 use Rattle.fit.proofs.fit.verdict.Tie as tie
@@ -8,7 +8,7 @@ is-text-requires : tie.Need-is-text-requires
 is-text-requires c κs = search needs
 
 compact-length-requires : tie.Need-compact-length-requires
-compact-length-requires c κs = search needs
+compact-length-requires c κs = search told-text
 
 range-fit-requires : tie.Need-range-fit-requires
 range-fit-requires c κs = search needs

@@ -1,11 +1,12 @@
 -- `line::describing::describe` meets its contract. Assumes nothing.
+use Rattle.report.proofs.Faults.{accepted-readable}
 use Rattle.line.proofs.Described.{start-room, report-room, feed-room, described}
 use borrow.Author.Needs.{needs}
 use Rattle.line.proofs.describing.describe.Statement.{statement}
 use Rattle.line.proofs.describing.describe.Tie as tie
 
 report-length-requires : tie.Need-report-length-requires
-report-length-requires c κs = search needs
+report-length-requires c κs = search accepted-readable
 
 put-describing-start-requires : tie.Need-put-describing-start-requires
 put-describing-start-requires c κs =

@@ -2,6 +2,7 @@
 use Prim.Native.Nat.{_<_}
 use native.Mathlib.Omega.{arith}
 use borrow.Author.Needs.{needs}
+use Rattle.state.proofs.Becomes.{clients-sized}
 use Rattle.node.proofs.clients.jihfasul_close.Statement.{statement}
 use Rattle.node.proofs.clients.jihfasul_close.Tie as tie
 use Rattle.node.proofs.Opens.{close-lent, close-high, close-closed, close-good}
@@ -39,7 +40,10 @@ quiet-requires-4 : tie.Need-quiet-requires-4
 quiet-requires-4 c κs = search needs
 
 returns-4 : tie.Need-returns-4
-returns-4 c = search close-good
+returns-4 c =
+    let start = c .before .before .before .before .before .before .before .before .before .before .before in
+    let z = clients-sized (start .args .state .clients) (start .good .1 .1 .0 .1 .1 .0) in
+    search (close-good, z)
 
 pub jihfasul-close-spec : {M : Type 1} → statement M
 jihfasul-close-spec =

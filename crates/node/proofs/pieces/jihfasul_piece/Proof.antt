@@ -1,6 +1,6 @@
 -- `node::pieces::jihfasul_piece` meets its contract. Assumes nothing.
 use borrow.Author.Needs.{needs}
-use Rattle.switch.proofs.Switches.{clients-sized}
+use Rattle.state.proofs.Becomes.{clients-sized}
 use Rattle.node.proofs.Taken.{piece-lent, piece-high, piece-closed, piece-ready, piece-timely, piece-good}
 use Rattle.node.proofs.pieces.jihfasul_piece.Statement.{statement}
 use Rattle.node.proofs.pieces.jihfasul_piece.Tie as tie
@@ -57,8 +57,7 @@ same-length-5 c = search needs
 returns-4 : tie.Need-returns-4
 returns-4 c =
     let start = c .before .before .before .before .before .before .before .before .before .before .before .before .before .before .before .before .before .before in
-    let fs = start .good .1 .1 .1 .0 .1 .1 .0 .1 .1 in
-    let z = clients-sized (start .args .state .clients) (fs .0 .1 .0 .1) (fs .1 .0 .1 .0 .1) (fs .1 .1 .0 .1 .0 .1) (fs .1 .1 .1 .0 .1 .0 .1) (fs .1 .1 .1 .1 .0 .1 .0 .1) in
+    let z = clients-sized (start .args .state .clients) (start .good .1 .1 .1 .0 .1 .1 .0) in
     let given = take-piece-requires (c .before .before .before .before .before) (start .κs) in
     piece-good _ (start .args .state) _ _ _ _ (start .args .bytes .now) (given .0) (given .1) z (c .before .before .before .before .take-piece .ensures)
 

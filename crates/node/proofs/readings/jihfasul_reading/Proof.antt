@@ -3,7 +3,7 @@ use mathlib.Core.Path.{refl}
 use denote.Enum.Declared.{tagOf}
 use borrow.Author.Needs.{needs}
 use Rattle.fit.proofs.Verdict.{the-type}
-use Rattle.node.proofs.Reading.{not-first, read-lent, read-past, read-none, read-within, read-unfit, read-fits}
+use Rattle.node.proofs.Reading.{not-first, read-lent, read-table, read-past, read-none, read-info, read-unfit, read-fits}
 use Rattle.node.proofs.readings.jihfasul_reading.Statement.{statement}
 use Rattle.node.proofs.readings.jihfasul_reading.Tie as tie
 
@@ -29,7 +29,7 @@ returns-2 : tie.Need-returns-2
 returns-2 c = search read-past
 
 parameter-by-number-requires : tie.Need-parameter-by-number-requires
-parameter-by-number-requires c κs = search needs
+parameter-by-number-requires c κs = search read-table
 
 enum-known-p : tie.Need-enum-known-p
 enum-known-p c = search needs
@@ -47,7 +47,7 @@ returns-3 : tie.Need-returns-3
 returns-3 c = search read-none
 
 verdict-requires : tie.Need-verdict-requires
-verdict-requires c κs = search read-within
+verdict-requires c κs = search read-info
 
 enum-told-2 : tie.Need-enum-told-2
 enum-told-2 c = search needs

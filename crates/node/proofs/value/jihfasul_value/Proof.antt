@@ -1,5 +1,5 @@
 -- `node::value::jihfasul_value` meets its contract. Assumes nothing.
-use Rattle.node.proofs.Shows.{value-lent, value-past, value-none, value-part, value-found}
+use Rattle.node.proofs.Shows.{value-lent, value-table, value-past, value-none, value-part, value-found}
 use borrow.Author.Needs.{needs}
 use Rattle.node.proofs.value.jihfasul_value.Statement.{statement}
 use Rattle.node.proofs.value.jihfasul_value.Tie as tie
@@ -20,7 +20,7 @@ returns-2 : tie.Need-returns-2
 returns-2 c = search value-past
 
 parameter-by-number-requires : tie.Need-parameter-by-number-requires
-parameter-by-number-requires c κs = search needs
+parameter-by-number-requires c κs = search value-table
 
 enum-known-p : tie.Need-enum-known-p
 enum-known-p c = search needs

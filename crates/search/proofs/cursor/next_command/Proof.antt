@@ -3,7 +3,7 @@ use borrow.Author.Needs.{needs}
 use Prim.Native.Nat.{_-_}
 use lib.ListN.{length}
 use Rattle.table.specs.Search.{commandsOf}
-use Rattle.search.proofs.Walks.{picks-commands, Walked, walk-start, walk-fits, parameter-less, module-less, command-found, past-parameter, into-module, walk-end}
+use Rattle.search.proofs.Walks.{picks-commands, Walked, walk-start, walk-way, parameter-less, module-less, command-found, past-parameter, into-module, walk-end}
 use Rattle.search.proofs.cursor.next_command.Statement.{statement}
 use Rattle.search.proofs.cursor.next_command.Tie as tie
 
@@ -17,7 +17,7 @@ loop-holds : tie.Need-loop-holds Inv-loop μ-loop
 loop-holds c = search walk-start
 
 next-record-requires : tie.Need-next-record-requires Inv-loop μ-loop
-next-record-requires c κs = search walk-fits
+next-record-requires c κs = search walk-way
 
 enum-known-q : tie.Need-enum-known-q Inv-loop μ-loop
 enum-known-q c = search needs

@@ -3,7 +3,7 @@ use borrow.Author.Needs.{needs}
 use Prim.Native.Nat.{_-_}
 use lib.ListN.{length}
 use Rattle.table.specs.Search.{parametersOf}
-use Rattle.search.proofs.Walks.{picks-parameters, Walked, walk-start, walk-fits, command-less, module-less, parameter-found, past-command, into-module, walk-end}
+use Rattle.search.proofs.Walks.{picks-parameters, Walked, walk-start, walk-way, command-less, module-less, parameter-found, past-command, into-module, walk-end}
 use Rattle.search.proofs.cursor.next_parameter.Statement.{statement}
 use Rattle.search.proofs.cursor.next_parameter.Tie as tie
 
@@ -17,7 +17,7 @@ loop-holds : tie.Need-loop-holds Inv-loop μ-loop
 loop-holds c = search walk-start
 
 next-record-requires : tie.Need-next-record-requires Inv-loop μ-loop
-next-record-requires c κs = search walk-fits
+next-record-requires c κs = search walk-way
 
 enum-known-q : tie.Need-enum-known-q Inv-loop μ-loop
 enum-known-q c = search needs

@@ -4,7 +4,7 @@ use native.Mathlib.Omega.{arith}
 use Prim.Native.Nat.{_+_, _-_, _≤_}
 use lib.ListN.{length}
 use denote.Ref.{now}
-use Rattle.search.proofs.Finds.{counted-commands, SoughtCommand, sought-start, sought-fits, command-home, command-inside, command-begun, command-falls, command-room, command-missing, command-is, command-on}
+use Rattle.search.proofs.Finds.{counted-commands, SoughtCommand, sought-start, sought-way, command-home, command-inside, command-begun, command-falls, command-room, command-missing, command-is, command-on}
 use Rattle.search.proofs.find.find_command.Statement.{statement}
 use Rattle.search.proofs.find.find_command.Tie as tie
 
@@ -21,7 +21,7 @@ loop-holds : tie.Need-loop-holds Inv-loop μ-loop
 loop-holds c = search (sought-start, counted-commands)
 
 next-command-requires : tie.Need-next-command-requires Inv-loop μ-loop
-next-command-requires c κs = search sought-fits
+next-command-requires c κs = search sought-way
 
 enum-known-q : tie.Need-enum-known-q Inv-loop μ-loop
 enum-known-q c = search needs

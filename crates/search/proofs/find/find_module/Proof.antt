@@ -15,13 +15,13 @@ enum-told : tie.Need-enum-told
 enum-told c = search needs
 
 returns : tie.Need-returns
-returns c = λ t w. search find-untold
+returns c = search find-untold
 
 module-from-requires : tie.Need-module-from-requires
 module-from-requires c κs = search texts-within
 
 returns-2 : tie.Need-returns-2
-returns-2 c = λ t w. search find-modules
+returns-2 c = search find-modules
 
 pub find-module-spec : {M : Type 1} → statement M
 find-module-spec =

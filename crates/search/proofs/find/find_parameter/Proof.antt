@@ -4,7 +4,7 @@ use native.Mathlib.Omega.{arith}
 use Prim.Native.Nat.{_+_, _-_, _≤_}
 use lib.ListN.{length}
 use denote.Ref.{now}
-use Rattle.search.proofs.Finds.{counted-parameters, SoughtParameter, sought-start, sought-fits, parameter-home, parameter-inside, parameter-begun, parameter-falls, parameter-room, parameter-missing, parameter-is, parameter-on}
+use Rattle.search.proofs.Finds.{counted-parameters, SoughtParameter, sought-start, sought-way, parameter-home, parameter-inside, parameter-begun, parameter-falls, parameter-room, parameter-missing, parameter-is, parameter-on}
 use Rattle.search.proofs.find.find_parameter.Statement.{statement}
 use Rattle.search.proofs.find.find_parameter.Tie as tie
 
@@ -21,7 +21,7 @@ loop-holds : tie.Need-loop-holds Inv-loop μ-loop
 loop-holds c = search (sought-start, counted-parameters)
 
 next-parameter-requires : tie.Need-next-parameter-requires Inv-loop μ-loop
-next-parameter-requires c κs = search sought-fits
+next-parameter-requires c κs = search sought-way
 
 enum-known-q : tie.Need-enum-known-q Inv-loop μ-loop
 enum-known-q c = search needs

@@ -1,8 +1,7 @@
 -- `search::find::module_count` meets its contract. Assumes nothing.
 use borrow.Author.Needs.{needs}
 use Rattle.table.proofs.Records.{texts-within}
-use Rattle.table.proofs.Whole.{modules-many}
-use Rattle.search.proofs.Searches.{count-untold}
+use Rattle.search.proofs.Searches.{count-untold, count-modules}
 use Rattle.search.proofs.find.module_count.Statement.{statement}
 use Rattle.search.proofs.find.module_count.Tie as tie
 
@@ -16,13 +15,13 @@ enum-told : tie.Need-enum-told
 enum-told c = search needs
 
 returns : tie.Need-returns
-returns c = λ t w. search count-untold
+returns c = search count-untold
 
 count-requires : tie.Need-count-requires
 count-requires c κs = search texts-within
 
 returns-2 : tie.Need-returns-2
-returns-2 c = λ t w. search modules-many
+returns-2 c = search count-modules
 
 pub module-count-spec : {M : Type 1} → statement M
 module-count-spec =

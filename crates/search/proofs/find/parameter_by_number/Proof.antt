@@ -4,7 +4,7 @@ use native.Mathlib.Omega.{arith}
 use Prim.Native.Nat.{_-_, _≤_}
 use lib.ListN.{length}
 use Rattle.table.specs.Search.{parametersOf, parameters}
-use Rattle.search.proofs.Finds.{Counted, counted-fits, counted-parameters, parameter-falls, number-missing, number-is, number-on}
+use Rattle.search.proofs.Finds.{Counted, counted-way, counted-parameters, parameter-falls, number-missing, number-is, number-on}
 use Rattle.search.proofs.find.parameter_by_number.Statement.{statement}
 use Rattle.search.proofs.find.parameter_by_number.Tie as tie
 
@@ -21,7 +21,7 @@ loop-holds : tie.Need-loop-holds Inv-loop μ-loop
 loop-holds c = (omega arith, search counted-parameters)
 
 next-parameter-requires : tie.Need-next-parameter-requires Inv-loop μ-loop
-next-parameter-requires c κs = search counted-fits
+next-parameter-requires c κs = search counted-way
 
 enum-known-q : tie.Need-enum-known-q Inv-loop μ-loop
 enum-known-q c = search needs

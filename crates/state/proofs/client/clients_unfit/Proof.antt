@@ -8,7 +8,6 @@ use lib.ListN.{drop}
 use Rattle.ascii.specs.Bytes.{any}
 use Rattle.plain.specs.Node.{clientNumbers}
 use Rattle.state.specs.Fit.{clientUnfit}
-use Rattle.state.specs.Becomes.{Sized}
 use Rattle.state.proofs.client.clients_unfit.Statement.{statement}
 use Rattle.state.proofs.client.clients_unfit.Tie as tie
 
@@ -28,10 +27,9 @@ returns : tie.Need-returns Inv-loop μ-loop
 returns c =
     let at = c .before .before .before in
     let args = at .before .args in
-    let z : Sized (args .s) = record { isOpen = search needs; isOverlong = search needs; mask = search needs; size = search needs; room = search needs } in
     let below = c .before .before .loop-test .taken in
     let own = unfit-at (args .modules) (args .s) (at .loop .c) below (c .before .client-unfit .result) (c .before .client-unfit .ensures) (c .if1 .taken) in
-    record { is = any-found (clientUnfit (args .modules) (args .s)) clientNumbers (at .loop .c) (at .loop .inv .1) below own; sized = z }
+    any-found (clientUnfit (args .modules) (args .s)) clientNumbers (at .loop .c) (at .loop .inv .1) below own
 
 add-c : tie.Need-add-c Inv-loop μ-loop
 add-c c = omega arith
@@ -52,8 +50,7 @@ returns-2 : tie.Need-returns-2 Inv-loop μ-loop
 returns-2 c =
     let at = c .before in
     let args = at .before .args in
-    let z : Sized (args .s) = record { isOpen = search needs; isOverlong = search needs; mask = search needs; size = search needs; room = search needs } in
-    record { is = any-none (clientUnfit (args .modules) (args .s)) clientNumbers (at .loop .c) (at .loop .inv .1) (c .loop-test .left); sized = z }
+    any-none (clientUnfit (args .modules) (args .s)) clientNumbers (at .loop .c) (at .loop .inv .1) (c .loop-test .left)
 
 pub clients-unfit-spec : {M : Type 1} → statement M
 clients-unfit-spec =

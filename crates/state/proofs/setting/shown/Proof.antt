@@ -4,6 +4,15 @@ use borrow.Author.Needs.{needs}
 use Rattle.state.proofs.setting.shown.Statement.{statement}
 use Rattle.state.proofs.setting.shown.Tie as tie
 
+mul-size : tie.Need-mul-size
+mul-size c = search needs
+
+element-copy-out-size : tie.Need-element-copy-out-size
+element-copy-out-size c = search needs
+
+cast-size : tie.Need-cast-size
+cast-size c = search needs
+
 sub-result : tie.Need-sub-result
 sub-result c = search needs
 
@@ -38,6 +47,9 @@ pub shown-spec : {M : Type 1} → statement M
 shown-spec =
     tie.close
     (tie.spec
+    mul-size
+    element-copy-out-size
+    cast-size
     sub-result
     part-result-start
     part-result-end

@@ -1,6 +1,6 @@
 -- `table::judge::accessible_passes` meets its contract. Assumes nothing.
 use borrow.Author.Needs.{needs}
-use Rattle.table.proofs.Tests.{parameter-text, parameter-initial, parameter-info, command-text, command-info, parameter-passes, command-passes, bad-passes}
+use Rattle.table.proofs.Tests.{parameter-text, parameter-initial, parameter-readable, command-text, command-readable, parameter-passes, command-passes, bad-passes}
 use Rattle.table.proofs.judge.accessible_passes.Statement.{statement}
 use Rattle.table.proofs.judge.accessible_passes.Tie as tie
 
@@ -11,13 +11,13 @@ enum-known-q : tie.Need-enum-known-q
 enum-known-q c = search needs
 
 parameter-passes-requires : tie.Need-parameter-passes-requires
-parameter-passes-requires c κs = ((search parameter-text, search parameter-initial), search parameter-info)
+parameter-passes-requires c κs = ((search parameter-text, search parameter-initial), search parameter-readable)
 
 enum-known-q-2 : tie.Need-enum-known-q-2
 enum-known-q-2 c = search needs
 
 command-passes-requires : tie.Need-command-passes-requires
-command-passes-requires c κs = (search command-text, search command-info)
+command-passes-requires c κs = (search command-text, search command-readable)
 
 enum-told : tie.Need-enum-told
 enum-told c = search needs

@@ -1,6 +1,6 @@
 -- `table::judge::command_passes` meets its contract. Assumes nothing.
 use borrow.Author.Needs.{needs}
-use Rattle.table.proofs.Tests.{command-not, command-with, command-without}
+use Rattle.table.proofs.Tests.{argument-readable, command-not, command-with, command-without}
 use Rattle.table.proofs.judge.command_passes.Statement.{statement}
 use Rattle.table.proofs.judge.command_passes.Tie as tie
 
@@ -8,7 +8,7 @@ text-passes-requires : tie.Need-text-passes-requires
 text-passes-requires c κs = search needs
 
 info-passes-requires : tie.Need-info-passes-requires
-info-passes-requires c κs = search needs
+info-passes-requires c κs = search argument-readable
 
 returns : tie.Need-returns
 returns c = λ a x e. search command-with

@@ -1,15 +1,19 @@
--- What the code that changes one client does. Assumes nothing.
+-- What a change of one client means for the plain node's clients and for fitness. Assumes nothing.
 use Prim.Native.Nat.{ℕ, _≤_}
 use mathlib.Core.Path.{_≡_}
-use mathlib.Core.Bool.{Bool, true, false}
+use mathlib.Core.Bool.{true, false}
 use mathlib.Core.List.{List}
 use lib.Dec.{eqb}
 use lib.ListN.{length, getD}
+use borrow.Author.Needs.{length-unmapped}
+use denote.Shadow.{shadow}
+use mir.Val.{Val}
 use Rattle.ascii.specs.Bytes.{any}
-use Rattle.plain.specs.Node.{Client, put, clientNumbers}
+use Rattle.plain.specs.Node.{Client, put}
 use Rattle.state.specs.declared.Clients.{Clients}
 use Rattle.state.specs.View.{isSet, clientAt}
 use Rattle.state.specs.Fit.{clientUnfit, pastLast}
+use Rattle.state.proofs.Clients.{the-type, the-field}
 
 -- of the clients s, client c becomes x and no other is changed. The others stay as fit for a table of m modules as they were, and c stays
 -- fit under a condition
@@ -40,10 +44,17 @@ pub record Sized (s : Clients) : Type 0 where
   pub size : length (s .length) ≡ 8
   pub room : length (s .lines) ≡ 8192
 
--- r says whether a client is unfit for a table of m modules
-pub record Judged (m : ℕ) (s : Clients) (r : Bool) : Type 0 where
-  pub is : r ≡ any (clientUnfit m s) clientNumbers
-  pub sized : Sized s
+-- as the fields of a struct are handed to a proof
+pub clients-sized : (s : Clients) {v : List Val} → shadow (the-field .row .own (the-type .to s) v) → Sized s
+clients-sized s g =
+    let fs = g .1 .1 in
+    record {
+      isOpen = length-unmapped ℕ (s .open) 8 (fs .0 .1 .0 .1);
+      isOverlong = length-unmapped ℕ (s .overlong) 8 (fs .1 .0 .1 .0 .1);
+      mask = length-unmapped ℕ (s .active) 8 (fs .1 .1 .0 .1 .0 .1);
+      size = length-unmapped ℕ (s .length) 8 (fs .1 .1 .1 .0 .1 .0 .1);
+      room = length-unmapped ℕ (s .lines) 8192 (fs .1 .1 .1 .1 .0 .1 .0 .1);
+    }
 
 -- no line reaches into the next client's place
 abbrev pub LinesFit : Clients → Type 0
