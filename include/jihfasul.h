@@ -76,10 +76,9 @@ struct jihfasul_settings {
 /*
  * What the host keeps between calls, besides the values area. It may be stored and restored byte for byte. It is unfit (number 9)
  * over a table and a values area if
- * - a stored length is over 256, a stored value isn't in stored form or doesn't fit its datainfo, or a stored time is above the limit;
- * - an unfinished line is over 1,024 bytes or has a line feed in it, or a client inside an overlong line keeps bytes of it;
- * - a module past the last is active; or
- * - a closed client has bytes, an overlong line or active modules.
+ * - of a parameter: its length is above 256, its bytes in the values area are no stored form that fits, or its time is above the limit;
+ * - of a line: it has more than 1,024 bytes or a line feed, or bytes though it is marked overlong;
+ * - of a client: it has a module active that the table doesn't have, or is closed and has anything at all.
  */
 struct jihfasul_state {
     struct jihfasul_clients clients;
@@ -125,7 +124,7 @@ struct jihfasul_done jihfasul_close(
     struct jihfasul_state state, uint64_t client, uint64_t time);
 
 /*
- * Takes bytes of a client: up to and including the first line feed, or all of them. `used` says how many; offer the rest again. A line
+ * Takes bytes of a client, but none after the first line feed. `used` says how many; offer the rest again. A line
  * that its line feed ends is carried out at this call's time, and what is to be sent lies in the outbox's first `written` bytes, at
  * most 32,019. A change that is carried out writes the stored form at the front of its parameter's place in the values area, and no
  * other byte. Numbers 0 to 12.

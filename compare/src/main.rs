@@ -24,7 +24,7 @@ usage: compare [COMMAND ...]
                then for each of COUNT seeds, from SEED on, a small history and
                a random one, both again cut and mingled anew, and one in which
                the state is changed at random between the calls
-  (nothing)    the same with the seeds of the gate
+  (nothing)    the same with the seeds of ./test
   cost         what a line costs, beside the reference program
   stack        how deep the stack of a call is, over the same histories
   --help       this text
@@ -34,7 +34,7 @@ which the two sides differ, counted from 1: `reference history SEED`, `second
 SEED` and `small SEED` print these histories.
 ";
 
-/// The gate's seeds.
+/// The seeds that `./test` uses.
 const SEED: u64 = 1;
 const COUNT: u64 = 1_200;
 

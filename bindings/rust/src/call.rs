@@ -121,7 +121,7 @@ pub fn close(table: &[u8], values: &[u8], state: &State, client: u64, time: u64)
     }
 }
 
-/// Uses bytes up to and including the first line feed, or all of them.
+/// Uses bytes, but none after the first line feed.
 pub fn piece(
     table: &[u8],
     values: &mut [u8],

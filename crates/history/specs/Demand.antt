@@ -37,23 +37,23 @@ pub record AsPlain (table : List ℕ) (n : Node) (h : List Call) (k : Kit) (l : 
   -- numbers, used counts and written bytes
   pub heardAs : l ≡ map heard (answers table n h)
   -- "9 never comes"
-  pub never9 : EachNumber (λ k. k ≢ 9) l
+  pub never9 : EachNumber (λ i. i ≢ 9) l
   -- each client is sent one final reply for each of its line feeds that was used
   pub replies : (d : ℕ) → length (repliesFor d (sent (answers table n h))) ≡ allFeeds d h (answers table n h)
   -- "open clients, values, times, activations and unfinished lines"
   pub end : view table (k .state) (k .values) ≡ finish table n h
 
--- "any other cutting and mingling of the same bytes sends the same bytes and ends equal"
+-- "any other cutting and mingling of the same bytes ..": the same is sent, and the ends are equal
 pub record AsFirst (table : List ℕ) (k : Kit) (l : List Heard) (k′ : Kit) (l′ : List Heard) : Type 0 where
-  pub accepted : EachNumber (λ k. k ≡ 0) l′
+  pub accepted : EachNumber (λ i. i ≡ 0) l′
   pub sameBytes : allSent l′ ≡ allSent l
   pub sameEnd : view table (k′ .state) (k′ .values) ≡ view table (k .state) (k .values)
 
--- a start on this table at this time, lent a values area of that length and answered with that number, and the calls h after it, each of
--- which kept the promise that its function makes; k is what they leave, and l is what is heard of them
+-- a start on this table at this time, lent a values area of that length and answered with that number, and the calls h after it, on the caller's
+-- own values area, each of which kept the promise that its function makes; k is what they leave, and l is what is heard of them
 pub data Past (table : List ℕ) (time : ℕ) : ℕ → ℕ → List Call → Kit → List Heard → Type 0 where
-  past : (values : List ℕ) (r : Done) → Begins table values time r → (h : List Call) (k : Kit) (l : List Heard)
-      → Run table (kit (r .state) values) h k l → Past table time (length values) (r .number) h k l
+  past : (lent values : List ℕ) (r : Done) → Begins table lent time r → (h : List Call) (k : Kit) (l : List Heard)
+      → Run table (kit (r .state) values) h k l → Past table time (length lent) (r .number) h k l
 
 -- Of a history: it goes as the plain node does, which is fed the same start and calls. If its start was accepted, every second history of it,
 -- with a start of its own that was accepted at the same time, goes as it does.
@@ -70,12 +70,18 @@ Demand3 = (table : List ℕ) (time area number : ℕ) (h : List Call) (k : Kit) 
 
 -- ## What is read off the bytes
 
--- of each answer: who reads records off the bytes that were heard reads the plain node's; the answers are as many
+-- the bytes that were heard are the plain node's records, which are well formed, and who reads well formed records off them reads these
+pub record ReadsAs (a : Heard) (x : Answer) : Type 0 where
+  pub formed : AllWellFormed (x .records)
+  pub is : encodeAll (x .records) ≡ a .written
+  pub only : (rs : List Record) → AllWellFormed rs → encodeAll rs ≡ a .written → rs ≡ x .records
+
+-- so of each answer; the answers are as many
 abbrev pub ReadAs : List Heard → List Answer → Type 0
 ReadAs [] [] = Unit {0}
 ReadAs [] (x ∷ xs) = ⊥
 ReadAs (a ∷ l) [] = ⊥
-ReadAs (a ∷ l) (x ∷ xs) = ((rs : List Record) → AllWellFormed rs → encodeAll rs ≡ a .written → rs ≡ x .records) × ReadAs l xs
+ReadAs (a ∷ l) (x ∷ xs) = ReadsAs a x × ReadAs l xs
 
 -- So the user's rule, which is about the plain node's records, is about the bytes that the code writes after an accepted start.
 abbrev pub BytesAreRead : Type 0

@@ -143,16 +143,17 @@ verbRequest Verb.Read x m a = R.read m a
 verbRequest Verb.Change x m a = R.change m a (orNull x)
 verbRequest Verb.Execute x m a = R.execute m a (orNull x)
 
--- the answer r, on a line xs, stands for what a specifier asks of modules; of accessibles, whatever the data is; and for what the
--- line's action and specifier ask for
+-- the answer r, on a line xs, stands for what a specifier asks of modules, whatever the data is
 pub record AsksScoped (xs : List ℕ) (specifier : Part) (v : Switch) (r : Request) : Type 0 where
   pub is : (x : List ℕ) → meaning xs (part xs specifier) x r ≡ scoped (switchRequest v) (part xs specifier)
   pub inside : Inside xs r
 
+-- the same of accessibles
 pub record AsksNamed (xs : List ℕ) (specifier : Part) (v : Verb) (r : Request) : Type 0 where
   pub is : (x : List ℕ) → meaning xs (part xs specifier) x r ≡ named (verbRequest v x) (part xs specifier)
   pub inside : Inside xs r
 
+-- the answer r stands for what the line's action and specifier ask for, whatever the data is
 pub record Asks (xs : List ℕ) (action specifier : Part) (r : Request) : Type 0 where
   pub is : (x : List ℕ) → meaning xs (part xs specifier) x r ≡ request (parts xs action specifier x)
   pub inside : Inside xs r

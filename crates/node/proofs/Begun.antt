@@ -78,7 +78,7 @@ module _ (table values : List ℕ) (t : ℕ) where
         used = refl;
         writes = refl;
         state = ap (λ (b : Bool). blank (cond b t 0)) (sym (ne-eqb k 0 z));
-        node = blank-view table values 0 (λ p l. blank-untimed p)
+        node = λ own. blank-view table own 0 (λ p l. blank-untimed p)
             ∙ ap (λ (b : Bool). begin (tableOf table) (cond b t 0)) (sym (ne-eqb k 0 z))
             ∙ ap (λ (j : ℕ). begin (tableOf table) (cond (eqb j 0) t 0)) h;
         fit = λ y. absurd (z y);
@@ -94,9 +94,9 @@ module _ (table values : List ℕ) (t : ℕ) where
         used = refl;
         writes = refl;
         state = refl;
-        node = blank-view table values t (λ p l. let few = accepted table ok .few in blank-time t p (omega arith))
+        node = λ own. blank-view table own t (λ p l. let few = accepted table ok .few in blank-time t p (omega arith))
             ∙ ap (λ (j : ℕ). begin (tableOf table) (cond (eqb j 0) t 0)) h;
-        fit = λ y. blank-fit (tableOf table) values t early;
+        fit = λ y own. blank-fit (tableOf table) own t early;
       })
 
   -- the state that is answered is blank

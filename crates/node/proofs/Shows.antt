@@ -28,7 +28,7 @@ use Rattle.state.specs.View.{storedText, shown, valueAt, view}
 use Rattle.state.proofs.Settled as Settled
 use Rattle.promise.specs.declared.Shown.{Shown}
 use Rattle.promise.specs.Lent.{lentNumber}
-use Rattle.promise.specs.Shown.{valueNumber, heldIn, Shows}
+use Rattle.promise.specs.Shown.{valueNumber, notShown, partOf, partAt, valueShown, heldIn, Shows}
 use Rattle.promise.proofs.Numbers.{Good, good}
 use Rattle.promise.proofs.Clients.{fit-parts}
 use Rattle.node.specs.Part.{partShown}
@@ -55,12 +55,13 @@ module _ (s : Settings) (k : ℕ) (initial : Part) where
 
 module _ (table values : List ℕ) (s : State) (k : ℕ) where
   abbrev Refuses : Shown → ℕ → Type 0
-  Refuses r n = r ≡ record { number = n; stored = 0; from = 0; size = 0; time = 0 }
+  Refuses r n = r ≡ notShown n
 
   refused : {r : Shown} {n : ℕ} → n ≡ valueNumber table values s k → n ≢ 0 → Refuses r n → Shows table values s k r
-  refused h z q =
+  unfolding valueShown
+  refused {r} {n} h z q =
       subst (Shows table values s k) (sym q)
-      (record { number = h; within = λ y. absurd (z y); text = λ y. absurd (z y); time = λ y. absurd (z y); refused = λ y. refl })
+      (record { is = rw (← h, ne-eqb n 0 z) refl; within = λ y. absurd (z y); text = λ y. absurd (z y); time = λ y. absurd (z y) })
 
   module _ (n : ℕ) (lent : n ≡ lentNumber table values 32768 s 0) where
     pub value-lent : {r : Shown} → n ≢ 0 → Refuses r n → Shows table values s k r
@@ -132,30 +133,28 @@ module _ (table values : List ℕ) (s : State) (k : ℕ) where
 
           shows-initial : eqb held 0 ≡ true
               → Shows table values s k (record { number = 0; stored = 0; from = at .initial .from; size = at .initial .to - at .initial .from; time = getD (s .settings .time) k 0 })
-          unfolding heldIn
+          unfolding heldIn valueShown partAt partOf parameterOf
           shows-initial z =
               let order = found .held .initial .order in
               let within = found .held .initial .within in
               record {
-                number = is-number;
+                is = rw (← is-number, there, z, initial-size) refl;
                 within = λ y. omega arith;
                 text = λ y. sym (text-is ∙ rw z refl);
                 time = λ y. sym time-is;
-                refused = λ y. absurd (y refl);
               }
 
           shows-stored : k ≤ 63 → eqb held 0 ≡ false
               → Shows table values s k (record { number = 0; stored = 1; from = 256 * k; size = held; time = getD (s .settings .time) k 0 })
-          unfolding heldIn
+          unfolding heldIn valueShown partAt partOf
           shows-stored low z =
               let area = known .area in
               let few = short in
               record {
-                number = is-number;
+                is = rw (← is-number, there, z) refl;
                 within = λ y. omega arith;
                 text = λ y. sym (text-is ∙ rw z refl);
                 time = λ y. sym time-is;
-                refused = λ y. absurd (y refl);
               }
 
           is-shown : k ≤ 63 → Shows table values s k (partShown (s .settings) k (at .initial))

@@ -1,4 +1,4 @@
-// What every call judges, and what a refusal answers.
+// What every call after a start judges, and what a refusal answers.
 use describe::judge::table_number;
 use fitness::is_unfit;
 use promise::Done;
@@ -18,7 +18,7 @@ pub(crate) fn quiet(number: u8, state: State) -> Done
     }
 }
 
-// The lowest number of what every call judges: the table, the outbox (32,768 where a call is lent none), the values area, the state and
+// The lowest number of what every call after a start judges: the table, the outbox (32,768 where a call is lent none), the values area, the state and
 // the time.
 pub(crate) fn lent_number(table: &[u8], values: &[u8], outbox: usize, state: State, time: u64) -> u8
     ensures { λ r. ⌜ r ≡ lentNumber (now (table .entry)) (now (values .entry)) outbox state time ⌝ }

@@ -8,12 +8,12 @@ use state::State;
 use table::layout::Part;
 ghost use Prim.Native.Nat.{_≤_, _<_};
 ghost use mathlib.Core.Path.{_≡_};
-ghost use Rattle.promise.specs.Shown.{Shows};
+ghost use Rattle.promise.specs.Shown.{notShown, Shows};
 ghost use Rattle.node.specs.Part.{partShown};
 
 // A refusal.
 fn not_shown(number: u8) -> Shown
-    ensures { λ r. ⌜ r ≡ record { number = number; stored = 0; from = 0; size = 0; time = 0 } ⌝ }
+    ensures { λ r. ⌜ r ≡ notShown number ⌝ }
 {
     Shown {
         number,

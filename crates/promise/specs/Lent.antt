@@ -1,4 +1,4 @@
--- What every call judges of what it is lent: table, outbox, values area, state and time, in the order of the numbers. Assumes nothing.
+-- What every call after a start judges of what it is lent: table, outbox, values area, state and time, in the order of the numbers. Assumes nothing.
 use Prim.Native.Nat.{ℕ}
 use mathlib.Core.List.{List, [], _∷_}
 use lib.ListN.{length}

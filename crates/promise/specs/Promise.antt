@@ -80,5 +80,6 @@ pub record Begins (table values : List ℕ) (time : ℕ) (r : Done) : Type 0 whe
   pub used : r .used ≡ 0
   pub writes : r .written ≡ 0
   pub state : r .state ≡ blank (cond (eqb (r .number) 0) time 0)
-  pub node : view table (r .state) values ≡ started table (length values) time
-  pub fit : r .number ≡ 0 → isUnfit (tableOf table) (r .state) values ≡ false
+  -- with any values area, since nothing is stored yet
+  pub node : (own : List ℕ) → view table (r .state) own ≡ started table (length values) time
+  pub fit : r .number ≡ 0 → (own : List ℕ) → isUnfit (tableOf table) (r .state) own ≡ false

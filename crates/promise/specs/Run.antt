@@ -20,7 +20,7 @@ kit s values = record { state = s; values = values }
 abbrev pub hears : Done → List ℕ → Heard
 hears r outbox = record { number = r .number; used = r .used; written = take (r .written) outbox }
 
--- A call of one of the four functions after a start that kept its promise: what was handed in, the call as the plain node takes it, what was
+-- A call, which kept its promise, of one of the four functions after a start: what was handed in, the call as the plain node takes it, what was
 -- handed back, and what was heard.
 pub data Called (table : List ℕ) : Kit → Call → Kit → Heard → Type 0 where
   by-open : (s : State) (values : List ℕ) (c t : ℕ) (r : Done) → Kept table (Open c t (length values)) s values [] r values []
@@ -45,7 +45,8 @@ pub data Called (table : List ℕ) : Kit → Call → Kit → Heard → Type 0 w
   lent-less : {s : State} {values lent : List ℕ} {e : Call} {k : Kit} {a : Heard} → length lent < 16384 → Called table (kit s lent) e k a
       → Called table (kit s values) e (kit (k .state) values) a
 
--- each call is given the state as the last one left it, and the values area, unless it is lent one that is too small
+-- each call is given the state as the last one left it, and the values area, unless it is lent one that is too small; calls that are lent another
+-- one that is large enough are in no run
 pub data Run (table : List ℕ) : Kit → List Call → Kit → List Heard → Type 0 where
   ended : (k : Kit) → Run table k [] k []
   called : {k l m : Kit} {e : Call} {h : List Call} {a : Heard} {as′ : List Heard}

@@ -2,17 +2,19 @@
 use Prim.Native.Nat.{ℕ, _+_, _≤_}
 use mathlib.Core.Bool.{cond, not}
 use mathlib.Core.List.{List, [], _∷_}
-use mathlib.Core.Logic.{_≢_}
+use mathlib.Core.Option.{Option, none, some}
 use mathlib.Core.Path.{_≡_}
 use lib.Dec.{eqb}
-use lib.ListN.{length, take, drop, getElem?}
+use lib.ListN.{length, getD, take, drop, getElem?}
 use Rattle.ascii.specs.Bytes.{isSome}
 use Rattle.table.specs.Layout.{tableOf}
-use Rattle.table.specs.Search.{parameters}
+use Rattle.table.specs.Table.{Parameter}
+use Rattle.table.specs.Search.{Placed, parameters}
 use Rattle.report.specs.Judge.{fault, lowest}
 use Rattle.plain.specs.Node.{Value}
+use Rattle.state.specs.declared.Settings.{Settings}
 use Rattle.state.specs.declared.State.{State}
-use Rattle.state.specs.View.{view}
+use Rattle.state.specs.View.{placeOf, view}
 use Rattle.promise.specs.declared.Shown.{Shown}
 use Rattle.promise.specs.Lent.{lentNumber}
 
@@ -20,6 +22,31 @@ use Rattle.promise.specs.Lent.{lentNumber}
 unfoldable pub valueNumber : List ℕ → List ℕ → State → ℕ → ℕ
 valueNumber table values s p =
     lowest (lentNumber table values 32768 s 0 ∷ fault 14 (not (isSome (getElem? (parameters (tableOf table)) p))) ∷ [])
+
+-- a refusal answers its number only
+abbrev pub notShown : ℕ → Shown
+notShown k = record { number = k; stored = 0; from = 0; size = 0; time = 0 }
+
+-- where the value that parameter p, which is x, shows lies: its initial value's part of the table, or the part of its place in the values area
+-- that is stored
+unfoldable pub partOf : Settings → ℕ → Parameter → Shown
+partOf s p x =
+    cond
+    (eqb (getD (s .length) p 0) 0)
+    (record { number = 0; stored = 0; from = x .place; size = length (x .initial); time = getD (s .time) p 0 })
+    (record { number = 0; stored = 1; from = placeOf p; size = getD (s .length) p 0; time = getD (s .time) p 0 })
+
+unfoldable pub partAt : Settings → ℕ → Option (Placed Parameter) → Shown
+partAt s p none = notShown 14
+partAt s p (some x) = partOf s p (x .it)
+
+-- the answer
+unfoldable pub valueShown : List ℕ → List ℕ → State → ℕ → Shown
+valueShown table values s p =
+    cond
+    (eqb (valueNumber table values s p) 0)
+    (partAt (s .settings) p (getElem? (parameters (tableOf table)) p))
+    (notShown (valueNumber table values s p))
 
 -- the buffer that the answer's part lies in: the table, or the values area where the value is a stored one
 unfoldable pub heldIn : List ℕ → List ℕ → Shown → List ℕ
@@ -29,11 +56,10 @@ heldIn table values r = cond (eqb (r .stored) 0) table values
 abbrev pub valueOf : List ℕ → List ℕ → State → ℕ → Value
 valueOf table values s p = view table s values .values p
 
--- "the value shown is then the part of the table ..": asked for parameter p, the call answers r, where that part lies; it writes nothing, and a
--- refusal answers its number only
+-- "the value shown is then the part of the table ..": asked for parameter p, the call answers r, and what lies there is the value that the plain
+-- node holds; it writes nothing
 pub record Shows (table values : List ℕ) (s : State) (p : ℕ) (r : Shown) : Type 0 where
-  pub number : r .number ≡ valueNumber table values s p
+  pub is : r ≡ valueShown table values s p
   pub within : r .number ≡ 0 → r .from + r .size ≤ length (heldIn table values r)
   pub text : r .number ≡ 0 → take (r .size) (drop (r .from) (heldIn table values r)) ≡ valueOf table values s p .text
   pub time : r .number ≡ 0 → r .time ≡ valueOf table values s p .time
-  pub refused : r .number ≢ 0 → r ≡ record { number = r .number; stored = 0; from = 0; size = 0; time = 0 }

@@ -23,7 +23,7 @@ use Rattle.plain.specs.Answer.{Outcome, refused, carried, outcome, activates, d
 use Rattle.plain.specs.Calls.{Call, Open, Close, Piece, Reading, Answer, beforeFeed}
 use Rattle.plain.specs.History.{step}
 use Rattle.rule.specs.Records.{updatesFor, repliesFor, inScopeOf, reportsOf, activeBy, activeAfter}
-use Rattle.rule.specs.Theorems.{requestOf, ToActive, UpdatesGoToActiveClients, Set, ReadingSets, ReadingsAreSentToAll, Changed, ChangeSets, OfPiece, of-piece, ChangesAreSentToAll, Setting, by-reading, by-change, ValuesAlterBySettings, InitialUpdates, ActivationsSendAll, ActivationsAreOnesOwn, AltersNothing, ErrorsAlterNothing}
+use Rattle.rule.specs.Theorems.{requestOf, ToActive, UpdatesGoToActiveClients, Set, ReadingSets, ReadingsAreSentToAll, Changed, ChangeSets, OfPiece, of-piece, ChangesAreSentToAll, BySetting, by-reading, by-change, ValuesAlterBySettings, InitialUpdates, ActivationsSendAll, ActivationsAreOnesOwn, AltersNothing, ErrorsAlterNothing}
 use Rattle.rule.proofs.Laws.{parameter-home, put-same, put-other, put-all, receive-active, emptied-open, emptied-active, activated-active, active-open, updates-append, replies-append, no-final-replies, updates-to-member, updates-of-member, updates-of-for, sent-once, sent-never}
 use Rattle.rule.proofs.Outcomes.{Simple, by-identify, by-describe, by-ping, LetIn, doneOf, ordering, outcome-holds}
 use Rattle.rule.proofs.Calls.{replyTo, before, nodeAfter, quiet, idle, partsAt, outcomeAt, Answered, Did, opened, shut, received, read, line, every-call, accepted-call, Line-of, line-of, line-of-final, refusals-alter-nothing}
@@ -272,7 +272,7 @@ alters w n c now p q =
     q
 
 line-alters : (w : Table) (n m : Node) (c : ℕ) (bs : List ℕ) (t a o : ℕ) (x : Answer) → Answered w n c bs t m (x .records)
-    → (m .values ≡ n .values) ⊎ Setting (Piece c bs t a o) x
+    → (m .values ≡ n .values) ⊎ BySetting (Piece c bs t a o) x
 line-alters w n m c bs t a o x h =
     let y : Outcome = outcomeAt w n c bs t in
     ⊎-elim
@@ -287,7 +287,7 @@ line-alters w n m c bs t a o x h =
     (alters w (idle n c) c t (partsAt n c bs) (requestOf n c bs))
 
 did-alter : {w : Table} {n m : Node} {e : Call} (x : Answer) → x .number ≡ 0 → (rs : List Record) → x .records ≡ rs → Did w n e m rs
-    → (m .values ≡ n .values) ⊎ Setting e x
+    → (m .values ≡ n .values) ⊎ BySetting e x
 did-alter x z rs q opened = inl refl
 did-alter x z rs q shut = inl refl
 did-alter x z rs q (received f) = inl refl
@@ -298,7 +298,7 @@ did-alter {w} {n} {m} x z rs q (line {c = c} {bs = bs} {t = t} {a = a} {o = o} f
 pub values-alter-by-settings : ValuesAlterBySettings
 values-alter-by-settings table n e = go (step table n e .1 .number) refl
   where
-    go : (j : ℕ) → step table n e .1 .number ≡ j → (step table n e .0 .values ≡ n .values) ⊎ Setting e (step table n e .1)
+    go : (j : ℕ) → step table n e .1 .number ≡ j → (step table n e .0 .values ≡ n .values) ⊎ BySetting e (step table n e .1)
     go zero z = did-alter (step table n e .1) z (step table n e .1 .records) refl (accepted-call table n e z)
     go (suc j) z = inl (ap (λ (x : Node). x .values) (refusals-alter-nothing table n e j z .node))
 

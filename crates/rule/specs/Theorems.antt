@@ -105,13 +105,13 @@ GoodChangesAreMade = (table : List ℕ) (n : Node) (c : ℕ) (bs : List ℕ) (t 
     Changed (tableOf table) n (s .0) c k p (record { text = storedForm offered; time = t }) (s .1 .records)
 
 -- No other call alters a value: of a call that alters one, either it is an accepted reading, or its line was replied to by `changed`.
-pub data Setting : Call → Answer → Type 0 where
-  by-reading : {k : ℕ} {bs : List ℕ} {t a o : ℕ} {x : Answer} → x .number ≡ 0 → Setting (Reading k bs t a o) x
-  by-change : {e : Call} {x : Answer} (c : ℕ) (r : Report) → List·Memᴰ (final c (changed r)) (x .records) → Setting e x
+pub data BySetting : Call → Answer → Type 0 where
+  by-reading : {k : ℕ} {bs : List ℕ} {t a o : ℕ} {x : Answer} → x .number ≡ 0 → BySetting (Reading k bs t a o) x
+  by-change : {e : Call} {x : Answer} (c : ℕ) (r : Report) → List·Memᴰ (final c (changed r)) (x .records) → BySetting e x
 
 abbrev pub ValuesAlterBySettings : Type 0
 ValuesAlterBySettings = (table : List ℕ) (n : Node) (e : Call)
-    → (step table n e .0 .values ≡ n .values) ⊎ Setting e (step table n e .1)
+    → (step table n e .0 .values ≡ n .values) ⊎ BySetting e (step table n e .1)
 
 -- `activate` that is replied to by `active` sends its client an update for each parameter of the modules in scope, in table order, and
 -- nobody else any.

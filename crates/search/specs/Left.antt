@@ -146,7 +146,7 @@ module _ {A : Type 0} (of : List Table.Accessible → List A) (asOne : Table.Com
     pub held : CommandIn s q
     pub first : FirstIs of s c e (asOne (commandOf s q (held .argument)))
 
--- a module begins at c, and its accessibles at e
+-- e is in a module that begins after c, and what is left at c is left at e
 pub record ModuleFirst (s : List ℕ) (c e : Cursor) : Type 0 where
   pub after : After s c e
   pub goes : Goes accessiblesOf s c e

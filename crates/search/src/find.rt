@@ -1,4 +1,4 @@
-// Modules and parameters by name and number, and commands by name, in a table that can be read. Names are compared as they stand.
+// Modules and commands by name, parameters by name and by number, in a table that can be read. Names are compared as they stand.
 use crate::cursor::NextCommand;
 use crate::cursor::NextParameter;
 use crate::cursor::first_cursor;

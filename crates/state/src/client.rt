@@ -35,7 +35,7 @@ pub fn closed(s: Clients, c: usize) -> Clients
     let mut next = s;
     next.open[c] = 0;
     next.overlong[c] = 0;
-    next.active[c] = 0;
+    next.active[c] = 0; // so no update goes to it
     next.length[c] = 0;
     next
 }

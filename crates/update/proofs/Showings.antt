@@ -45,7 +45,7 @@ use Rattle.fitness.proofs.Whole.{drop-there, past-64}
 use Rattle.outcome.specs.Ready.{Ready}
 use Rattle.update.specs.declared.Scope.{Scope}
 use Rattle.update.specs.Scope.{wanted}
-use Rattle.update.specs.Shown.{shownReport, Shows}
+use Rattle.update.specs.Updatable.{shownReport, Updatable}
 use Rattle.update.proofs.Sendings.{Going, going-start, going-room, going-on, going-end, going-length, room-update}
 
 -- ## One parameter
@@ -65,7 +65,7 @@ module _ (table : List ℕ) (s : Settings) (values out : List ℕ) (at c : ℕ) 
     unfolding shownReport
     same-report = rw (hm, ha, hv)
 
-    pub shown-room : Shows table s values out at c scope k q e → RoomFor out at (update c (reportOf m a v (getD (s .time) k 0)))
+    pub shown-room : Updatable table s values out at c scope k q e → RoomFor out at (update c (reportOf m a v (getD (s .time) k 0)))
     shown-room g = rw same-report at (g .room (sym h ∙ not-false b z))
 
     pub shown-put : {f : List ℕ} {p : ℕ} → Puts out at (encode (update c (reportOf m a v (getD (s .time) k 0)))) f p
@@ -161,7 +161,7 @@ module _ (table : List ℕ) (s : Settings) (values : List ℕ) (c : ℕ) (scope 
         -- if all of them are fine and have room, so has the next
         own-shows : ((j : ℕ) (x : Placed Parameter) → getElem? (parameters (tableOf table)) j ≡ some x → Fine (Node.reportOf x (shownAt j)))
             → 0 + length (encodeAll every) ≤ length d → settingsUnfit s values 0 (parameters (tableOf table)) ≡ false → 16384 ≤ length values → k < 64
-            → Shows table s values e p c scope k q n
+            → Updatable table s values e p c scope k q n
         own-shows f l u v y =
             record {
               low = y;
@@ -198,6 +198,6 @@ module _ (table : List ℕ) (s : State) (values : List ℕ) (c : ℕ) (scope : S
       omega arith
 
   pub next-shows : (k : ℕ) (i : Cursor) (e : List ℕ) (p : ℕ) → Sent table (s .settings) values c scope d k i e p → (r : P.NextParameter) → NextParameterIs table i r
-      → (q : ParameterAt) (n : Cursor) → r ≡ P.the-variants.At q n → k < 64 → Shows table (s .settings) values e p c scope k q n
+      → (q : ParameterAt) (n : Cursor) → r ≡ P.the-variants.At q n → k < 64 → Updatable table (s .settings) values e p c scope k q n
   next-shows k i e p h r hr q n z y =
       own-shows table (s .settings) values c scope d k i e p h r hr q n z (g .lent .accepted) fine-at all-room fit (g .area) y

@@ -1,2 +1,2 @@
 pub mod Scope
-pub mod Shown
+pub mod Updatable

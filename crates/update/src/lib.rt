@@ -15,7 +15,7 @@ ghost use Rattle.plain.specs.Node.{clientNumbers, updatesTo, updatesOf};
 ghost use Rattle.state.specs.View.{clientAt, view};
 ghost use Rattle.outcome.specs.Ready.{Ready};
 ghost use Rattle.update.specs.Scope.{wanted};
-ghost use Rattle.update.specs.Shown.{shownReport, Shows};
+ghost use Rattle.update.specs.Updatable.{shownReport, Updatable};
 use outbox::write::put_update;
 use search::cursor::Cursor;
 use search::cursor::NextParameter;
@@ -101,7 +101,7 @@ fn put_shown<'a>(
     p: ParameterAt,
     next: Cursor,
 ) -> usize
-    requires { ⌜ Shows (now table) settings (now values) (now out) at client scope k p next ⌝ }
+    requires { ⌜ Updatable (now table) settings (now values) (now out) at client scope k p next ⌝ }
     ensures { λ r. ⌜ Puts (now (out .entry)) at (encodeAll (cond (wanted scope (next .modules - 1)) (update client (shownReport (now (table .entry)) settings (now (values .entry)) k p next) ∷ []) [])) (now (out .exit)) r ⌝ }
 {
     let home = next.modules - 1;

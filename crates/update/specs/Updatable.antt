@@ -27,7 +27,7 @@ shownReport table s values k q e =
     }
 
 -- all of it lies in the table and the values area, and the outbox has room for the update, if the scope has the parameter's module
-pub record Shows (table : List ℕ) (s : Settings) (values out : List ℕ) (at c : ℕ) (scope : Scope) (k : ℕ) (q : ParameterAt) (e : Cursor) : Type 0 where
+pub record Updatable (table : List ℕ) (s : Settings) (values out : List ℕ) (at c : ℕ) (scope : Scope) (k : ℕ) (q : ParameterAt) (e : Cursor) : Type 0 where
   pub low : k < 64
   pub short : getD (s .length) k 0 ≤ 256
   pub area : 16384 ≤ length values
