@@ -87,6 +87,13 @@ module _ (xs : List ℕ) (from to : ℕ) (o : from ≤ to) (w : to ≤ length xs
     unfolding after
     after-stop n g = ap tail (s .is) ∙ g .is
 
+  -- what begins at n ends where the part ends
+  to-end : (n : ℕ) → n ≤ to → (l : List ℕ) → l ≡ drop n (take to xs) → n + length l ≡ to
+  to-end n h l e =
+      let m : length l ≡ length (take to xs) - n = ap length e ∙ length-drop n (take to xs) in
+      let k = length-take-le to xs w in
+      omega arith
+
 -- ## Cut twice
 
 pub cuts :
@@ -106,11 +113,16 @@ cuts xs p stop a n b m w sa ga sb gb =
     let x3 = sb .low in
     let x4 = gb .low in
     let whole = left xs f t o i in
+    let once = ap (after stop) whole ∙ after-stop xs f t o i stop a sa n ga in
+    let twice = ap (after stop) once ∙ after-stop xs n t an i stop b sb m gb in
     record {
       first = before-stop xs f t o i stop a sa ∙ ap (before stop) (sym whole);
-      second = before-stop xs n t an i stop b sb ∙ ap (before stop) (sym (ap (after stop) whole ∙ after-stop xs f t o i stop a sa n ga));
-      rest = left xs m t bm i ∙ sym (ap (λ (l : List ℕ). after stop (after stop l)) whole ∙ ap (after stop) (after-stop xs f t o i stop a sa n ga) ∙ after-stop xs n t an i stop b sb m gb);
+      second = before-stop xs n t an i stop b sb ∙ ap (before stop) (sym once);
+      rest = left xs m t bm i ∙ sym twice;
       first-in = record { ordered = x1; within = omega arith };
       second-in = record { ordered = x3; within = omega arith };
       rest-in = record { ordered = bm; within = i };
+      first-at = refl;
+      second-at = to-end xs f t o i n an _ once;
+      rest-at = to-end xs f t o i m bm _ twice;
     }

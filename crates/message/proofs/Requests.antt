@@ -37,6 +37,7 @@ module _ (xs : List ℕ) (end : ℕ) (e : Ends xs end (content (whole xs))) wher
   unfolding partsOf beforeSpace afterSpace before after fromStop
   parted z r k =
       let w : take (end - 0) xs ≡ content (whole xs) = ap (λ (n : ℕ). take n xs) (sub-zero end) ∙ e .is in
+      let n : end ≡ length (content (whole xs)) = sym (length-take-le end xs (e .within)) ∙ ap length (e .is) in
       record {
         some = rw (← (e .is), length-take-le end xs (e .within)) (omega arith);
         action-is = k .first ∙ rw w;
@@ -45,6 +46,9 @@ module _ (xs : List ℕ) (end : ℕ) (e : Ends xs end (content (whole xs))) wher
         action-in = k .first-in;
         specifier-in = k .second-in;
         payload-in = k .rest-in;
+        action-at = k .first-at;
+        specifier-at = rw w at (k .second-at ∙ n);
+        payload-at = rw w at (k .rest-at ∙ n);
       }
 
 -- ## Words, which the code tries in turn
@@ -116,31 +120,31 @@ module _ (xs : List ℕ) (a s : Part) (w : Action) (e : w ≡ actionOf (part xs 
 
   pub asks-identify : w ≡ Identify → Asks xs a s Q.Identify
   unfolding asked
-  asks-identify h = record { is = λ x. ap (λ (v : Action). asked v (parts xs a s x)) (sym h) ∙ asks x; inside = tt }
+  asks-identify h = record { is = λ x. ap (λ (v : Action). asked v (parts xs a s x)) (sym h) ∙ asks x; inside = tt; begin = tt }
 
   pub asks-describe : w ≡ Describe → Asks xs a s Q.Describe
   unfolding asked
-  asks-describe h = record { is = λ x. ap (λ (v : Action). asked v (parts xs a s x)) (sym h) ∙ asks x; inside = tt }
+  asks-describe h = record { is = λ x. ap (λ (v : Action). asked v (parts xs a s x)) (sym h) ∙ asks x; inside = tt; begin = tt }
 
   pub asks-ping : w ≡ Ping → Asks xs a s Q.Ping
   unfolding asked
-  asks-ping h = record { is = λ x. ap (λ (v : Action). asked v (parts xs a s x)) (sym h) ∙ asks x; inside = tt }
+  asks-ping h = record { is = λ x. ap (λ (v : Action). asked v (parts xs a s x)) (sym h) ∙ asks x; inside = tt; begin = tt }
 
   pub asks-nothing : w ≡ Unknown → Asks xs a s Q.Malformed
   unfolding asked
-  asks-nothing h = record { is = λ x. ap (λ (v : Action). asked v (parts xs a s x)) (sym h) ∙ asks x; inside = tt }
+  asks-nothing h = record { is = λ x. ap (λ (v : Action). asked v (parts xs a s x)) (sym h) ∙ asks x; inside = tt; begin = tt }
 
   pub asks-scoped :
       (v : Switch) (r : Request) → w ≡ Scoped v → AsksScoped xs s v r
       → Asks xs a s r
   unfolding asked
-  asks-scoped v r h k = record { is = λ x. k .is x ∙ ap (λ (v : Action). asked v (parts xs a s x)) (sym h) ∙ asks x; inside = k .inside }
+  asks-scoped v r h k = record { is = λ x. k .is x ∙ ap (λ (v : Action). asked v (parts xs a s x)) (sym h) ∙ asks x; inside = k .inside; begin = k .begin }
 
   pub asks-named :
       (v : Verb) (r : Request) → w ≡ Named v → AsksNamed xs s v r
       → Asks xs a s r
   unfolding asked
-  asks-named v r h k = record { is = λ x. k .is x ∙ ap (λ (v : Action). asked v (parts xs a s x)) (sym h) ∙ asks x; inside = k .inside }
+  asks-named v r h k = record { is = λ x. k .is x ∙ ap (λ (v : Action). asked v (parts xs a s x)) (sym h) ∙ asks x; inside = k .inside; begin = k .begin }
 
 -- ## Modules: all, or a name
 
@@ -159,10 +163,10 @@ module _ (xs : List ℕ) (p : Part) (w : Within xs p) where
         rw (eq-eqb _ _ z)
 
     pub all-on : p .from ≡ p .to → v ≡ On → AsksScoped xs p v Q.ActivateAll
-    all-on e h = record { is = λ x. sym (all-modules e ∙ rw h); inside = tt }
+    all-on e h = record { is = λ x. sym (all-modules e ∙ rw h); inside = tt; begin = tt }
 
     pub all-off : p .from ≡ p .to → v ≡ Off → AsksScoped xs p v Q.DeactivateAll
-    all-off e h = record { is = λ x. sym (all-modules e ∙ rw h); inside = tt }
+    all-off e h = record { is = λ x. sym (all-modules e ∙ rw h); inside = tt; begin = tt }
 
     module _ (n : p .from ≡ p .to → ⊥) (r : Cut) (k : Cuts xs p 58 r) {t : Bool} (d : t ≡ isName (part xs (r .first))) where
       one-module : scoped (switchRequest v) (part xs p) ≡ cond t (switchRequest v (some (part xs (r .first)))) R.malformed
@@ -173,13 +177,13 @@ module _ (xs : List ℕ) (p : Part) (w : Within xs p) where
           rw (ne-eqb _ _ z, ← (k .first), d)
 
       pub bad-module : t ≡ false → AsksScoped xs p v Q.Malformed
-      bad-module h = record { is = λ x. sym (one-module ∙ rw h); inside = tt }
+      bad-module h = record { is = λ x. sym (one-module ∙ rw h); inside = tt; begin = tt }
 
       pub module-on : t ≡ true → v ≡ On → AsksScoped xs p v (Q.Activate (r .first))
-      module-on h g = record { is = λ x. sym (one-module ∙ rw (h, g)); inside = k .first-in }
+      module-on h g = record { is = λ x. sym (one-module ∙ rw (h, g)); inside = k .first-in; begin = k .first-at }
 
       pub module-off : t ≡ true → v ≡ Off → AsksScoped xs p v (Q.Deactivate (r .first))
-      module-off h g = record { is = λ x. sym (one-module ∙ rw (h, g)); inside = k .first-in }
+      module-off h g = record { is = λ x. sym (one-module ∙ rw (h, g)); inside = k .first-in; begin = k .first-at }
 
 -- ## Accessibles
 
@@ -191,23 +195,23 @@ module _ (xs : List ℕ) (p : Part) (v : Verb) (r : Cut) (k : Cuts xs p 58 r) {t
   both x = rw (← (k .first), ← (k .second))
 
   pub first-bad : t ≡ false → AsksNamed xs p v Q.Malformed
-  first-bad h = record { is = λ x. sym (both x ∙ rw (sym d ∙ h)); inside = tt }
+  first-bad h = record { is = λ x. sym (both x ∙ rw (sym d ∙ h)); inside = tt; begin = tt }
 
   module _ (h : t ≡ true) {u : Bool} (f : u ≡ isName (part xs (r .second))) where
     pub second-bad : u ≡ false → AsksNamed xs p v Q.Malformed
-    second-bad g = record { is = λ x. sym (both x ∙ rw (sym d ∙ h, sym f ∙ g)); inside = tt }
+    second-bad g = record { is = λ x. sym (both x ∙ rw (sym d ∙ h, sym f ∙ g)); inside = tt; begin = tt }
 
     good : u ≡ true → (x : List ℕ) → named (verbRequest v x) (part xs p) ≡ verbRequest v x (part xs (r .first)) (part xs (r .second))
     good g x = both x ∙ rw (sym d ∙ h, sym f ∙ g)
 
     pub good-read : u ≡ true → v ≡ Verb.Read → AsksNamed xs p v (Q.Read (r .first) (r .second))
-    good-read g q = record { is = λ x. sym (good g x ∙ rw q); inside = (k .first-in, k .second-in) }
+    good-read g q = record { is = λ x. sym (good g x ∙ rw q); inside = (k .first-in, k .second-in); begin = record { module-at = k .first-at; accessible-at = k .second-at } }
 
     pub good-change : u ≡ true → v ≡ Verb.Change → AsksNamed xs p v (Q.Change (r .first) (r .second))
-    good-change g q = record { is = λ x. sym (good g x ∙ rw q); inside = (k .first-in, k .second-in) }
+    good-change g q = record { is = λ x. sym (good g x ∙ rw q); inside = (k .first-in, k .second-in); begin = record { module-at = k .first-at; accessible-at = k .second-at } }
 
     pub good-execute : u ≡ true → v ≡ Verb.Execute → AsksNamed xs p v (Q.Execute (r .first) (r .second))
-    good-execute g q = record { is = λ x. sym (good g x ∙ rw q); inside = (k .first-in, k .second-in) }
+    good-execute g q = record { is = λ x. sym (good g x ∙ rw q); inside = (k .first-in, k .second-in); begin = record { module-at = k .first-at; accessible-at = k .second-at } }
 
 -- ## A whole line
 

@@ -1,5 +1,5 @@
 -- What the code that takes a line apart answers: a part of a line stands for the bytes between its positions. Assumes nothing.
-use Prim.Native.Nat.{ℕ, _≤_, _-_, _<_}
+use Prim.Native.Nat.{ℕ, _≤_, _+_, _-_, _<_}
 use mathlib.Core.Path.{_≡_}
 use mathlib.Core.Bool.{cond, not}
 use mathlib.Core.List.{List, []}
@@ -8,7 +8,7 @@ use lib.Dec.{eqb}
 use lib.ListN.{length, take, drop}
 use Rattle.ascii.specs.Text.{bytes}
 use Rattle.ascii.specs.Bytes.{takeWhile, dropWhile, tail, same}
-use Rattle.message.specs.Line.{Parts, content, whole, partsOf}
+use Rattle.message.specs.Line.{Parts, content, whole, afterSpace, partsOf}
 use Rattle.message.specs.Request as R
 use Rattle.message.specs.Request.{scoped, named, orNull, request}
 use Rattle.message.specs.declared.line.Part.{Part}
@@ -62,7 +62,7 @@ pub record Goes (s : List ℕ) (at r : ℕ) : Type 0 where
   pub low : at ≤ r
   pub high : r ≤ length s
 
--- a part cut at the first and the second `stop`
+-- a part cut at the first and the second `stop`; each piece begins so that what it begins ends where the part ends
 pub record Cuts (xs : List ℕ) (p : Part) (stop : ℕ) (r : Cut) : Type 0 where
   pub first : part xs (r .first) ≡ before stop (part xs p)
   pub second : part xs (r .second) ≡ before stop (after stop (part xs p))
@@ -70,8 +70,12 @@ pub record Cuts (xs : List ℕ) (p : Part) (stop : ℕ) (r : Cut) : Type 0 where
   pub first-in : Within xs (r .first)
   pub second-in : Within xs (r .second)
   pub rest-in : Within xs (r .rest)
+  pub first-at : r .first .from ≡ p .from
+  pub second-at : r .second .from + length (after stop (part xs p)) ≡ p .to
+  pub rest-at : r .rest .from + length (after stop (after stop (part xs p))) ≡ p .to
 
--- the three parts of a line that has content
+-- the three parts of a line that has content: the action begins with it, the specifier after the first space and the data after the second,
+-- or where the content ends
 pub record Parted (xs : List ℕ) (action specifier payload : Part) : Type 0 where
   pub some : 0 < length (content (whole xs))
   pub action-is : part xs action ≡ partsOf (content (whole xs)) .action
@@ -80,6 +84,9 @@ pub record Parted (xs : List ℕ) (action specifier payload : Part) : Type 0 whe
   pub action-in : Within xs action
   pub specifier-in : Within xs specifier
   pub payload-in : Within xs payload
+  pub action-at : action .from ≡ 0
+  pub specifier-at : specifier .from + length (afterSpace (content (whole xs))) ≡ length (content (whole xs))
+  pub payload-at : payload .from + length (afterSpace (afterSpace (content (whole xs)))) ≡ length (content (whole xs))
 
 -- a line without content is bad
 abbrev pub Parses : List ℕ → Parsed → Type 0
@@ -129,6 +136,25 @@ Inside xs (Q.Change m a) = (Within xs m) × (Within xs a)
 Inside xs (Q.Execute m a) = (Within xs m) × (Within xs a)
 Inside xs Q.Malformed = Unit
 
+-- the module's name begins with the specifier s, the accessible's after its first `:` (58): what begins there ends with the specifier
+pub record NamedIn (xs : List ℕ) (s m a : Part) : Type 0 where
+  pub module-at : m .from ≡ s .from
+  pub accessible-at : a .from + length (after 58 (part xs s)) ≡ s .to
+
+-- where the names of a request begin, in the specifier s
+abbrev pub Begin : List ℕ → Part → Request → Type 0
+Begin xs s Q.Identify = Unit
+Begin xs s Q.Describe = Unit
+Begin xs s Q.Ping = Unit
+Begin xs s Q.ActivateAll = Unit
+Begin xs s (Q.Activate m) = m .from ≡ s .from
+Begin xs s Q.DeactivateAll = Unit
+Begin xs s (Q.Deactivate m) = m .from ≡ s .from
+Begin xs s (Q.Read m a) = NamedIn xs s m a
+Begin xs s (Q.Change m a) = NamedIn xs s m a
+Begin xs s (Q.Execute m a) = NamedIn xs s m a
+Begin xs s Q.Malformed = Unit
+
 -- a line's parts, with the data x
 abbrev pub parts : List ℕ → Part → Part → List ℕ → Parts
 parts xs a s x = record { action = part xs a; specifier = part xs s; payload = x }
@@ -147,13 +173,16 @@ verbRequest Verb.Execute x m a = R.execute m a (orNull x)
 pub record AsksScoped (xs : List ℕ) (specifier : Part) (v : Switch) (r : Request) : Type 0 where
   pub is : (x : List ℕ) → meaning xs (part xs specifier) x r ≡ scoped (switchRequest v) (part xs specifier)
   pub inside : Inside xs r
+  pub begin : Begin xs specifier r
 
 -- the same of accessibles
 pub record AsksNamed (xs : List ℕ) (specifier : Part) (v : Verb) (r : Request) : Type 0 where
   pub is : (x : List ℕ) → meaning xs (part xs specifier) x r ≡ named (verbRequest v x) (part xs specifier)
   pub inside : Inside xs r
+  pub begin : Begin xs specifier r
 
 -- the answer r stands for what the line's action and specifier ask for, whatever the data is
 pub record Asks (xs : List ℕ) (action specifier : Part) (r : Request) : Type 0 where
   pub is : (x : List ℕ) → meaning xs (part xs specifier) x r ≡ request (parts xs action specifier x)
   pub inside : Inside xs r
+  pub begin : Begin xs specifier r

@@ -1,39 +1,59 @@
--- Every good change is made. Assumes nothing.
+-- Every good request is carried out. Assumes nothing.
 use Prim.Native.Nat.{ℕ, zero, suc}
-use mathlib.Core.Bool.{Bool, true, false, cond, true≢false}
-use mathlib.Core.List.{List, [], _∷_}
+use mathlib.Core.Bool.{Bool, true, false, cond, not, _&&_, true≢false, or-true}
+use mathlib.Core.List.{List, [], _∷_, _++_, map}
+use mathlib.Core.Logic.{_⊎_, inl, inr}
 use mathlib.Core.Option.{Option, none, some, Option·some-injective}
 use mathlib.Core.Path.{_≡_, refl, sym, _∙_, ap}
-use lib.ListN.{getElem?}
+use lib.Dec.{eqb}
+use lib.ListN.{length, getElem?}
 use native.Mathlib.Omega.{arith}
+use borrow.Author.Tests.{lt-ltb}
 use Rattle.ascii.specs.Bytes.{isSome, same}
 use Rattle.fit.specs.Fit.{fits, verdict, storedForm}
-use Rattle.table.specs.Table.{Parameter, Module, Table}
-use Rattle.table.specs.Search.{Placed, parameters, firstFrom, first, findModule, findParameter}
-use Rattle.message.specs.Request.{change}
-use Rattle.message.specs.Error.{NoSuchModule, NoSuchParameter}
-use Rattle.outbox.specs.Outbox.{Record}
-use Rattle.plain.specs.Node.{Node}
-use Rattle.plain.specs.Answer.{outcome, found, letIn, changes, sets}
+use Rattle.table.specs.Table.{Parameter, Command, Accessible, Module, Table}
+use Rattle.table.specs.Search.{Placed, parametersOf, commandsOf, placedFrom, parameters, commands, firstFrom, first, findModule, findParameter, findCommand}
+use Rattle.message.specs.Request.{Request, activate, deactivate, read, change, execute}
+use Rattle.message.specs.Error.{Class, NoSuchModule}
+use Rattle.outbox.specs.Outbox.{Record, final}
+use Rattle.plain.specs.Node.{Client, Node, withClient, isOpen, isActive, emptied, activated}
+use Rattle.plain.specs.Answer.{Outcome, outcome, found, letIn, argumentVerdict, inScope, activates, deactivates, reads, changes, sets, does}
 use Rattle.plain.specs.Calls.{Piece, hasFeed}
-use Rattle.rule.specs.Theorems.{requestOf, Changed, GoodChangesAreMade}
-use Rattle.rule.proofs.Laws.{found-there, found-in}
-use Rattle.rule.proofs.Calls.{idle, Did, received, line, accepted-call}
+use Rattle.rule.specs.Records.{inScopeOf, isThere}
+use Rattle.rule.specs.Theorems.{requestOf, GoodChangesAreMade, Activated, Deactivated, GoodActivationsAreMade, GoodReadsAreAnswered, GoodCommandsAreOrdered}
+use Rattle.rule.proofs.Laws.{found-there, found-in, put-same, emptied-open, activated-active}
+use Rattle.rule.proofs.Outcomes.{scope-is, all-is, ordering}
+use Rattle.rule.proofs.Calls.{before, replyTo, nodeAfter, idle, partsAt, Answered, Did, received, line, accepted-call}
 use Rattle.rule.proofs.Rule.{answered-change}
-use Rattle.rule.proofs.Lines.{parameters-belong}
 
--- one that passes is found, or one before it
-module _ {A : Type 0} (p : A → Bool) where
-  some-first : (xs : List A) (n i : ℕ) (x : A) → getElem? xs i ≡ some x → p x ≡ true → isSome (firstFrom p n xs) ≡ true
-  unfolding firstFrom
-  some-first [] n i x e h = let z : _≡_ {A = ℕ} 0 1 = cc in absurd (omega arith)
-  some-first (y ∷ ys) n zero x e h =
-      ap (λ b. isSome (cond b (some (n, y)) (firstFrom p (suc n) ys))) (ap p (Option·some-injective y x e) ∙ h)
-  some-first (y ∷ ys) n (suc i) x e h = go (p y) (some-first ys (suc n) i x e h)
+-- ## The module of what is found is found too
+
+module _ {A : Type 0} (of : List Accessible → List A) where
+  -- one among those of a module, or after them
+  of-module : (n : ℕ) (name : List ℕ) (l : List A) (rest : List (Placed A)) (i : ℕ) (x : Placed A)
+      → getElem? (map (λ (a : A). record { home = n; moduleName = name; it = a }) l ++ rest) i ≡ some x
+      → (x .moduleName ≡ name) ⊎ ((j : ℕ) × (getElem? rest j ≡ some x))
+  of-module n name [] rest i x e = inr (i, e)
+  of-module n name (a ∷ l) rest zero x e =
+      inl (ap (λ (y : Placed A). y .moduleName) (sym (Option·some-injective (record { home = n; moduleName = name; it = a }) x e)))
+  of-module n name (a ∷ l) rest (suc i) x e = of-module n name l rest i x e
+
+  placed-module : (y : List ℕ) (ms : List Module) (n k i : ℕ) (x : Placed A) → getElem? (placedFrom of n ms) i ≡ some x
+      → same y (x .moduleName) ≡ true → isSome (firstFrom (λ (m : Module). same y (m .name)) k ms) ≡ true
+  unfolding placedFrom firstFrom
+  placed-module y [] n k i x e h = let z : _≡_ {A = ℕ} 0 1 = cc in absurd (omega arith)
+  placed-module y (m ∷ ms) n k i x e h =
+      go (same y (m .name)) refl
+      (of-module n (m .name) (of (m .accessibles)) (placedFrom of (suc n) ms) i x e)
+      (λ j f. placed-module y ms (suc n) (suc k) j x f h)
     where
-      go : (b : Bool) → isSome (firstFrom p (suc n) ys) ≡ true → isSome (cond b (some (n, y)) (firstFrom p (suc n) ys)) ≡ true
-      go true r = refl
-      go false r = r
+      go : (b : Bool) → same y (m .name) ≡ b → (x .moduleName ≡ m .name) ⊎ ((j : ℕ) × (getElem? (placedFrom of (suc n) ms) j ≡ some x))
+          → ((j : ℕ) → getElem? (placedFrom of (suc n) ms) j ≡ some x
+          → isSome (firstFrom (λ (z : Module). same y (z .name)) (suc k) ms) ≡ true)
+          → isSome (cond b (some (k, m)) (firstFrom (λ (z : Module). same y (z .name)) (suc k) ms)) ≡ true
+      go true q o r = refl
+      go false q (inl f) r = absurd (true≢false (sym h ∙ ap (same y) f ∙ q))
+      go false q (inr f) r = r (f .0) (f .1)
 
 module _ (w : Table) (m a : List ℕ) (k : ℕ × Placed Parameter) (e : findParameter w m a ≡ some k) where
   parameter-there : getElem? (parameters w) (k .0) ≡ some (k .1)
@@ -41,32 +61,125 @@ module _ (w : Table) (m a : List ℕ) (k : ℕ × Placed Parameter) (e : findPar
   parameter-there = found-there (λ (x : Parameter). x .name) m a (parameters w) k e
 
   parameter-module : isSome (findModule w m) ≡ true
-  unfolding findParameter findModule first
+  unfolding findParameter findModule first parameters
   parameter-module =
-      let b = parameters-belong w (k .0) (k .1) parameter-there in
-      some-first (λ (x : Module). same m (x .name)) (w .modules) 0 (k .1 .home) (b .m) (b .there)
-      (ap (same m) (sym (b .named)) ∙ found-in (λ (x : Parameter). x .name) m a (parameters w) k e)
+      placed-module parametersOf m (w .modules) 0 0 (k .0) (k .1) parameter-there
+      (found-in (λ (x : Parameter). x .name) m a (parameters w) k e)
 
--- a good change comes to a setting
-good-outcome : (w : Table) (n : Node) (c t : ℕ) (m a v : List ℕ) (k : ℕ × Placed Parameter) → findParameter w m a ≡ some k
-    → k .1 .it .readonly ≡ false → verdict (k .1 .it .datainfo) v ≡ fits → outcome w n c t (change m a v) ≡ sets w n c t k (storedForm v)
-unfolding outcome changes found letIn
-good-outcome w n c t m a v k e o f = go (findModule w m) (parameter-module w m a k e)
-  where
-    go : (x : Option (ℕ × Module)) → isSome x ≡ true
-        → found NoSuchModule x (λ y. found NoSuchParameter (findParameter w m a) (changes w n c t v)) ≡ sets w n c t k (storedForm v)
-    go none h = absurd (true≢false (sym h))
-    go (some x) h = rw (e, o, f) refl
+command-module : (w : Table) (m a : List ℕ) (k : ℕ × Placed Command) → findCommand w m a ≡ some k → isSome (findModule w m) ≡ true
+unfolding findCommand findModule first commands
+command-module w m a k e =
+    placed-module commandsOf m (w .modules) 0 0 (k .0) (k .1) (found-there (λ (x : Command). x .name) m a (commands w) k e)
+    (found-in (λ (x : Command). x .name) m a (commands w) k e)
 
-good-change : {w : Table} {n m : Node} {rs : List Record} {c : ℕ} {bs : List ℕ} {t a o : ℕ} → Did w n (Piece c bs t a o) m rs → hasFeed bs ≡ true
-    → (y x v : List ℕ) → requestOf n c bs ≡ change y x v → (k : ℕ × Placed Parameter) → findParameter w y x ≡ some k
-    → k .1 .it .readonly ≡ false → verdict (k .1 .it .datainfo) v ≡ fits
-    → Changed w n m c (k .0) (k .1) (record { text = storedForm v; time = t }) rs
-good-change (received g) f y x v q k e o g′ = absurd (true≢false (sym f ∙ g))
-good-change {w} {n} {m} {rs} {c} {bs} {t} (line _ h) f y x v q k e o g =
-    answered-change w n m c t k (storedForm v) rs (parameter-there w y x k e) bs h
-    (ap (outcome w (idle n c) c t) q ∙ good-outcome w (idle n c) c t y x v k e o g)
+-- ## What a good request comes to
+
+found-some : {A : Type 0} (e : Class) (x : Option A) (o : Outcome) → isSome x ≡ true → found e x (λ y. o) ≡ o
+unfolding found
+found-some e none o h = absurd (true≢false (sym h))
+found-some e (some a) o h = refl
+
+module _ (w : Table) (n : Node) (c t : ℕ) where
+  good-set : (m a v : List ℕ) (k : ℕ × Placed Parameter) → findParameter w m a ≡ some k → k .1 .it .readonly ≡ false
+      → verdict (k .1 .it .datainfo) v ≡ fits → outcome w n c t (change m a v) ≡ sets w n c t k (storedForm v)
+  unfolding outcome changes found letIn
+  good-set m a v k e o f = found-some NoSuchModule (findModule w m) _ (parameter-module w m a k e) ∙ rw (e, o, f) refl
+
+  good-read : (m a : List ℕ) (k : ℕ × Placed Parameter) → findParameter w m a ≡ some k → outcome w n c t (read m a) ≡ reads w n c t k
+  unfolding outcome found
+  good-read m a k e = found-some NoSuchModule (findModule w m) _ (parameter-module w m a k e) ∙ rw e refl
+
+  good-order : (m a v : List ℕ) (k : ℕ × Placed Command) → findCommand w m a ≡ some k → argumentVerdict (k .1 .it .argument) v ≡ fits
+      → outcome w n c t (execute m a v) ≡ ordering n c t k v
+  unfolding outcome found does letIn
+  good-order m a v k e f = found-some NoSuchModule (findModule w m) _ (command-module w m a k e) ∙ rw (e, f) refl
+
+  good-scope : (f : (ℕ → Bool) → Option (List ℕ) → Outcome) (s : Option (List ℕ)) → isThere w s ≡ true
+      → inScope w n c t f s ≡ f (inScopeOf w s) s
+  unfolding inScope isThere found
+  good-scope f none h = ap (λ g. f g none) (sym (all-is w))
+  good-scope f (some m) h = go (findModule w m) refl h
+    where
+      go : (x : Option (ℕ × Module)) → findModule w m ≡ x → isSome x ≡ true
+          → found NoSuchModule x (λ y. f (λ i. eqb i (y .0)) (some m)) ≡ f (inScopeOf w (some m)) (some m)
+      go none e q = absurd (true≢false (sym q))
+      go (some x) e q = ap (λ g. f g (some m)) (sym (scope-is w m x e))
+
+-- ## Lines
+
+-- the line that an accepted piece ends is carried out
+ended-line : {w : Table} {n m : Node} {rs : List Record} {c : ℕ} {bs : List ℕ} {t a o : ℕ} → Did w n (Piece c bs t a o) m rs → hasFeed bs ≡ true
+    → Answered w n c bs t m rs
+ended-line (received g) f = absurd (true≢false (sym f ∙ g))
+ended-line (line _ h) f = h
+
+-- what it leaves and sends where it asks for q, which comes to x
+comes-to : {w : Table} {n m : Node} {rs : List Record} {c : ℕ} {bs : List ℕ} {t : ℕ} → Answered w n c bs t m rs → (q : Request) (x : Outcome)
+    → requestOf n c bs ≡ q → outcome w (idle n c) c t q ≡ x
+    → (m ≡ nodeAfter (idle n c) x) × (rs ≡ before x ++ (final c (replyTo (partsAt n c bs) x) ∷ []))
+comes-to {w} {n} {m} {rs} {c} {bs} {t} h q x e f =
+    let g = ap (outcome w (idle n c) c t) e ∙ f in
+    (h .node ∙ ap (nodeAfter (idle n c)) g, h .records ∙ ap (λ y. before y ++ (final c (replyTo (partsAt n c bs) y) ∷ [])) g)
 
 pub good-changes-are-made : GoodChangesAreMade
-good-changes-are-made table n c bs t a o z f m x v q k p e r g =
-    good-change (accepted-call table n (Piece c bs t a o) z) f m x v q (k, p) e r g
+good-changes-are-made table n c m x v k p e r g bs t a o z f q =
+    answered-change _ n _ c t (k, p) (storedForm v) _ (parameter-there _ m x (k, p) e) bs
+    (ended-line (accepted-call table n (Piece c bs t a o) z) f)
+    (ap (outcome _ (idle n c) c t) q ∙ good-set _ (idle n c) c t m x v (k, p) e r g)
+
+pub good-reads-are-answered : GoodReadsAreAnswered
+unfolding reads
+good-reads-are-answered table n c m x k p e bs t a o z f q =
+    let g = comes-to (ended-line (accepted-call table n (Piece c bs t a o) z) f) (read m x) _ q (good-read _ (idle n c) c t m x (k, p) e) in
+    record {
+      alone = g .1;
+      values = ap (λ (y : Node). y .values) (g .0);
+      clients = ap (λ (y : Node). y .clients) (g .0);
+    }
+
+pub good-commands-are-ordered : GoodCommandsAreOrdered
+good-commands-are-ordered table n c m x v k p e r bs t a o z f q =
+    let g = comes-to (ended-line (accepted-call table n (Piece c bs t a o) z) f) (execute m x v) _ q (good-order _ (idle n c) c t m x v (k, p) e r) in
+    record { records = g .1; node = g .0 }
+
+-- what a client that sent a line has active, where it was given other active modules
+given : {w : Table} {n m : Node} {rs : List Record} {c : ℕ} {bs : List ℕ} {t : ℕ} → Answered w n c bs t m rs → (f : ℕ → Bool)
+    → m ≡ withClient (idle n c) c (activated f (idle n c .clients c)) → (i : ℕ) → isActive (m .clients c) i ≡ f i
+given {n = n} {c = c} h f e i =
+    let x : Client = idle n c .clients c in
+    ap (λ (y : Node). isActive (y .clients c) i) e
+    ∙ ap (λ y. isActive y i) (put-same (idle n c .clients) c (activated f x))
+    ∙ activated-active f x i (ap isOpen (put-same (n .clients) c (emptied (n .clients c))) ∙ emptied-open (n .clients c) ∙ h .isOpen)
+
+and-not : (b q : Bool) → q ≡ true → (b && not q) ≡ false
+and-not true q h = ap not h
+and-not false q h = refl
+
+activation-made : {w : Table} {n m : Node} {rs : List Record} {c : ℕ} {bs : List ℕ} {t : ℕ} (s : Option (List ℕ)) → isThere w s ≡ true
+    → Answered w n c bs t m rs → requestOf n c bs ≡ activate s → Activated w n m c s rs
+unfolding outcome activates
+activation-made {w} {n} {c = c} {t = t} s e h q =
+    let g = comes-to h (activate s) (activates w (idle n c) c t (inScopeOf w s) s) q (good-scope w (idle n c) c t (activates w (idle n c) c t) s e) in
+    record {
+      records = g .1;
+      active =
+          λ i l k. given h _ (g .0) i ∙ rw (lt-ltb i (length (w .modules)) l, k) (or-true (isActive (idle n c .clients c) i));
+      values = ap (λ (y : Node). y .values) (g .0);
+    }
+
+deactivation-made : {w : Table} {n m : Node} {rs : List Record} {c : ℕ} {bs : List ℕ} {t : ℕ} (s : Option (List ℕ)) → isThere w s ≡ true
+    → Answered w n c bs t m rs → requestOf n c bs ≡ deactivate s → Deactivated w n m c s rs
+unfolding outcome deactivates
+deactivation-made {w} {n} {c = c} {t = t} s e h q =
+    let g = comes-to h (deactivate s) (deactivates w (idle n c) c t (inScopeOf w s) s) q (good-scope w (idle n c) c t (deactivates w (idle n c) c t) s e) in
+    record {
+      records = g .1;
+      inactive = λ i k. given h _ (g .0) i ∙ and-not (isActive (idle n c .clients c) i) (inScopeOf w s i) k;
+      values = ap (λ (y : Node). y .values) (g .0);
+    }
+
+pub good-activations-are-made : GoodActivationsAreMade
+good-activations-are-made table n c s e = (
+  λ bs t a o z f q. activation-made s e (ended-line (accepted-call table n (Piece c bs t a o) z) f) q,
+  λ bs t a o z f q. deactivation-made s e (ended-line (accepted-call table n (Piece c bs t a o) z) f) q,
+)

@@ -43,11 +43,11 @@ module _ (P : Outcome → Type 0) (bad : (x : Class) → P (refused x)) where
   writable-holds false o h = h refl
 
 -- the modules in scope, once it is known which module is named
-scope-is : (w : Table) (m : List ℕ) (x : ℕ × Module) → findModule w m ≡ some x → inScopeOf w (some m) ≡ λ i. eqb i (x .0)
+pub scope-is : (w : Table) (m : List ℕ) (x : ℕ × Module) → findModule w m ≡ some x → inScopeOf w (some m) ≡ λ i. eqb i (x .0)
 unfolding inScopeOf numberIs
 scope-is w m x e = fun-ext (λ i. ap (λ o. numberIs o i) e)
 
-all-is : (w : Table) → inScopeOf w none ≡ λ i. true
+pub all-is : (w : Table) → inScopeOf w none ≡ λ i. true
 unfolding inScopeOf
 all-is w = refl
 

@@ -5,6 +5,7 @@ use mathlib.Core.List.{List, [], _∷_, _++_}
 use mathlib.Core.Option.{Option, none, some}
 use lib.Dec.{eqb, ltb}
 use lib.ListN.{length, take}
+use Rattle.ascii.specs.Bytes.{isSome}
 use Rattle.table.specs.Table.{Parameter, Module, Table}
 use Rattle.table.specs.Search.{Placed, findModule}
 use Rattle.message.specs.Reply.{Report, Reply, identification, describing, pong, active, inactive, reply, changed, done, error}
@@ -48,6 +49,11 @@ numberIs (some x) i = eqb i (x .0)
 unfoldable pub inScopeOf : Table → Option (List ℕ) → ℕ → Bool
 inScopeOf w none i = true
 inScopeOf w (some m) i = numberIs (findModule w m) i
+
+-- no module is named, or one that is there
+unfoldable pub isThere : Table → Option (List ℕ) → Bool
+isThere w none = true
+isThere w (some m) = isSome (findModule w m)
 
 -- the parameters of the modules that are wanted, with their values, in table order; the first has the number k
 unfoldable pub reportsOf : (ℕ → Bool) → (ℕ → Value) → ℕ → List (Placed Parameter) → List Report

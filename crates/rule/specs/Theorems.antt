@@ -11,18 +11,18 @@ use lib.ListN.{length, getElem?}
 use Rattle.fit.specs.Fit.{fits, verdict, storedForm}
 use Rattle.ascii.specs.Text.{bytes}
 use Rattle.message.specs.Line.{whole, content, partsOf}
-use Rattle.message.specs.Request.{Request, read, change, execute, request}
+use Rattle.message.specs.Request.{Request, activate, deactivate, read, change, execute, request}
 use Rattle.message.specs.Error.{Class}
-use Rattle.message.specs.Reply.{Report, Reply, reply, changed, active, done, error}
+use Rattle.message.specs.Reply.{Report, Reply, reply, changed, active, inactive, done, error}
 use Rattle.table.specs.Table.{Parameter, Command, parameter, Module, Table}
 use Rattle.table.specs.Layout.{tableOf}
-use Rattle.table.specs.Search.{Placed, parameters, commands, findParameter}
+use Rattle.table.specs.Search.{Placed, parameters, commands, findParameter, findCommand}
 use Rattle.outbox.specs.Outbox.{Record, final, update, orderChange, orderCommand}
-use Rattle.plain.specs.Node.{Value, Node, put, withClient, isOpen, isActive, lineOf, receive, emptied, reportOf, clientNumbers, updatesTo}
+use Rattle.plain.specs.Node.{Value, Node, put, withClient, isOpen, isActive, lineOf, receive, emptied, reportOf, clientNumbers, updatesTo, updatesOf}
 use Rattle.plain.specs.Answer.{argumentVerdict, argumentForm}
 use Rattle.plain.specs.Calls.{Call, Piece, Reading, Answer, beforeFeed, hasFeed, usedOf}
 use Rattle.plain.specs.History.{step}
-use Rattle.rule.specs.Records.{updatesFor, repliesFor, feedsUsed, inScopeOf, reportsOf, activeAfter}
+use Rattle.rule.specs.Records.{updatesFor, repliesFor, feedsUsed, inScopeOf, isThere, reportsOf, activeAfter}
 
 -- ## Whoever activates a module is sent its updates and nobody else is
 
@@ -94,15 +94,16 @@ ChangesAreSentToAll = (table : List ℕ) (n : Node) (e : Call) (c : ℕ) (r : Re
     → List·Memᴰ (final c (changed r)) (step table n e .1 .records)
     → OfPiece c (λ bs t. ChangeSets (tableOf table) n (step table n e .0) c bs t r (step table n e .1 .records)) e
 
--- And every good change is made: one that a line asks for, which an accepted piece of its client ends, of a parameter that is there and is not
--- readonly, by a value that fits.
+-- what holds of every accepted piece of client c that ends a line which asks for q: by its time, the node that it leaves and its records
+abbrev pub WhenAsked : List ℕ → Node → ℕ → Request → (ℕ → Node → List Record → Type 0) → Type 0
+WhenAsked table n c q P = (bs : List ℕ) (t a o : ℕ) → step table n (Piece c bs t a o) .1 .number ≡ 0 → hasFeed bs ≡ true
+    → requestOf n c bs ≡ q → P t (step table n (Piece c bs t a o) .0) (step table n (Piece c bs t a o) .1 .records)
+
+-- And every good change is made: one of a parameter that is there and is not readonly, by a value that fits.
 abbrev pub GoodChangesAreMade : Type 0
-GoodChangesAreMade = (table : List ℕ) (n : Node) (c : ℕ) (bs : List ℕ) (t a o : ℕ) → step table n (Piece c bs t a o) .1 .number ≡ 0
-    → hasFeed bs ≡ true → (m x offered : List ℕ) → requestOf n c bs ≡ change m x offered
-    → (k : ℕ) (p : Placed Parameter) → findParameter (tableOf table) m x ≡ some (k, p) → p .it .readonly ≡ false
-    → verdict (p .it .datainfo) offered ≡ fits
-    → let s = step table n (Piece c bs t a o) in
-    Changed (tableOf table) n (s .0) c k p (record { text = storedForm offered; time = t }) (s .1 .records)
+GoodChangesAreMade = (table : List ℕ) (n : Node) (c : ℕ) (m x offered : List ℕ) (k : ℕ) (p : Placed Parameter)
+    → findParameter (tableOf table) m x ≡ some (k, p) → p .it .readonly ≡ false → verdict (p .it .datainfo) offered ≡ fits
+    → WhenAsked table n c (change m x offered) λ t y rs. Changed (tableOf table) n y c k p (record { text = storedForm offered; time = t }) rs
 
 -- No other call alters a value: of a call that alters one, either it is an accepted reading, or its line was replied to by `changed`.
 pub data BySetting : Call → Answer → Type 0 where
@@ -123,6 +124,23 @@ abbrev pub ActivationsSendAll : Type 0
 ActivationsSendAll = (table : List ℕ) (n : Node) (e : Call) (c : ℕ) (m : Option (List ℕ))
     → List·Memᴰ (final c (active m)) (step table n e .1 .records)
     → InitialUpdates (tableOf table) n c m (step table n e .1 .records)
+
+-- And every good activation is made, of all modules or of one that is there: the updates are sent, then `active`, and the modules in scope are
+-- active; and every good deactivation: `inactive` is sent, and they are active no more. No value and no time alters.
+pub record Activated (w : Table) (n m : Node) (c : ℕ) (scope : Option (List ℕ)) (rs : List Record) : Type 0 where
+  pub records : rs ≡ updatesOf c (inScopeOf w scope) (n .values) 0 (parameters w) ++ (final c (active scope) ∷ [])
+  pub active : (i : ℕ) → i < length (w .modules) → inScopeOf w scope i ≡ true → isActive (m .clients c) i ≡ true
+  pub values : m .values ≡ n .values
+
+pub record Deactivated (w : Table) (n m : Node) (c : ℕ) (scope : Option (List ℕ)) (rs : List Record) : Type 0 where
+  pub records : rs ≡ final c (inactive scope) ∷ []
+  pub inactive : (i : ℕ) → inScopeOf w scope i ≡ true → isActive (m .clients c) i ≡ false
+  pub values : m .values ≡ n .values
+
+abbrev pub GoodActivationsAreMade : Type 0
+GoodActivationsAreMade = (table : List ℕ) (n : Node) (c : ℕ) (scope : Option (List ℕ)) → isThere (tableOf table) scope ≡ true
+    → (WhenAsked table n c (activate scope) λ t y rs. Activated (tableOf table) n y c scope rs)
+    × (WhenAsked table n c (deactivate scope) λ t y rs. Deactivated (tableOf table) n y c scope rs)
 
 -- A module is active for a client by that client's own `active` and `inactive` replies since its open, and by nothing else.
 abbrev pub ActivationsAreOnesOwn : Type 0
@@ -160,6 +178,13 @@ PiecesAreUsed = (table : List ℕ) (n : Node) (c : ℕ) (bs : List ℕ) (t a o :
     → step table n (Piece c bs t a o) .1 .number ≡ 0
     → PieceUsed n (step table n (Piece c bs t a o) .0) c bs (step table n (Piece c bs t a o) .1)
 
+-- A line of client c alters nothing: its reply is all that is sent, no value and no time alters, and of the clients only the sender's line is
+-- emptied.
+pub record AltersNothing (n m : Node) (rs : List Record) (c : ℕ) (r : Reply) : Type 0 where
+  pub alone : rs ≡ final c r ∷ []
+  pub values : m .values ≡ n .values
+  pub clients : m .clients ≡ put (n .clients) c (emptied (n .clients c))
+
 -- A `read` is replied to with the parameter that it asked for, as the node holds it, and sends nothing else.
 pub record ReadTold (w : Table) (n : Node) (c : ℕ) (bs : List ℕ) (r : Report) (rs : List Record) : Type 0 where
   pub k : ℕ
@@ -173,6 +198,12 @@ abbrev pub ReadsAreTrue : Type 0
 ReadsAreTrue = (table : List ℕ) (n : Node) (e : Call) (c : ℕ) (r : Report)
     → List·Memᴰ (final c (reply r)) (step table n e .1 .records)
     → OfPiece c (λ bs t. ReadTold (tableOf table) n c bs r (step table n e .1 .records)) e
+
+-- And every good read is answered: one of a parameter that is there, with what the node holds of it.
+abbrev pub GoodReadsAreAnswered : Type 0
+GoodReadsAreAnswered = (table : List ℕ) (n : Node) (c : ℕ) (m x : List ℕ) (k : ℕ) (p : Placed Parameter)
+    → findParameter (tableOf table) m x ≡ some (k, p)
+    → WhenAsked table n c (read m x) λ t y rs. AltersNothing n y rs c (reply (reportOf p (n .values k)))
 
 -- A command that is replied to by `done` was asked for by that line, with an argument that fits; the driver is ordered that command with the
 -- argument's stored form, and nothing else is sent.
@@ -191,15 +222,23 @@ CommandsAreOrdered = (table : List ℕ) (n : Node) (e : Call) (c : ℕ) (r : Rep
     → List·Memᴰ (final c (done r)) (step table n e .1 .records)
     → OfPiece c (λ bs t. CommandOrdered (tableOf table) n c bs t r (step table n e .1 .records)) e
 
+-- And every good command is ordered: one that is there, with an argument that fits. It is done at the time of the line feed, and of the node only
+-- the sender's line is emptied.
+pub record Ordered (n m : Node) (c k : ℕ) (p : Placed Command) (offered : List ℕ) (t : ℕ) (rs : List Record) : Type 0 where
+  pub records : rs
+      ≡ orderCommand c k (argumentForm (p .it .argument) offered)
+      ∷ final c (done (record { moduleName = p .moduleName; accessible = p .it .name; value = bytes "null"; time = t }))
+      ∷ []
+  pub node : m ≡ withClient n c (emptied (n .clients c))
+
+abbrev pub GoodCommandsAreOrdered : Type 0
+GoodCommandsAreOrdered = (table : List ℕ) (n : Node) (c : ℕ) (m x offered : List ℕ) (k : ℕ) (p : Placed Command)
+    → findCommand (tableOf table) m x ≡ some (k, p) → argumentVerdict (p .it .argument) offered ≡ fits
+    → WhenAsked table n c (execute m x offered) λ t y rs. Ordered n y c k p offered t rs
+
 -- ## A change that is refused alters nothing for anyone
 
--- A line that is answered by an error sends nothing else, alters no value and no time, and of the clients only empties its sender's
--- line.
-pub record AltersNothing (n m : Node) (rs : List Record) (c : ℕ) (r : Reply) : Type 0 where
-  pub alone : rs ≡ final c r ∷ []
-  pub values : m .values ≡ n .values
-  pub clients : m .clients ≡ put (n .clients) c (emptied (n .clients c))
-
+-- A line that is answered by an error alters nothing.
 abbrev pub ErrorsAlterNothing : Type 0
 ErrorsAlterNothing = (table : List ℕ) (n : Node) (e : Call) (c : ℕ) (a s : List ℕ) (x : Class)
     → List·Memᴰ (final c (error a s x)) (step table n e .1 .records)

@@ -1,6 +1,6 @@
 ghost use mathlib.Core.Bool.{true};
 ghost use mathlib.Core.Path.{_≡_};
-ghost use Rattle.rule.specs.Theorems.{UpdatesGoToActiveClients, ChangesAreSentToAll, GoodChangesAreMade, ReadingsAreSentToAll, ValuesAlterBySettings, ActivationsSendAll, ActivationsAreOnesOwn, ParametersBelong, OneReplyForEachLine, PiecesAreUsed, ReadsAreTrue, CommandsAreOrdered, ErrorsAlterNothing, RefusalsAlterNothing};
+ghost use Rattle.rule.specs.Theorems.{UpdatesGoToActiveClients, ChangesAreSentToAll, GoodChangesAreMade, ReadingsAreSentToAll, ValuesAlterBySettings, ActivationsSendAll, GoodActivationsAreMade, ActivationsAreOnesOwn, ParametersBelong, OneReplyForEachLine, PiecesAreUsed, ReadsAreTrue, GoodReadsAreAnswered, CommandsAreOrdered, GoodCommandsAreOrdered, ErrorsAlterNothing, RefusalsAlterNothing};
 
 // Each function here promises a theorem about the definitions. Nothing is run.
 
@@ -46,6 +46,13 @@ pub fn activations_send_all() -> bool
     true
 }
 
+// An activation of all modules, or of one that is there, is made, and so is a deactivation.
+pub fn good_activations_are_made() -> bool
+    ensures { λ r. ⌜ (r ≡ true) × GoodActivationsAreMade ⌝ }
+{
+    true
+}
+
 // A module is active for a client by its own requests since its open, and by nothing else.
 pub fn activations_are_ones_own() -> bool
     ensures { λ r. ⌜ (r ≡ true) × ActivationsAreOnesOwn ⌝ }
@@ -81,9 +88,23 @@ pub fn reads_are_true() -> bool
     true
 }
 
+// A read of a parameter that is there is answered with what the node holds of it.
+pub fn good_reads_are_answered() -> bool
+    ensures { λ r. ⌜ (r ≡ true) × GoodReadsAreAnswered ⌝ }
+{
+    true
+}
+
 // A command is ordered as its line asked for it.
 pub fn commands_are_ordered() -> bool
     ensures { λ r. ⌜ (r ≡ true) × CommandsAreOrdered ⌝ }
+{
+    true
+}
+
+// A command that is there, with an argument that fits, is ordered and done.
+pub fn good_commands_are_ordered() -> bool
+    ensures { λ r. ⌜ (r ≡ true) × GoodCommandsAreOrdered ⌝ }
 {
     true
 }

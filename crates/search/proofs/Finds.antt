@@ -293,7 +293,9 @@ module _ (s m a : List ℕ) (n : ℕ) (c : Cursor) (h : SoughtCommand s m a n c)
           held = x .held;
           is = sought-here commandsOf commands commandName s m a n c h e _ (x .first) d hd y;
           next = e;
+          way = x .after .way;
           at = x .next;
+          home = let b = x .after .begun in omega arith;
           left = counted-left commandsOf commands s n c (h .counted) e _ (x .first);
         }
 

@@ -18,7 +18,7 @@ use Rattle.search.specs.declared.cursor.NextParameter as N
 use Rattle.search.specs.declared.find.FoundModule as F
 use Rattle.search.specs.declared.find.FoundParameter as P
 use Rattle.search.specs.declared.find.FoundCommand as C
-use Rattle.search.specs.Left.{placed, leftFrom, Fits, HomeIs, ParameterIn, CommandIn}
+use Rattle.search.specs.Left.{placed, leftFrom, Fits, HomeIs, OnWay, ParameterIn, CommandIn}
 
 -- whether a module has a name
 abbrev pub isCalled : List ℕ → Module → Bool
@@ -59,13 +59,15 @@ abbrev pub FindsParameter : List ℕ → List ℕ → List ℕ → P.FoundParame
 FindsParameter s m a (P.the-variants.At k h q) = ParameterFound s m a k h q
 FindsParameter s m a P.the-variants.Nothing = findParameter (tableOf s) m a ≡ none
 
--- the command a of the module m has the number k, its module has the number h, and q has its positions; after it those commands are left
--- that come after it in the table
+-- the command a of the module m has the number k, its module has the number h, and q has its positions; the walk over the table comes to
+-- `next` after it, in that module, where those commands are left that come after it in the table
 pub record CommandFound (s m a : List ℕ) (k h : ℕ) (q : CommandAt) : Type 0 where
   pub held : CommandIn s q
   pub is : findCommand (tableOf s) m a ≡ some (k, record { home = h; moduleName = m; it = commandOf s q (held .argument) })
   pub next : Cursor
+  pub way : OnWay s next
   pub at : next .at ≡ q .next
+  pub home : next .modules ≡ h + 1
   pub left : leftFrom commandsOf s next ≡ some (drop (k + 1) (commands (tableOf s)))
 
 abbrev pub FindsCommand : List ℕ → List ℕ → List ℕ → C.FoundCommand → Type 0
