@@ -76,7 +76,8 @@ struct jihfasul_settings {
 /*
  * What the host keeps between calls, besides the values area. It may be stored and restored byte for byte. It is unfit (number 9)
  * over a table and a values area if
- * - of a parameter: its length is above 256, its bytes in the values area are no stored form that fits, or its time is above the limit;
+ * - of a parameter: its length is above 256, or isn't 0 and its bytes in the values area are no stored form that fits, or its time is above
+ *   the limit;
  * - of a line: it has more than 1,024 bytes or a line feed, or bytes though it is marked overlong;
  * - of a client: it has a module active that the table doesn't have, or is closed and has anything at all.
  */
@@ -124,7 +125,7 @@ struct jihfasul_done jihfasul_close(
     struct jihfasul_state state, uint64_t client, uint64_t time);
 
 /*
- * Takes bytes of a client, but none after the first line feed. `used` says how many; offer the rest again. A line
+ * Takes a client's bytes: those through the first line feed, or all where there is none. `used` says how many; offer the rest again. A line
  * that its line feed ends is carried out at this call's time, and what is to be sent lies in the outbox's first `written` bytes, at
  * most 32,019. A change that is carried out writes the stored form at the front of its parameter's place in the values area, and no
  * other byte. Numbers 0 to 12.

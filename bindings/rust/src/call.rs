@@ -121,7 +121,7 @@ pub fn close(table: &[u8], values: &[u8], state: &State, client: u64, time: u64)
     }
 }
 
-/// Uses bytes, but none after the first line feed.
+/// Uses the bytes through the first line feed, or all where there is none.
 pub fn piece(
     table: &[u8],
     values: &mut [u8],

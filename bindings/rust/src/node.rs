@@ -82,8 +82,8 @@ impl Node {
         self.keep(done).map(drop)
     }
 
-    /// Takes bytes of a client, but none after the first line feed; the rest is
-    /// to be offered again.
+    /// Takes a client's bytes through the first line feed, or all where there is
+    /// none; the rest is to be offered again.
     pub fn piece(&mut self, client: u64, time: u64, bytes: &[u8]) -> Result<Taken<'_>, Refusal> {
         let (values, outbox) = (&mut self.values, &mut self.outbox);
         let done = call::piece(

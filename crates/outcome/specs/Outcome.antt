@@ -64,8 +64,8 @@ module _ (w : Table) (n : Node) (c t : ℕ) (before after values stored : List �
     pub carries : Carries o (withValue n p (record { text = text; time = t })) written (some (p, text))
     pub area : stored ≡ withStored values p text
 
-  -- the code's outcome r stands for the plain node's outcome o. Two may stand for one: what alters nothing may be told with the mask or the value
-  -- that is there already
+  -- the code's outcome r stands for the plain node's outcome o. Two may stand for one: what alters nothing may be told with the mask that is there
+  -- already
   abbrev pub OutcomeIs : Outcome → Plain.Outcome → Type 0
   OutcomeIs (Refused e) o = Refuses o (refused (classOf e))
   OutcomeIs (Sent written) o = Sends o written
