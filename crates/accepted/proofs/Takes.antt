@@ -26,7 +26,7 @@ use Rattle.report.specs.Judge.{lowest}
 use Rattle.search.specs.declared.cursor.Cursor.{Cursor}
 use Rattle.search.specs.Left.{placed}
 use Rattle.plain.specs.Node.{clientNumbers, updatesTo, withValue}
-use Rattle.plain.specs.Calls.{Reading, Call, withOutbox, Effect, isSmall, ownFaults, callNumber, readingVerdict, readingEffect, effect}
+use Rattle.plain.specs.Calls.{Reading, Call, withOutbox, Effect, sends, isSmall, ownFaults, callNumber, readingVerdict, readingEffect, effect}
 use Rattle.sound.proofs.Lists.{each-at}
 use Rattle.sound.proofs.Accepted.{GoodParameter, accepted}
 use Rattle.sound.proofs.Homes.{parameter-home}
@@ -119,8 +119,8 @@ module _ (table : List ℕ) (s : State) (values outbox : List ℕ) (k t : ℕ) (
     fit = fit-parts w s values (lent-good .fit)
 
     is-number : callNumber table (isUnfit w s values) (view table s values) taken ≡ 0
-    unfolding isSmall ownFaults lowest readingVerdict parameterOf
-    is-number = number-is table s values (Reading k bs t) (some (length outbox)) t _ refl ∙ rw (g .lent, there, g .fits)
+    unfolding sends isSmall ownFaults lowest readingVerdict parameterOf
+    is-number = number-is table s values (Reading k bs t) (length outbox) t _ refl ∙ rw (g .lent, there, g .fits)
 
     -- the names, as they are read from the table
     module _ (m a : List ℕ) (named-module : m ≡ bytesOf table (e .name)) (named : a ≡ bytesOf table (q .name)) where

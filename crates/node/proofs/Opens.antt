@@ -11,7 +11,7 @@ use lib.ListN.{length}
 use Rattle.table.specs.Layout.{tableOf}
 use Rattle.report.specs.Judge.{fault}
 use Rattle.plain.specs.Node.{isOpen}
-use Rattle.plain.specs.Calls.{Open, Close, Call, withArea, isSmall, fault11, ownFaults}
+use Rattle.plain.specs.Calls.{Open, Close, Call, withArea, sends, isSmall, fault11, ownFaults}
 use Rattle.state.specs.declared.Clients.{Clients}
 use Rattle.state.specs.declared.State.{State}
 use Rattle.state.specs.View.{isSet, view}
@@ -56,12 +56,12 @@ module _ (table : List ℕ) (s : State) (values : List ℕ) (c t : ℕ) where
   viewed = isOpen (view table s values .clients c)
 
   numbered-open : Numbered table s values [] opening (lentNumber table values false s t) (fault11 c) (fault 13 viewed)
-  unfolding isSmall ownFaults
-  numbered-open = record { is = number-is table s values (Open c t) none t _ refl }
+  unfolding sends isSmall ownFaults
+  numbered-open = record { is = number-is table s values (Open c t) 0 t _ refl }
 
   numbered-close : Numbered table s values [] closing (lentNumber table values false s t) (fault11 c) (fault 12 (not viewed))
-  unfolding isSmall ownFaults
-  numbered-close = record { is = number-is table s values (Close c t) none t _ refl }
+  unfolding sends isSmall ownFaults
+  numbered-close = record { is = number-is table s values (Close c t) 0 t _ refl }
 
   fit : {k : ℕ} → k ≡ lentNumber table values false s t → k ≡ 0 → isUnfit (tableOf table) s values ≡ false
   fit lent ok = good table s values false t (sym lent ∙ ok) .fit

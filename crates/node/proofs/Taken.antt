@@ -13,7 +13,7 @@ use Rattle.ascii.specs.Numbers.{latest}
 use Rattle.table.specs.Layout.{tableOf}
 use Rattle.report.specs.Judge.{fault, lowest}
 use Rattle.plain.specs.Node.{isOpen}
-use Rattle.plain.specs.Calls.{Piece, Call, withOutbox, isSmall, fault11, ownFaults, callNumber}
+use Rattle.plain.specs.Calls.{Piece, Call, withOutbox, sends, isSmall, fault11, ownFaults, callNumber}
 use Rattle.plain.proofs.Numbers.{accepted-call}
 use Rattle.state.specs.declared.State.{State}
 use Rattle.state.specs.View.{isSet, view}
@@ -43,8 +43,8 @@ module _ (table : List ℕ) (s : State) (values outbox : List ℕ) (c t : ℕ) (
   viewed = isOpen (view table s values .clients c)
 
   numbered : Numbered table s values outbox offered (lentNumber table values small s t) (fault11 c) (fault 12 (not viewed))
-  unfolding isSmall ownFaults
-  numbered = record { is = number-is table s values (Piece c bs t) (some (length outbox)) t _ refl }
+  unfolding sends isSmall ownFaults
+  numbered = record { is = number-is table s values (Piece c bs t) (length outbox) t _ refl }
 
   is-open : {b o : Bool} → b ≡ isSet (s .clients .open) c → b ≡ o → viewed ≡ o
   is-open judged y = open-in-view table s values c ∙ sym judged ∙ y
@@ -65,7 +65,7 @@ module _ (table : List ℕ) (s : State) (values outbox : List ℕ) (c t : ℕ) (
   unfolding ownFaults lowest
   accepted-number g h =
       accepted-call table (isUnfit (tableOf table) s values) offered (view table s values) .1 (
-        record { accepted = g .lent .accepted; outbox = g .lent .room; area = g .area; fit = g .fit },
+        record { accepted = g .lent .accepted; outbox = λ e. g .lent .room; area = g .area; fit = g .fit },
         rw (le-ltb latest t h, not-high {c = c} (omega (arith, g .lent .low)), open-in-view table s values c, g .isOpen) refl,
       )
 

@@ -3,7 +3,6 @@ use Prim.Native.Nat.{ℕ, _≤_}
 use borrow.Author.Tests.{ltb-false}
 use mathlib.Core.Bool.{Bool, false}
 use mathlib.Core.List.{List, [], _∷_}
-use mathlib.Core.Option.{Option}
 use mathlib.Core.Path.{_≡_, sym}
 use lib.Dec.{ltb}
 use lib.ListN.{length}
@@ -25,10 +24,10 @@ module _ (table : List ℕ) (s : State) (values : List ℕ) where
   lent small t = tableNumber table ∷ fault 7 small ∷ fault8 (length values) ∷ fault9 (isUnfit (tableOf table) s values) ∷ fault10 t ∷ []
 
   -- of an event that is judged by its time, and then by ks
-  pub number-is : (e : Event) (o : Option ℕ) (t : ℕ) (ks : List ℕ) → ownFaults (tableOf table) (view table s values) e ≡ fault10 t ∷ ks
-      → number (record { event = e; lent = record { area = length values; outbox = o } }) ≡ lowest (lentNumber table values (isSmall 32768 o) s t ∷ ks)
+  pub number-is : (e : Event) (o t : ℕ) (ks : List ℕ) → ownFaults (tableOf table) (view table s values) e ≡ fault10 t ∷ ks
+      → number (record { event = e; lent = record { area = length values; outbox = o } }) ≡ lowest (lentNumber table values (isSmall e o) s t ∷ ks)
   unfolding callNumber lentFaults lentNumber
-  number-is e o t ks h = rw h (sym (lowest-both (lent (isSmall 32768 o) t) ks))
+  number-is e o t ks h = rw h (sym (lowest-both (lent (isSmall e o) t) ks))
 
   -- what is known where all that is lent is good
   pub record Good (small : Bool) (t : ℕ) : Type 0 where
