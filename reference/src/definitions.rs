@@ -7,7 +7,7 @@ const HEADER: &str = "\
 -- Histories that the reference program generated, with the answers that it gives. Printed by it; not edited by hand. Assumes nothing.
 use mathlib.Core.List.{List, [], _∷_}
 use Rattle.ascii.specs.Text.{bytes}
-use Rattle.plain.specs.Calls.{Open, Close, Piece, Reading}
+use Rattle.plain.specs.Calls.{Open, Close, Piece, Reading, withArea, withOutbox}
 use Rattle.examples.specs.Told.{History}
 ";
 
@@ -57,12 +57,12 @@ fn call(call: &Call) -> Option<String> {
             client,
             values_len,
             time,
-        } => format!("Open {client} {time} {values_len}"),
+        } => format!("withArea (Open {client} {time}) {values_len}"),
         Call::Close {
             client,
             values_len,
             time,
-        } => format!("Close {client} {time} {values_len}"),
+        } => format!("withArea (Close {client} {time}) {values_len}"),
         Call::Piece {
             client,
             values_len,
@@ -70,7 +70,7 @@ fn call(call: &Call) -> Option<String> {
             time,
             bytes: offered,
         } => format!(
-            "Piece {client} ({}) {time} {values_len} {outbox_len}",
+            "withOutbox (Piece {client} ({}) {time}) {values_len} {outbox_len}",
             bytes(offered)
         ),
         Call::Reading {
@@ -80,7 +80,7 @@ fn call(call: &Call) -> Option<String> {
             time,
             text,
         } => format!(
-            "Reading {parameter} ({}) {time} {values_len} {outbox_len}",
+            "withOutbox (Reading {parameter} ({}) {time}) {values_len} {outbox_len}",
             bytes(text)
         ),
     })

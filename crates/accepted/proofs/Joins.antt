@@ -9,7 +9,7 @@ use Rattle.message.specs.Line.{whole, content, partsOf}
 use Rattle.outbox.specs.Outbox.{Record}
 use Rattle.plain.specs.Node.{Node, receive, emptied}
 use Rattle.plain.specs.Answer.{answerParts, answer}
-use Rattle.plain.specs.Calls.{Call, Piece, beforeFeed, hasFeed}
+use Rattle.plain.specs.Calls.{Event, Piece, beforeFeed, hasFeed}
 use Rattle.state.specs.declared.Clients.{Clients}
 use Rattle.state.specs.declared.State.{State}
 use Rattle.state.specs.View.{lineBytes, clientAt, view}
@@ -54,8 +54,8 @@ module _ (table : List ℕ) (s : State) (values out : List ℕ) (c t : ℕ) (g :
 
 module _ (table : List ℕ) (s : State) (values outbox : List ℕ) (c t : ℕ) (bs : List ℕ) (g : Ready table s values outbox c) {n : ℕ}
     (first : n ≡ length (beforeFeed bs)) where
-  abbrev piece : Call
-  piece = Piece c bs t (length values) (length outbox)
+  abbrev piece : Event
+  piece = Piece c bs t
 
   taken : take n bs ≡ beforeFeed bs
   taken = ap (λ (k : ℕ). take k bs) first ∙ take-before bs

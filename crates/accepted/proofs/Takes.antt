@@ -6,6 +6,8 @@ use mathlib.Core.Bool.{true, false}
 use mathlib.Core.List.{List}
 use mathlib.Core.Option.{some}
 use mathlib.Core.Path.{_≡_, refl, sym, ap, _∙_}
+use borrow.Author.Tests.{ltb-false}
+use lib.Dec.{ltb}
 use lib.ListN.{length, take, drop, getElem?}
 use Rattle.ascii.specs.Bytes.{any, isSome}
 use Rattle.ascii.specs.Writer.{Puts}
@@ -24,7 +26,7 @@ use Rattle.report.specs.Judge.{lowest}
 use Rattle.search.specs.declared.cursor.Cursor.{Cursor}
 use Rattle.search.specs.Left.{placed}
 use Rattle.plain.specs.Node.{clientNumbers, updatesTo, withValue}
-use Rattle.plain.specs.Calls.{Reading, Effect, callNumber, readingVerdict, readingEffect, effect}
+use Rattle.plain.specs.Calls.{Reading, Call, withOutbox, Effect, sends, isSmall, ownFaults, callNumber, readingVerdict, readingEffect, effect}
 use Rattle.sound.proofs.Lists.{each-at}
 use Rattle.sound.proofs.Accepted.{GoodParameter, accepted}
 use Rattle.sound.proofs.Homes.{parameter-home}
@@ -39,7 +41,7 @@ use Rattle.state.proofs.Settled.{Sized, some-stored, stored-fit}
 use Rattle.state.proofs.Views.{value-view}
 use Rattle.outcome.specs.Setting.{areaWith, settingsWith}
 use Rattle.promise.specs.Promise.{Kept, setBy, timeOf}
-use Rattle.promise.proofs.Numbers.{Good, good, reading-number}
+use Rattle.promise.proofs.Numbers.{Good, good, number-is}
 use Rattle.promise.proofs.Answers.{accepts}
 use Rattle.promise.proofs.Clients.{fit-parts}
 use Rattle.accepted.specs.Fitting.{Fitting}
@@ -48,8 +50,11 @@ module _ (table : List ℕ) (s : State) (values outbox : List ℕ) (k t : ℕ) (
   abbrev w : Table
   w = tableOf table
 
-  abbrev lent-good : Good table s values (length outbox) t
-  lent-good = good table s values (length outbox) t (g .lent)
+  abbrev lent-good : Good table s values (ltb (length outbox) 32768) t
+  lent-good = good table s values (ltb (length outbox) 32768) t (g .lent)
+
+  abbrev taken : Call
+  taken = withOutbox (Reading k bs t) (length values) (length outbox)
 
   -- the parameter that is read
   abbrev it : Placed Parameter
@@ -101,7 +106,7 @@ module _ (table : List ℕ) (s : State) (values outbox : List ℕ) (k t : ℕ) (
     read-size = rw size-is small
 
     -- what the plain node does
-    does : effect w (view table s values) (Reading k bs t (length values) (length outbox))
+    does : effect w (view table s values) (Reading k bs t)
         ≡ record { next = withValue (view table s values) k (record { text = storedForm bs; time = t }); used = 0; records = updates (storedForm bs) }
     unfolding effect readingEffect view parameterOf
     does = rw there refl
@@ -113,9 +118,9 @@ module _ (table : List ℕ) (s : State) (values outbox : List ℕ) (k t : ℕ) (
     fit : (settingsUnfit (s .settings) values 0 (parameters w) ≡ false) × (any (clientUnfit (length (w .modules)) (s .clients)) clientNumbers ≡ false)
     fit = fit-parts w s values (lent-good .fit)
 
-    is-number : callNumber table (isUnfit w s values) (view table s values) (Reading k bs t (length values) (length outbox)) ≡ 0
-    unfolding lowest readingVerdict parameterOf
-    is-number = reading-number table s values k bs t (length outbox) ∙ rw (g .lent, there, g .fits)
+    is-number : callNumber table (isUnfit w s values) (view table s values) taken ≡ 0
+    unfolding sends isSmall ownFaults lowest readingVerdict parameterOf
+    is-number = number-is table s values (Reading k bs t) (length outbox) t _ refl ∙ rw (g .lent, there, g .fits)
 
     -- the names, as they are read from the table
     module _ (m a : List ℕ) (named-module : m ≡ bytesOf table (e .name)) (named : a ≡ bytesOf table (q .name)) where
@@ -129,7 +134,7 @@ module _ (table : List ℕ) (s : State) (values outbox : List ℕ) (k t : ℕ) (
       updates-room =
           let f = fine (storedForm bs) small in
           let u = written-to (clientAt (s .clients)) (e .modules - 1) (told (storedForm bs)) f clientNumbers .short in
-          let o = lent-good .outbox in
+          let o = ltb-false (length outbox) 32768 (lent-good .outbox) in
           let few = accepted table (lent-good .accepted) .fewModules in
           let home = parameter-home w k it there in (
             omega arith,
@@ -165,13 +170,13 @@ module _ (table : List ℕ) (s : State) (values outbox : List ℕ) (k t : ℕ) (
             rw (next-is, area-is)
             (rw (stored-fit (s .settings) z values (lent-good .area) k (g .low) (storedForm bs) (some-stored (it .it .datainfo) (storedForm bs) is-stored) small t (parameters w) (fit .0) it there is-stored (lent-good .time), fit .1) refl)
 
-        pub is-taken : Kept table (Reading k bs t (length values) (length outbox)) s values outbox (record { number = 0; used = 0; written = n; state = next }) after outbox′
+        pub is-taken : Kept table taken s values outbox (record { number = 0; used = 0; written = n; state = next }) after outbox′
         unfolding written outboxAfter setBy timeOf areaWith settingsWith
         is-taken =
             let d = sym does in
             let u = written-to (clientAt (s .clients)) (e .modules - 1) (told (storedForm bs)) (fine (storedForm bs) small) clientNumbers .short in
             let end = puts .ends in
-            accepts table s values (Reading k bs t (length values) (length outbox)) outbox (record { number = 0; used = 0; written = n; state = next }) after outbox′ is-number (omega arith)
+            accepts table s values taken outbox (record { number = 0; used = 0; written = n; state = next }) after outbox′ is-number (omega arith)
             (record {
               number = refl;
               used = ap (λ (y : Effect). y .used) d;

@@ -8,7 +8,6 @@ use state::State;
 use state::client::ended;
 use state::client::joined;
 ghost use Prim.Native.Nat.{_≤_};
-ghost use lib.ListN.{length};
 ghost use Rattle.ascii.specs.Numbers.{latest};
 ghost use Rattle.table.specs.Layout.{tableOf};
 ghost use Rattle.plain.specs.Answer.{answer};
@@ -63,7 +62,7 @@ pub fn take_piece(
     bytes: &[u8],
 ) -> Done
     requires { ⌜ Ready (now table) state (now values) (now outbox) client × (time ≤ latest) ⌝ }
-    ensures { λ r. ⌜ Leaves (now (table .entry)) state (now (values .entry)) (Piece client (now (bytes .entry)) time (length (now (values .entry))) (length (now (outbox .entry)))) (now (outbox .entry)) r (now (values .exit)) (now (outbox .exit)) ⌝ }
+    ensures { λ r. ⌜ Leaves (now (table .entry)) state (now (values .entry)) (Piece client (now (bytes .entry)) time) (now (outbox .entry)) r (now (values .exit)) (now (outbox .exit)) ⌝ }
 {
     let n = feed_at(bytes);
     let settings = state.settings;

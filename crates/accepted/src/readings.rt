@@ -8,7 +8,7 @@ use table::layout::ParameterAt;
 use update::bytes_of;
 use update::put_updates_to;
 ghost use lib.ListN.{length};
-ghost use Rattle.plain.specs.Calls.{Reading};
+ghost use Rattle.plain.specs.Calls.{Reading, withOutbox};
 ghost use Rattle.promise.specs.Promise.{Kept};
 ghost use Rattle.accepted.specs.Fitting.{Fitting};
 
@@ -25,7 +25,7 @@ pub fn take_reading(
     home: Cursor,
 ) -> Done
     requires { ⌜ Fitting (now table) state (now values) (now outbox) k time (now bytes) p home ⌝ }
-    ensures { λ r. ⌜ Kept (now (table .entry)) (Reading k (now (bytes .entry)) time (length (now (values .entry))) (length (now (outbox .entry)))) state (now (values .entry)) (now (outbox .entry)) r (now (values .exit)) (now (outbox .exit)) ⌝ }
+    ensures { λ r. ⌜ Kept (now (table .entry)) (withOutbox (Reading k (now (bytes .entry)) time) (length (now (values .entry))) (length (now (outbox .entry)))) state (now (values .entry)) (now (outbox .entry)) r (now (values .exit)) (now (outbox .exit)) ⌝ }
 {
     let clients = state.clients;
     let at = 256 * k;

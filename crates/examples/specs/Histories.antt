@@ -1,7 +1,7 @@
 -- Histories that the reference program generated, with the answers that it gives. Printed by it; not edited by hand. Assumes nothing.
 use mathlib.Core.List.{List, [], _∷_}
 use Rattle.ascii.specs.Text.{bytes}
-use Rattle.plain.specs.Calls.{Open, Close, Piece, Reading}
+use Rattle.plain.specs.Calls.{Open, Close, Piece, Reading, withArea, withOutbox}
 use Rattle.examples.specs.Told.{History}
 
 unfoldable pub history-1 : History
@@ -12,8 +12,8 @@ history-1 =
       time = 1737;
       start = 0;
       calls =
-          Open 0 1000 16384
-          ∷ Piece 0 (bytes "describe x {\n") 3476 16384 32768
+          withArea (Open 0 1000) 16384
+          ∷ withOutbox (Piece 0 (bytes "describe x {\n") 3476) 16384 32768
           ∷ [];
       due =
           record { number = 0; used = 0; written = bytes "" }
@@ -29,9 +29,9 @@ history-2 =
       time = 0;
       start = 0;
       calls =
-          Open 0 1000 16384
-          ∷ Piece 0 (bytes "activate\n") 2212 16384 32768
-          ∷ Piece 0 (bytes "deactivate t1\n") 3089 16384 32769
+          withArea (Open 0 1000) 16384
+          ∷ withOutbox (Piece 0 (bytes "activate\n") 2212) 16384 32768
+          ∷ withOutbox (Piece 0 (bytes "deactivate t1\n") 3089) 16384 32769
           ∷ [];
       due =
           record { number = 0; used = 0; written = bytes "" }
@@ -48,12 +48,12 @@ history-3 =
       time = 9999999999999;
       start = 0;
       calls =
-          Open 0 1000 16384
-          ∷ Open 3 1000 16384
-          ∷ Piece 3 (bytes "activate\n") 9999999999999 16384 32768
-          ∷ Piece 0 (bytes "activate\n") 1505396350797 20000 32768
-          ∷ Piece 0 (bytes "change t1:pid {\"p\":7,\"q\":false}\n") 1505396352060 16385 40000
-          ∷ Piece 3 (bytes "change mf:mode 0\n") 1505396354739 16385 32768
+          withArea (Open 0 1000) 16384
+          ∷ withArea (Open 3 1000) 16384
+          ∷ withOutbox (Piece 3 (bytes "activate\n") 9999999999999) 16384 32768
+          ∷ withOutbox (Piece 0 (bytes "activate\n") 1505396350797) 20000 32768
+          ∷ withOutbox (Piece 0 (bytes "change t1:pid {\"p\":7,\"q\":false}\n") 1505396352060) 16385 40000
+          ∷ withOutbox (Piece 3 (bytes "change mf:mode 0\n") 1505396354739) 16385 32768
           ∷ [];
       due =
           record { number = 0; used = 0; written = bytes "" }
@@ -73,11 +73,11 @@ history-4 =
       time = 2088;
       start = 0;
       calls =
-          Open 0 1000 16384
-          ∷ Piece 0 (bytes "change t1:mode \"123456789\"\n") 3415 16384 32768
-          ∷ Piece 0 (bytes "change t1:mode 3e2\n") 5964 16384 32769
-          ∷ Piece 0 (bytes "change t1:mode [1,2,3]\n") 6870 16384 32768
-          ∷ Piece 0 (bytes "change t1:mode  0\n") 9339 16384 32769
+          withArea (Open 0 1000) 16384
+          ∷ withOutbox (Piece 0 (bytes "change t1:mode \"123456789\"\n") 3415) 16384 32768
+          ∷ withOutbox (Piece 0 (bytes "change t1:mode 3e2\n") 5964) 16384 32769
+          ∷ withOutbox (Piece 0 (bytes "change t1:mode [1,2,3]\n") 6870) 16384 32768
+          ∷ withOutbox (Piece 0 (bytes "change t1:mode  0\n") 9339) 16384 32769
           ∷ [];
       due =
           record { number = 0; used = 0; written = bytes "" }
@@ -96,11 +96,11 @@ history-5 =
       time = 3380;
       start = 0;
       calls =
-          Open 0 1000 16384
-          ∷ Piece 0 (bytes "read mf:label\n") 1112 16384 40000
-          ∷ Piece 0 (bytes "read mf:label:x y\n") 1872 16384 40000
-          ∷ Piece 0 (bytes "read MF:LABEL\n") 0 16384 40000
-          ∷ Piece 0 (bytes "read :value\n") 1413 16384 32768
+          withArea (Open 0 1000) 16384
+          ∷ withOutbox (Piece 0 (bytes "read mf:label\n") 1112) 16384 40000
+          ∷ withOutbox (Piece 0 (bytes "read mf:label:x y\n") 1872) 16384 40000
+          ∷ withOutbox (Piece 0 (bytes "read MF:LABEL\n") 0) 16384 40000
+          ∷ withOutbox (Piece 0 (bytes "read :value\n") 1413) 16384 32768
           ∷ [];
       due =
           record { number = 0; used = 0; written = bytes "" }
@@ -119,10 +119,10 @@ history-6 =
       time = 1917;
       start = 0;
       calls =
-          Open 0 1000 16384
-          ∷ Piece 0 (bytes "change tx:target 1\n") 1988 16384 32768
-          ∷ Piece 0 (bytes "do t1:value\n") 906 20000 32769
-          ∷ Piece 0 (bytes "do t1:9\n") 2571 16384 32769
+          withArea (Open 0 1000) 16384
+          ∷ withOutbox (Piece 0 (bytes "change tx:target 1\n") 1988) 16384 32768
+          ∷ withOutbox (Piece 0 (bytes "do t1:value\n") 906) 20000 32769
+          ∷ withOutbox (Piece 0 (bytes "do t1:9\n") 2571) 16384 32769
           ∷ [];
       due =
           record { number = 0; used = 0; written = bytes "" }
@@ -140,11 +140,11 @@ history-7 =
       time = 1866;
       start = 0;
       calls =
-          Open 0 1000 16384
-          ∷ Piece 0 (bytes "do t1:stop\n") 3043 16384 32768
-          ∷ Piece 0 (bytes "do t1:stop x\n") 5679 16384 32768
-          ∷ Piece 0 (bytes "do t1:stop:\n") 6318 16385 40000
-          ∷ Piece 0 (bytes "do t1:stop x\n") 7201 16385 32768
+          withArea (Open 0 1000) 16384
+          ∷ withOutbox (Piece 0 (bytes "do t1:stop\n") 3043) 16384 32768
+          ∷ withOutbox (Piece 0 (bytes "do t1:stop x\n") 5679) 16384 32768
+          ∷ withOutbox (Piece 0 (bytes "do t1:stop:\n") 6318) 16385 40000
+          ∷ withOutbox (Piece 0 (bytes "do t1:stop x\n") 7201) 16385 32768
           ∷ [];
       due =
           record { number = 0; used = 0; written = bytes "" }
@@ -163,12 +163,12 @@ history-8 =
       time = 463;
       start = 0;
       calls =
-          Open 0 1000 16384
-          ∷ Open 0 1000 16384
-          ∷ Open 5 1345 16384
-          ∷ Close 4 1927 16384
-          ∷ Piece 0 (bytes "ping\n") 1 16384 32767
-          ∷ Piece 0 (bytes "ping\n") 3916 16385 40000
+          withArea (Open 0 1000) 16384
+          ∷ withArea (Open 0 1000) 16384
+          ∷ withArea (Open 5 1345) 16384
+          ∷ withArea (Close 4 1927) 16384
+          ∷ withOutbox (Piece 0 (bytes "ping\n") 1) 16384 32767
+          ∷ withOutbox (Piece 0 (bytes "ping\n") 3916) 16385 40000
           ∷ [];
       due =
           record { number = 0; used = 0; written = bytes "" }
@@ -188,12 +188,12 @@ history-9 =
       time = 9999999999999;
       start = 0;
       calls =
-          Open 0 1000 16384
-          ∷ Piece 0 (bytes "") 73 16384 40000
-          ∷ Piece 0 (bytes "read t1:value\nping x\npi") 2049 16384 32768
-          ∷ Piece 0 (bytes "ping x\npi") 9999999999999 16384 40000
-          ∷ Piece 0 (bytes "pi") 2155 16384 32768
-          ∷ Piece 0 (bytes "") 3533 20000 32768
+          withArea (Open 0 1000) 16384
+          ∷ withOutbox (Piece 0 (bytes "") 73) 16384 40000
+          ∷ withOutbox (Piece 0 (bytes "read t1:value\nping x\npi") 2049) 16384 32768
+          ∷ withOutbox (Piece 0 (bytes "ping x\npi") 9999999999999) 16384 40000
+          ∷ withOutbox (Piece 0 (bytes "pi") 2155) 16384 32768
+          ∷ withOutbox (Piece 0 (bytes "") 3533) 20000 32768
           ∷ [];
       due =
           record { number = 0; used = 0; written = bytes "" }
@@ -213,9 +213,9 @@ history-10 =
       time = 1505396351143;
       start = 0;
       calls =
-          Open 0 1000 16384
-          ∷ Piece 0 (bytes "*IDN?\r\n") 1505396351143 16385 32768
-          ∷ Piece 0 (bytes "*idn?\n") 1505396351318 16384 32768
+          withArea (Open 0 1000) 16384
+          ∷ withOutbox (Piece 0 (bytes "*IDN?\r\n") 1505396351143) 16385 32768
+          ∷ withOutbox (Piece 0 (bytes "*idn?\n") 1505396351318) 16384 32768
           ∷ [];
       due =
           record { number = 0; used = 0; written = bytes "" }
@@ -232,12 +232,12 @@ history-11 =
       time = 209;
       start = 0;
       calls =
-          Open 0 1000 16384
-          ∷ Open 3 1000 16384
-          ∷ Piece 3 (bytes "activate\n") 1225 16384 32768
-          ∷ Piece 0 (bytes "activate mf\n") 3527 16384 32769
-          ∷ Piece 0 (bytes "change mf:pid {\"p\":0,\"q\":false}\n") 1108 16384 32768
-          ∷ Piece 3 (bytes "change mf:pid {\"p\":9,\"q\":true}\n") 5874 16384 32769
+          withArea (Open 0 1000) 16384
+          ∷ withArea (Open 3 1000) 16384
+          ∷ withOutbox (Piece 3 (bytes "activate\n") 1225) 16384 32768
+          ∷ withOutbox (Piece 0 (bytes "activate mf\n") 3527) 16384 32769
+          ∷ withOutbox (Piece 0 (bytes "change mf:pid {\"p\":0,\"q\":false}\n") 1108) 16384 32768
+          ∷ withOutbox (Piece 3 (bytes "change mf:pid {\"p\":9,\"q\":true}\n") 5874) 16384 32769
           ∷ [];
       due =
           record { number = 0; used = 0; written = bytes "" }
@@ -257,10 +257,10 @@ history-12 =
       time = 0;
       start = 0;
       calls =
-          Open 0 1000 16384
-          ∷ Piece 0 (bytes "change mf:target -0.0000E+0\n") 1699 16384 32769
-          ∷ Piece 0 (bytes "change mf:label \"\\x;\"\n") 2801 16385 32769
-          ∷ Piece 0 (bytes "read mf:target\n") 3436 16384 32769
+          withArea (Open 0 1000) 16384
+          ∷ withOutbox (Piece 0 (bytes "change mf:target -0.0000E+0\n") 1699) 16384 32769
+          ∷ withOutbox (Piece 0 (bytes "change mf:label \"\\x;\"\n") 2801) 16385 32769
+          ∷ withOutbox (Piece 0 (bytes "read mf:target\n") 3436) 16384 32769
           ∷ [];
       due =
           record { number = 0; used = 0; written = bytes "" }
@@ -278,11 +278,11 @@ history-13 =
       time = 1505396344666;
       start = 0;
       calls =
-          Open 0 1000 16384
-          ∷ Piece 0 (bytes "do mf:go\n") 1505396344666 16384 32769
-          ∷ Piece 0 (bytes "do mf:go  null \n") 1505396347224 16384 32768
-          ∷ Piece 0 (bytes "do mf:go [null]\n") 1505396349837 16384 32768
-          ∷ Piece 0 (bytes "do mf:go null\n") 1505396351719 16384 32769
+          withArea (Open 0 1000) 16384
+          ∷ withOutbox (Piece 0 (bytes "do mf:go\n") 1505396344666) 16384 32769
+          ∷ withOutbox (Piece 0 (bytes "do mf:go  null \n") 1505396347224) 16384 32768
+          ∷ withOutbox (Piece 0 (bytes "do mf:go [null]\n") 1505396349837) 16384 32768
+          ∷ withOutbox (Piece 0 (bytes "do mf:go null\n") 1505396351719) 16384 32769
           ∷ [];
       due =
           record { number = 0; used = 0; written = bytes "" }
@@ -301,11 +301,11 @@ history-14 =
       time = 1717;
       start = 0;
       calls =
-          Open 0 1000 16384
-          ∷ Piece 0 (bytes "activate t1\n") 4294 16384 32769
-          ∷ Reading 2 (bytes "{\"q\":true,\"p\":-0}") 7146 16384 32768
-          ∷ Piece 0 (bytes "read mf:pid\n") 9232 20000 32768
-          ∷ Reading 2 (bytes "{\"p\":6,\"q\":false}") 10708 20000 32768
+          withArea (Open 0 1000) 16384
+          ∷ withOutbox (Piece 0 (bytes "activate t1\n") 4294) 16384 32769
+          ∷ withOutbox (Reading 2 (bytes "{\"q\":true,\"p\":-0}") 7146) 16384 32768
+          ∷ withOutbox (Piece 0 (bytes "read mf:pid\n") 9232) 20000 32768
+          ∷ withOutbox (Reading 2 (bytes "{\"p\":6,\"q\":false}") 10708) 20000 32768
           ∷ [];
       due =
           record { number = 0; used = 0; written = bytes "" }
@@ -324,12 +324,12 @@ history-15 =
       time = 1732;
       start = 0;
       calls =
-          Open 0 1000 16384
-          ∷ Open 8 1000 16384
-          ∷ Piece 5 (bytes "ping x\n") 1789 0 32769
-          ∷ Piece 4 (bytes "ping x\n") 9919879936878 16383 32768
-          ∷ Piece 7 (bytes "ping\n") 9999999999999 16384 32768
-          ∷ Piece 0 (bytes "ping\n") 9999999999999 20000 32769
+          withArea (Open 0 1000) 16384
+          ∷ withArea (Open 8 1000) 16384
+          ∷ withOutbox (Piece 5 (bytes "ping x\n") 1789) 0 32769
+          ∷ withOutbox (Piece 4 (bytes "ping x\n") 9919879936878) 16383 32768
+          ∷ withOutbox (Piece 7 (bytes "ping\n") 9999999999999) 16384 32768
+          ∷ withOutbox (Piece 0 (bytes "ping\n") 9999999999999) 20000 32769
           ∷ [];
       due =
           record { number = 0; used = 0; written = bytes "" }
@@ -349,10 +349,10 @@ history-16 =
       time = 9732609824785;
       start = 0;
       calls =
-          Open 0 1000 16384
-          ∷ Piece 0 (bytes " \n") 1505396349031 16384 32768
-          ∷ Piece 0 (bytes "a\0\n") 1505396351669 16385 32768
-          ∷ Piece 0 (bytes "_custom\n") 1505396346259 16384 32768
+          withArea (Open 0 1000) 16384
+          ∷ withOutbox (Piece 0 (bytes " \n") 1505396349031) 16384 32768
+          ∷ withOutbox (Piece 0 (bytes "a\0\n") 1505396351669) 16385 32768
+          ∷ withOutbox (Piece 0 (bytes "_custom\n") 1505396346259) 16384 32768
           ∷ [];
       due =
           record { number = 0; used = 0; written = bytes "" }
@@ -370,11 +370,11 @@ history-17 =
       time = 474;
       start = 0;
       calls =
-          Open 0 1000 16384
-          ∷ Piece 0 (bytes "activate\n") 1449 16384 32769
-          ∷ Reading 2 (bytes "[false,0]") 3892 16384 32769
-          ∷ Piece 0 (bytes "read t1:pair\n") 5473 16384 32768
-          ∷ Reading 2 (bytes "[false]") 775 20000 32768
+          withArea (Open 0 1000) 16384
+          ∷ withOutbox (Piece 0 (bytes "activate\n") 1449) 16384 32769
+          ∷ withOutbox (Reading 2 (bytes "[false,0]") 3892) 16384 32769
+          ∷ withOutbox (Piece 0 (bytes "read t1:pair\n") 5473) 16384 32768
+          ∷ withOutbox (Reading 2 (bytes "[false]") 775) 20000 32768
           ∷ [];
       due =
           record { number = 0; used = 0; written = bytes "" }
@@ -393,10 +393,10 @@ history-18 =
       time = 1505396349359;
       start = 0;
       calls =
-          Open 0 1000 16384
-          ∷ Piece 0 (bytes "\r\r\n") 1505396346367 16385 40000
-          ∷ Piece 0 (bytes "ping\t1\n") 1505396348483 20000 32769
-          ∷ Piece 0 (bytes "error_ x\n") 1505396350305 16384 32768
+          withArea (Open 0 1000) 16384
+          ∷ withOutbox (Piece 0 (bytes "\r\r\n") 1505396346367) 16385 40000
+          ∷ withOutbox (Piece 0 (bytes "ping\t1\n") 1505396348483) 20000 32769
+          ∷ withOutbox (Piece 0 (bytes "error_ x\n") 1505396350305) 16384 32768
           ∷ [];
       due =
           record { number = 0; used = 0; written = bytes "" }
@@ -414,11 +414,11 @@ history-19 =
       time = 1505396350353;
       start = 0;
       calls =
-          Open 0 1000 16384
-          ∷ Piece 0 (bytes "change mf:pid [true]\n") 1505396351805 20000 32768
-          ∷ Piece 0 (bytes "change mf:pid [1,true\n") 1505396353399 20000 32768
-          ∷ Piece 0 (bytes "change mf:pid {\"p\":1}\n") 1505396355659 16384 40000
-          ∷ Piece 0 (bytes "change mf:target  0.0000000001e0\n") 967 16384 32768
+          withArea (Open 0 1000) 16384
+          ∷ withOutbox (Piece 0 (bytes "change mf:pid [true]\n") 1505396351805) 20000 32768
+          ∷ withOutbox (Piece 0 (bytes "change mf:pid [1,true\n") 1505396353399) 20000 32768
+          ∷ withOutbox (Piece 0 (bytes "change mf:pid {\"p\":1}\n") 1505396355659) 16384 40000
+          ∷ withOutbox (Piece 0 (bytes "change mf:target  0.0000000001e0\n") 967) 16384 32768
           ∷ [];
       due =
           record { number = 0; used = 0; written = bytes "" }
@@ -437,10 +437,10 @@ history-20 =
       time = 1505396349440;
       start = 0;
       calls =
-          Open 0 1000 16384
-          ∷ Reading 3 (bytes " ") 1505396349286 16385 32768
-          ∷ Reading 4294967296 (bytes "1") 1505396349779 16385 32768
-          ∷ Piece 0 (bytes "read t1:list\n") 4132618558464 16385 32769
+          withArea (Open 0 1000) 16384
+          ∷ withOutbox (Reading 3 (bytes " ") 1505396349286) 16385 32768
+          ∷ withOutbox (Reading 4294967296 (bytes "1") 1505396349779) 16385 32768
+          ∷ withOutbox (Piece 0 (bytes "read t1:list\n") 4132618558464) 16385 32769
           ∷ [];
       due =
           record { number = 0; used = 0; written = bytes "" }
@@ -458,12 +458,12 @@ history-21 =
       time = 1000;
       start = 0;
       calls =
-          Open 1 2000 16384
-          ∷ Open 2 3000 16384
-          ∷ Piece 1 (bytes "activate\n") 4000 16384 32768
-          ∷ Piece 1 (bytes "deactivate t1\n") 5000 16384 32768
-          ∷ Piece 2 (bytes "change t1:p true\n") 6000 16384 32768
-          ∷ Piece 2 (bytes "change mf:q 7\n") 7000 16384 32768
+          withArea (Open 1 2000) 16384
+          ∷ withArea (Open 2 3000) 16384
+          ∷ withOutbox (Piece 1 (bytes "activate\n") 4000) 16384 32768
+          ∷ withOutbox (Piece 1 (bytes "deactivate t1\n") 5000) 16384 32768
+          ∷ withOutbox (Piece 2 (bytes "change t1:p true\n") 6000) 16384 32768
+          ∷ withOutbox (Piece 2 (bytes "change mf:q 7\n") 7000) 16384 32768
           ∷ [];
       due =
           record { number = 0; used = 0; written = bytes "" }
@@ -483,13 +483,13 @@ history-22 =
       time = 1000;
       start = 0;
       calls =
-          Open 0 2000 16384
-          ∷ Piece 0 (bytes "activate\n") 3000 16384 32768
-          ∷ Close 0 4000 16384
-          ∷ Reading 0 (bytes "4") 5000 16384 32768
-          ∷ Open 0 6000 16384
-          ∷ Reading 0 (bytes "5") 7000 16384 32768
-          ∷ Piece 0 (bytes "read t1:p\n") 8000 16384 32768
+          withArea (Open 0 2000) 16384
+          ∷ withOutbox (Piece 0 (bytes "activate\n") 3000) 16384 32768
+          ∷ withArea (Close 0 4000) 16384
+          ∷ withOutbox (Reading 0 (bytes "4") 5000) 16384 32768
+          ∷ withArea (Open 0 6000) 16384
+          ∷ withOutbox (Reading 0 (bytes "5") 7000) 16384 32768
+          ∷ withOutbox (Piece 0 (bytes "read t1:p\n") 8000) 16384 32768
           ∷ [];
       due =
           record { number = 0; used = 0; written = bytes "" }
@@ -510,9 +510,9 @@ history-23 =
       time = 1000;
       start = 0;
       calls =
-          Open 0 2000 16384
-          ∷ Piece 0 (bytes "do mf:go  [ 1 , 2 ] \n") 3000 16384 32768
-          ∷ Piece 0 (bytes "do t1:stop\n") 4000 16384 32768
+          withArea (Open 0 2000) 16384
+          ∷ withOutbox (Piece 0 (bytes "do mf:go  [ 1 , 2 ] \n") 3000) 16384 32768
+          ∷ withOutbox (Piece 0 (bytes "do t1:stop\n") 4000) 16384 32768
           ∷ [];
       due =
           record { number = 0; used = 0; written = bytes "" }
@@ -529,9 +529,9 @@ history-24 =
       time = 1000;
       start = 0;
       calls =
-          Open 0 2000 16384
-          ∷ Piece 0 (bytes "ping xxxxxxxxxxxxxxxxxxxxxxxxxxxxxxxxxxxxxxxxxxxxxxxxxxxxxxxxxxxxxxxxxxxxxxxxxxxxxxxxxxxxxxxxxxxxxxxxxxxxxxxxxxxxxxxxxxxxxxxxxxxxxxxxxxxxxxxxxxxxxxxxxxxxxxxxxxxxxxxxxxxxxxxxxxxxxxxxxxxxxxxxxxxxxxxxxxxxxxxxxxxxxxxxxxxxxxxxxxxxxxxxxxxxxxxxxxxxxxxxxxxxxxxxxxxxxxxxxxxxxxxxxxxxxxxxxxxxxxxxxxxxxxxxxxxxxxxxxxxxxxxxxxxxxxxxxxxxxxxxxxxxxxxxxxxxxxxxxxxxxxxxxxxxxxxxxxxxxxxxxxxxxxxxxxxxxxxxxxxxxxxxxxxxxxxxxxxxxxxxxxxxxxxxxxxxxxxxxxxxxxxxxxxxxxxxxxxxxxxxxxxxxxxxxxxxxxxxxxxxxxxxxxxxxxxxxxxxxxxxxxxxxxxxxxxxxxxxxxxxxxxxxxxxxxxxxxxxxxxxxxxxxxxxxxxxxxxxxxxxxxxxxxxxxxxxxxxxxxxxxxxxxxxxxxxxxxxxxxxxxxxxxxxxxxxxxxxxxxxxxxxxxxxxxxxxxxxxxxxxxxxxxxxxxxxxxxxxxxxxxxxxxxxxxxxxxxxxxxxxxxxxxxxxxxxxxxxxxxxxxxxxxxxxxxxxxxxxxxxxxxxxxxxxxxxxxxxxxxxxxxxxxxxxxxxxxxxxxxxxxxxxxxxxxxxxxxxxxxxxxxxxxxxxxxxxxxxxxxxxxxxxxxxxxxxxxxxxxxxxxxxxxxxxxxxxxxxxxxxxxxxxxxxxxxxxxxxxxxxxxxxxxxxxxxxxxxxxxxxxxxxxxxxxxxxxxxxxxxxxxxxxxxxxxxxxxxxxxxxxxxxxxxxxxxxxxxxxxxxxxxxxxxxxxxxxxxxxxxxxxxxxxxxxxxxxxxxxxxxxxxxxxxxxxxxxxxxxxxxxxxxxxxxxxxxxxxxxxxxxxxxxxxxxxxxxxxxxxxx\n") 3000 16384 32768
-          ∷ Piece 0 (bytes "ping xxxxxxxxxxxxxxxxxxxxxxxxxxxxxxxxxxxxxxxxxxxxxxxxxxxxxxxxxxxxxxxxxxxxxxxxxxxxxxxxxxxxxxxxxxxxxxxxxxxxxxxxxxxxxxxxxxxxxxxxxxxxxxxxxxxxxxxxxxxxxxxxxxxxxxxxxxxxxxxxxxxxxxxxxxxxxxxxxxxxxxxxxxxxxxxxxxxxxxxxxxxxxxxxxxxxxxxxxxxxxxxxxxxxxxxxxxxxxxxxxxxxxxxxxxxxxxxxxxxxxxxxxxxxxxxxxxxxxxxxxxxxxxxxxxxxxxxxxxxxxxxxxxxxxxxxxxxxxxxxxxxxxxxxxxxxxxxxxxxxxxxxxxxxxxxxxxxxxxxxxxxxxxxxxxxxxxxxxxxxxxxxxxxxxxxxxxxxxxxxxxxxxxxxxxxxxxxxxxxxxxxxxxxxxxxxxxxxxxxxxxxxxxxxxxxxxxxxxxxxxxxxxxxxxxxxxxxxxxxxxxxxxxxxxxxxxxxxxxxxxxxxxxxxxxxxxxxxxxxxxxxxxxxxxxxxxxxxxxxxxxxxxxxxxxxxxxxxxxxxxxxxxxxxxxxxxxxxxxxxxxxxxxxxxxxxxxxxxxxxxxxxxxxxxxxxxxxxxxxxxxxxxxxxxxxxxxxxxxxxxxxxxxxxxxxxxxxxxxxxxxxxxxxxxxxxxxxxxxxxxxxxxxxxxxxxxxxxxxxxxxxxxxxxxxxxxxxxxxxxxxxxxxxxxxxxxxxxxxxxxxxxxxxxxxxxxxxxxxxxxxxxxxxxxxxxxxxxxxxxxxxxxxxxxxxxxxxxxxxxxxxxxxxxxxxxxxxxxxxxxxxxxxxxxxxxxxxxxxxxxxxxxxxxxxxxxxxxxxxxxxxxxxxxxxxxxxxxxxxxxxxxxxxxxxxxxxxxxxxxxxxxxxxxxxxxxxxxxxxxxxxxxxxxxxxxxxxxxxxxxxxxxxxxxxxxxxxxxxxxxxxxxxxxxxxxxxxxxxxxxxxxxxxxxxxxxxxxxxxxxxxxxxxxxxxxxxxxxx\r\n") 4000 16384 32768
+          withArea (Open 0 2000) 16384
+          ∷ withOutbox (Piece 0 (bytes "ping xxxxxxxxxxxxxxxxxxxxxxxxxxxxxxxxxxxxxxxxxxxxxxxxxxxxxxxxxxxxxxxxxxxxxxxxxxxxxxxxxxxxxxxxxxxxxxxxxxxxxxxxxxxxxxxxxxxxxxxxxxxxxxxxxxxxxxxxxxxxxxxxxxxxxxxxxxxxxxxxxxxxxxxxxxxxxxxxxxxxxxxxxxxxxxxxxxxxxxxxxxxxxxxxxxxxxxxxxxxxxxxxxxxxxxxxxxxxxxxxxxxxxxxxxxxxxxxxxxxxxxxxxxxxxxxxxxxxxxxxxxxxxxxxxxxxxxxxxxxxxxxxxxxxxxxxxxxxxxxxxxxxxxxxxxxxxxxxxxxxxxxxxxxxxxxxxxxxxxxxxxxxxxxxxxxxxxxxxxxxxxxxxxxxxxxxxxxxxxxxxxxxxxxxxxxxxxxxxxxxxxxxxxxxxxxxxxxxxxxxxxxxxxxxxxxxxxxxxxxxxxxxxxxxxxxxxxxxxxxxxxxxxxxxxxxxxxxxxxxxxxxxxxxxxxxxxxxxxxxxxxxxxxxxxxxxxxxxxxxxxxxxxxxxxxxxxxxxxxxxxxxxxxxxxxxxxxxxxxxxxxxxxxxxxxxxxxxxxxxxxxxxxxxxxxxxxxxxxxxxxxxxxxxxxxxxxxxxxxxxxxxxxxxxxxxxxxxxxxxxxxxxxxxxxxxxxxxxxxxxxxxxxxxxxxxxxxxxxxxxxxxxxxxxxxxxxxxxxxxxxxxxxxxxxxxxxxxxxxxxxxxxxxxxxxxxxxxxxxxxxxxxxxxxxxxxxxxxxxxxxxxxxxxxxxxxxxxxxxxxxxxxxxxxxxxxxxxxxxxxxxxxxxxxxxxxxxxxxxxxxxxxxxxxxxxxxxxxxxxxxxxxxxxxxxxxxxxxxxxxxxxxxxxxxxxxxxxxxxxxxxxxxxxxxxxxxxxxxxxxxxxxxxxxxxxxxxxxxxxxxxxxxxxxxxxxxxxxxxxxxxxxxxxxxxxxxxxxxxxxxxxxxxxxxxxxxxxxxxxxxxxxxxxxxxxxxxxxxxx\n") 3000) 16384 32768
+          ∷ withOutbox (Piece 0 (bytes "ping xxxxxxxxxxxxxxxxxxxxxxxxxxxxxxxxxxxxxxxxxxxxxxxxxxxxxxxxxxxxxxxxxxxxxxxxxxxxxxxxxxxxxxxxxxxxxxxxxxxxxxxxxxxxxxxxxxxxxxxxxxxxxxxxxxxxxxxxxxxxxxxxxxxxxxxxxxxxxxxxxxxxxxxxxxxxxxxxxxxxxxxxxxxxxxxxxxxxxxxxxxxxxxxxxxxxxxxxxxxxxxxxxxxxxxxxxxxxxxxxxxxxxxxxxxxxxxxxxxxxxxxxxxxxxxxxxxxxxxxxxxxxxxxxxxxxxxxxxxxxxxxxxxxxxxxxxxxxxxxxxxxxxxxxxxxxxxxxxxxxxxxxxxxxxxxxxxxxxxxxxxxxxxxxxxxxxxxxxxxxxxxxxxxxxxxxxxxxxxxxxxxxxxxxxxxxxxxxxxxxxxxxxxxxxxxxxxxxxxxxxxxxxxxxxxxxxxxxxxxxxxxxxxxxxxxxxxxxxxxxxxxxxxxxxxxxxxxxxxxxxxxxxxxxxxxxxxxxxxxxxxxxxxxxxxxxxxxxxxxxxxxxxxxxxxxxxxxxxxxxxxxxxxxxxxxxxxxxxxxxxxxxxxxxxxxxxxxxxxxxxxxxxxxxxxxxxxxxxxxxxxxxxxxxxxxxxxxxxxxxxxxxxxxxxxxxxxxxxxxxxxxxxxxxxxxxxxxxxxxxxxxxxxxxxxxxxxxxxxxxxxxxxxxxxxxxxxxxxxxxxxxxxxxxxxxxxxxxxxxxxxxxxxxxxxxxxxxxxxxxxxxxxxxxxxxxxxxxxxxxxxxxxxxxxxxxxxxxxxxxxxxxxxxxxxxxxxxxxxxxxxxxxxxxxxxxxxxxxxxxxxxxxxxxxxxxxxxxxxxxxxxxxxxxxxxxxxxxxxxxxxxxxxxxxxxxxxxxxxxxxxxxxxxxxxxxxxxxxxxxxxxxxxxxxxxxxxxxxxxxxxxxxxxxxxxxxxxxxxxxxxxxxxxxxxxxxxxxxxxxxxxxxxxxxxxxxxxxxxxxxxxxxxxxxxxxxxxxxx\r\n") 4000) 16384 32768
           ∷ [];
       due =
           record { number = 0; used = 0; written = bytes "" }
@@ -548,10 +548,10 @@ history-25 =
       time = 1000;
       start = 0;
       calls =
-          Open 0 2000 16384
-          ∷ Piece 0 (bytes "ping xxxxxxxxxxxxxxxxxxxxxxxxxxxxxxxxxxxxxxxxxxxxxxxxxxxxxxxxxxxxxxxxxxxxxxxxxxxxxxxxxxxxxxxxxxxxxxxxxxxxxxxxxxxxxxxxxxxxxxxxxxxxxxxxxxxxxxxxxxxxxxxxxxxxxxxxxxxxxxxxxxxxxxxxxxxxxxxxxxxxxxxxxxxxxxxxxxxxxxxxxxxxxxxxxxxxxxxxxxxxxxxxxxxxxxxxxxxxxxxxxxxxxxxxxxxxxxxxxxxxxxxxxxxxxxxxxxxxxxxxxxxxxxxxxxxxxxxxxxxxxxxxxxxxxxxxxxxxxxxxxxxxxxxxxxxxxxxxxxxxxxxxxxxxxxxxxxxxxxxxxxxxxxxxxxxxxxxxxxxxxxxxxxxxxxxxxxxxxxxxxxxxxxxxxxxxxxxxxxxxxxxxxxxxxxxxxxxxxxxxxxxxxxxxxxxxxxxxxxxxxxxxxxxxxxxxxxxxxxxxxxxxxxxxxxxxxxxxxxxxxxxxxxxxxxxxxxxxxxxxxxxxxxxxxxxxxxxxxxxxxxxxxxxxxxxxxxxxxxxxxxxxxxxxxxxxxxxxxxxxxxxxxxxxxxxxxxxxxxxxxxxxxxxxxxxxxxxxxxxxxxxxxxxxxxxxxxxxxxxxxxxxxxxxxxxxxxxxxxxxxxxxxxxxxxxxxxxxxxxxxxxxxxxxxxxxxxxxxxxxxxxxxxxxxxxxxxxxxxxxxxxxxxxxxxxxxxxxxxxxxxxxxxxxxxxxxxxxxxxxxxxxxxxxxxxxxxxxxxxxxxxxxxxxxxxxxxxxxxxxxxxxxxxxxxxxxxxxxxxxxxxxxxxxxxxxxxxxxxxxxxxxxxxxxxxxxxxxxxxxxxxxxxxxxxxxxxxxxxxxxxxxxxxxxxxxxxxxxxxxxxxxxxxxxxxxxxxxxxxxxxxxxxxxxxxxxxxxxxxxxxxxxxxxxxxxxxxxxxxxxxxxxxxxxxxxxxxxxxxxxxxxxxxxxxxxxxxxxxxxxxxxxxxxxxxxxxxxxxxx\n") 3000 16384 32768
-          ∷ Piece 0 (bytes "ping xxxxxxxxxxxxxxxxxxxxxxxxxxxxxxxxxxxxxxxxxxxxxxxxxxxxxxxxxxxxxxxxxxxxxxxxxxxxxxxxxxxxxxxxxxxxxxxxxxxxxxxxxxxxxxxxxxxxxxxxxxxxxxxxxxxxxxxxxxxxxxxxxxxxxxxxxxxxxxxxxxxxxxxxxxxxxxxxxxxxxxxxxxxxxxxxxxxxxxxxxxxxxxxxxxxxxxxxxxxxxxxxxxxxxxxxxxxxxxxxxxxxxxxxxxxxxxxxxxxxxxxxxxxxxxxxxxxxxxxxxxxxxxxxxxxxxxxxxxxxxxxxxxxxxxxxxxxxxxxxxxxxxxxxxxxxxxxxxxxxxxxxxxxxxxxxxxxxxxxxxxxxxxxxxxxxxxxxxxxxxxxxxxxxxxxxxxxxxxxxxxxxxxxxxxxxxxxxxxxxxxxxxxxxxxxxxxxxxxxxxxxxxxxxxxxxxxxxxxxxxxxxxxxxxxxxxxxxxxxxxxxxxxxxxxxxxxxxxxxxxxxxxxxxxxxxxxxxxxxxxxxxxxxxxxxxxxxxxxxxxxxxxxxxxxxxxxxxxxxxxxxxxxxxxxxxxxxxxxxxxxxxxxxxxxxxxxxxxxxxxxxxxxxxxxxxxxxxxxxxxxxxxxxxxxxxxxxxxxxxxxxxxxxxxxxxxxxxxxxxxxxxxxxxxxxxxxxxxxxxxxxxxxxxxxxxxxxxxxxxxxxxxxxxxxxxxxxxxxxxxxxxxxxxxxxxxxxxxxxxxxxxxxxxxxxxxxxxxxxxxxxxxxxxxxxxxxxxxxxxxxxxxxxxxxxxxxxxxxxxxxxxxxxxxxxxxxxxxxxxxxxxxxxxxxxxxxxxxxxxxxxxxxxxxxxxxxxxxxxxxxxxxxxxxxxxxxxxxxxxxxxxxxxxxxxxxxxxxxxxxxxxxxxxxxxxxxxxxxxxxxxxxxxxxxxxxxxxxxxxxxxxxxxxxxxxxxxxxxxxxxxxxxxxxxxxxxxxxxxxxxxxxxxxxxxxxxxxxxxxxxxxxxxxxxxxxxxxxxx\r\n") 4000 16384 32768
-          ∷ Piece 0 (bytes "ping\n") 5000 16384 32768
+          withArea (Open 0 2000) 16384
+          ∷ withOutbox (Piece 0 (bytes "ping xxxxxxxxxxxxxxxxxxxxxxxxxxxxxxxxxxxxxxxxxxxxxxxxxxxxxxxxxxxxxxxxxxxxxxxxxxxxxxxxxxxxxxxxxxxxxxxxxxxxxxxxxxxxxxxxxxxxxxxxxxxxxxxxxxxxxxxxxxxxxxxxxxxxxxxxxxxxxxxxxxxxxxxxxxxxxxxxxxxxxxxxxxxxxxxxxxxxxxxxxxxxxxxxxxxxxxxxxxxxxxxxxxxxxxxxxxxxxxxxxxxxxxxxxxxxxxxxxxxxxxxxxxxxxxxxxxxxxxxxxxxxxxxxxxxxxxxxxxxxxxxxxxxxxxxxxxxxxxxxxxxxxxxxxxxxxxxxxxxxxxxxxxxxxxxxxxxxxxxxxxxxxxxxxxxxxxxxxxxxxxxxxxxxxxxxxxxxxxxxxxxxxxxxxxxxxxxxxxxxxxxxxxxxxxxxxxxxxxxxxxxxxxxxxxxxxxxxxxxxxxxxxxxxxxxxxxxxxxxxxxxxxxxxxxxxxxxxxxxxxxxxxxxxxxxxxxxxxxxxxxxxxxxxxxxxxxxxxxxxxxxxxxxxxxxxxxxxxxxxxxxxxxxxxxxxxxxxxxxxxxxxxxxxxxxxxxxxxxxxxxxxxxxxxxxxxxxxxxxxxxxxxxxxxxxxxxxxxxxxxxxxxxxxxxxxxxxxxxxxxxxxxxxxxxxxxxxxxxxxxxxxxxxxxxxxxxxxxxxxxxxxxxxxxxxxxxxxxxxxxxxxxxxxxxxxxxxxxxxxxxxxxxxxxxxxxxxxxxxxxxxxxxxxxxxxxxxxxxxxxxxxxxxxxxxxxxxxxxxxxxxxxxxxxxxxxxxxxxxxxxxxxxxxxxxxxxxxxxxxxxxxxxxxxxxxxxxxxxxxxxxxxxxxxxxxxxxxxxxxxxxxxxxxxxxxxxxxxxxxxxxxxxxxxxxxxxxxxxxxxxxxxxxxxxxxxxxxxxxxxxxxxxxxxxxxxxxxxxxxxxxxxxxxxxxxxxxxxxxxxxxxxxxxxxxxxxxxxxxxxxxxxxxxxxxxxxxxxxxx\n") 3000) 16384 32768
+          ∷ withOutbox (Piece 0 (bytes "ping xxxxxxxxxxxxxxxxxxxxxxxxxxxxxxxxxxxxxxxxxxxxxxxxxxxxxxxxxxxxxxxxxxxxxxxxxxxxxxxxxxxxxxxxxxxxxxxxxxxxxxxxxxxxxxxxxxxxxxxxxxxxxxxxxxxxxxxxxxxxxxxxxxxxxxxxxxxxxxxxxxxxxxxxxxxxxxxxxxxxxxxxxxxxxxxxxxxxxxxxxxxxxxxxxxxxxxxxxxxxxxxxxxxxxxxxxxxxxxxxxxxxxxxxxxxxxxxxxxxxxxxxxxxxxxxxxxxxxxxxxxxxxxxxxxxxxxxxxxxxxxxxxxxxxxxxxxxxxxxxxxxxxxxxxxxxxxxxxxxxxxxxxxxxxxxxxxxxxxxxxxxxxxxxxxxxxxxxxxxxxxxxxxxxxxxxxxxxxxxxxxxxxxxxxxxxxxxxxxxxxxxxxxxxxxxxxxxxxxxxxxxxxxxxxxxxxxxxxxxxxxxxxxxxxxxxxxxxxxxxxxxxxxxxxxxxxxxxxxxxxxxxxxxxxxxxxxxxxxxxxxxxxxxxxxxxxxxxxxxxxxxxxxxxxxxxxxxxxxxxxxxxxxxxxxxxxxxxxxxxxxxxxxxxxxxxxxxxxxxxxxxxxxxxxxxxxxxxxxxxxxxxxxxxxxxxxxxxxxxxxxxxxxxxxxxxxxxxxxxxxxxxxxxxxxxxxxxxxxxxxxxxxxxxxxxxxxxxxxxxxxxxxxxxxxxxxxxxxxxxxxxxxxxxxxxxxxxxxxxxxxxxxxxxxxxxxxxxxxxxxxxxxxxxxxxxxxxxxxxxxxxxxxxxxxxxxxxxxxxxxxxxxxxxxxxxxxxxxxxxxxxxxxxxxxxxxxxxxxxxxxxxxxxxxxxxxxxxxxxxxxxxxxxxxxxxxxxxxxxxxxxxxxxxxxxxxxxxxxxxxxxxxxxxxxxxxxxxxxxxxxxxxxxxxxxxxxxxxxxxxxxxxxxxxxxxxxxxxxxxxxxxxxxxxxxxxxxxxxxxxxxxxxxxxxxxxxxxxxxxxxxxxxxxxxxxxxxxxxx\r\n") 4000) 16384 32768
+          ∷ withOutbox (Piece 0 (bytes "ping\n") 5000) 16384 32768
           ∷ [];
       due =
           record { number = 0; used = 0; written = bytes "" }
@@ -569,14 +569,14 @@ history-26 =
       time = 1000;
       start = 0;
       calls =
-          Open 0 2000 16384
-          ∷ Piece 0 (bytes "activate 9x\n") 3000 16384 32768
-          ∷ Piece 0 (bytes "activate tx\n") 4000 16384 32768
-          ∷ Piece 0 (bytes "deactivate :\n") 5000 16384 32768
-          ∷ Piece 0 (bytes "read t1\n") 6000 16384 32768
-          ∷ Piece 0 (bytes "read t1:tx\n") 7000 16384 32768
-          ∷ Piece 0 (bytes "read t1:stop\n") 8000 16384 32768
-          ∷ Piece 0 (bytes "do t1:p\n") 9000 16384 32768
+          withArea (Open 0 2000) 16384
+          ∷ withOutbox (Piece 0 (bytes "activate 9x\n") 3000) 16384 32768
+          ∷ withOutbox (Piece 0 (bytes "activate tx\n") 4000) 16384 32768
+          ∷ withOutbox (Piece 0 (bytes "deactivate :\n") 5000) 16384 32768
+          ∷ withOutbox (Piece 0 (bytes "read t1\n") 6000) 16384 32768
+          ∷ withOutbox (Piece 0 (bytes "read t1:tx\n") 7000) 16384 32768
+          ∷ withOutbox (Piece 0 (bytes "read t1:stop\n") 8000) 16384 32768
+          ∷ withOutbox (Piece 0 (bytes "do t1:p\n") 9000) 16384 32768
           ∷ [];
       due =
           record { number = 0; used = 0; written = bytes "" }
@@ -598,12 +598,12 @@ history-27 =
       time = 1000;
       start = 0;
       calls =
-          Open 0 2000 16384
-          ∷ Piece 0 (bytes "change t1:v }\n") 3000 16384 32768
-          ∷ Piece 0 (bytes "change t1:p 01\n") 4000 16384 32768
-          ∷ Piece 0 (bytes "change t1:p true\n") 5000 16384 32768
-          ∷ Piece 0 (bytes "change t1:p 10\n") 6000 16384 32768
-          ∷ Piece 0 (bytes "read t1:p\n") 7000 16384 32768
+          withArea (Open 0 2000) 16384
+          ∷ withOutbox (Piece 0 (bytes "change t1:v }\n") 3000) 16384 32768
+          ∷ withOutbox (Piece 0 (bytes "change t1:p 01\n") 4000) 16384 32768
+          ∷ withOutbox (Piece 0 (bytes "change t1:p true\n") 5000) 16384 32768
+          ∷ withOutbox (Piece 0 (bytes "change t1:p 10\n") 6000) 16384 32768
+          ∷ withOutbox (Piece 0 (bytes "read t1:p\n") 7000) 16384 32768
           ∷ [];
       due =
           record { number = 0; used = 0; written = bytes "" }
@@ -623,13 +623,13 @@ history-28 =
       time = 1000;
       start = 0;
       calls =
-          Open 0 2000 16384
-          ∷ Piece 0 (bytes "change t1:s {\"b\":2,\"a\":false}\n") 3000 16384 32768
-          ∷ Piece 0 (bytes "change t1:s {\"a\":true,\"a\":true}\n") 4000 16384 32768
-          ∷ Piece 0 (bytes "change t1:s {\"a\":true,\"b\":1,\"b\":1}\n") 5000 16384 32768
-          ∷ Piece 0 (bytes "change t1:s {\"a\":true,\"b\":1,\"c\":1}\n") 6000 16384 32768
-          ∷ Piece 0 (bytes "change t1:s {\"a\":true}\n") 7000 16384 32768
-          ∷ Piece 0 (bytes "read t1:s\n") 8000 16384 32768
+          withArea (Open 0 2000) 16384
+          ∷ withOutbox (Piece 0 (bytes "change t1:s {\"b\":2,\"a\":false}\n") 3000) 16384 32768
+          ∷ withOutbox (Piece 0 (bytes "change t1:s {\"a\":true,\"a\":true}\n") 4000) 16384 32768
+          ∷ withOutbox (Piece 0 (bytes "change t1:s {\"a\":true,\"b\":1,\"b\":1}\n") 5000) 16384 32768
+          ∷ withOutbox (Piece 0 (bytes "change t1:s {\"a\":true,\"b\":1,\"c\":1}\n") 6000) 16384 32768
+          ∷ withOutbox (Piece 0 (bytes "change t1:s {\"a\":true}\n") 7000) 16384 32768
+          ∷ withOutbox (Piece 0 (bytes "read t1:s\n") 8000) 16384 32768
           ∷ [];
       due =
           record { number = 0; used = 0; written = bytes "" }
@@ -650,12 +650,12 @@ history-29 =
       time = 1000;
       start = 0;
       calls =
-          Open 0 2000 16384
-          ∷ Piece 0 (bytes "change t1:u [true]\n") 3000 16384 32768
-          ∷ Piece 0 (bytes "change t1:u [true,1,2]\n") 4000 16384 32768
-          ∷ Piece 0 (bytes "change t1:l [true,true,1]\n") 5000 16384 32768
-          ∷ Piece 0 (bytes "change t1:l [true,true,true]\n") 6000 16384 32768
-          ∷ Piece 0 (bytes "change t1:l [ true , false ]\n") 7000 16384 32768
+          withArea (Open 0 2000) 16384
+          ∷ withOutbox (Piece 0 (bytes "change t1:u [true]\n") 3000) 16384 32768
+          ∷ withOutbox (Piece 0 (bytes "change t1:u [true,1,2]\n") 4000) 16384 32768
+          ∷ withOutbox (Piece 0 (bytes "change t1:l [true,true,1]\n") 5000) 16384 32768
+          ∷ withOutbox (Piece 0 (bytes "change t1:l [true,true,true]\n") 6000) 16384 32768
+          ∷ withOutbox (Piece 0 (bytes "change t1:l [ true , false ]\n") 7000) 16384 32768
           ∷ [];
       due =
           record { number = 0; used = 0; written = bytes "" }
@@ -675,11 +675,11 @@ history-30 =
       time = 1000;
       start = 0;
       calls =
-          Open 0 2000 16384
-          ∷ Piece 0 (bytes "change t1:l \"\\n\\u0041\"\n") 3000 16384 32768
-          ∷ Piece 0 (bytes "change t1:l \"\\n\\n\\n\"\n") 4000 16384 32768
-          ∷ Piece 0 (bytes "change t1:l \"\\u0080\"\n") 5000 16384 32768
-          ∷ Piece 0 (bytes "change t1:l \"\\u007F\"\n") 6000 16384 32768
+          withArea (Open 0 2000) 16384
+          ∷ withOutbox (Piece 0 (bytes "change t1:l \"\\n\\u0041\"\n") 3000) 16384 32768
+          ∷ withOutbox (Piece 0 (bytes "change t1:l \"\\n\\n\\n\"\n") 4000) 16384 32768
+          ∷ withOutbox (Piece 0 (bytes "change t1:l \"\\u0080\"\n") 5000) 16384 32768
+          ∷ withOutbox (Piece 0 (bytes "change t1:l \"\\u007F\"\n") 6000) 16384 32768
           ∷ [];
       due =
           record { number = 0; used = 0; written = bytes "" }
@@ -698,10 +698,10 @@ history-31 =
       time = 1000;
       start = 0;
       calls =
-          Open 0 2000 16384
-          ∷ Piece 0 (bytes "change t1:l  \"xxxxxxxxxxxxxxxxxxxxxxxxxxxxxxxxxxxxxxxxxxxxxxxxxxxxxxxxxxxxxxxxxxxxxxxxxxxxxxxxxxxxxxxxxxxxxxxxxxxxxxxxxxxxxxxxxxxxxxxxxxxxxxxxxxxxxxxxxxxxxxxxxxxxxxxxxxxxxxxxxxxxxxxxxxxxxxxxxxxxxxxxxxxxxxxxxxxxxxxxxxxxxxxxxxxxxxxxxxxxxxxxxxxxxxxxxxxxxxxxxxxxxxxxxxxxxx\" \n") 3000 16384 32768
-          ∷ Piece 0 (bytes "change t1:l  \"xxxxxxxxxxxxxxxxxxxxxxxxxxxxxxxxxxxxxxxxxxxxxxxxxxxxxxxxxxxxxxxxxxxxxxxxxxxxxxxxxxxxxxxxxxxxxxxxxxxxxxxxxxxxxxxxxxxxxxxxxxxxxxxxxxxxxxxxxxxxxxxxxxxxxxxxxxxxxxxxxxxxxxxxxxxxxxxxxxxxxxxxxxxxxxxxxxxxxxxxxxxxxxxxxxxxxxxxxxxxxxxxxxxxxxxxxxxxxxxxxxxxxxxxxxxxxxx\" \n") 4000 16384 32768
-          ∷ Piece 0 (bytes "read t1:l\n") 5000 16384 32768
+          withArea (Open 0 2000) 16384
+          ∷ withOutbox (Piece 0 (bytes "change t1:l  \"xxxxxxxxxxxxxxxxxxxxxxxxxxxxxxxxxxxxxxxxxxxxxxxxxxxxxxxxxxxxxxxxxxxxxxxxxxxxxxxxxxxxxxxxxxxxxxxxxxxxxxxxxxxxxxxxxxxxxxxxxxxxxxxxxxxxxxxxxxxxxxxxxxxxxxxxxxxxxxxxxxxxxxxxxxxxxxxxxxxxxxxxxxxxxxxxxxxxxxxxxxxxxxxxxxxxxxxxxxxxxxxxxxxxxxxxxxxxxxxxxxxxxxxxxxxxxx\" \n") 3000) 16384 32768
+          ∷ withOutbox (Piece 0 (bytes "change t1:l  \"xxxxxxxxxxxxxxxxxxxxxxxxxxxxxxxxxxxxxxxxxxxxxxxxxxxxxxxxxxxxxxxxxxxxxxxxxxxxxxxxxxxxxxxxxxxxxxxxxxxxxxxxxxxxxxxxxxxxxxxxxxxxxxxxxxxxxxxxxxxxxxxxxxxxxxxxxxxxxxxxxxxxxxxxxxxxxxxxxxxxxxxxxxxxxxxxxxxxxxxxxxxxxxxxxxxxxxxxxxxxxxxxxxxxxxxxxxxxxxxxxxxxxxxxxxxxxxx\" \n") 4000) 16384 32768
+          ∷ withOutbox (Piece 0 (bytes "read t1:l\n") 5000) 16384 32768
           ∷ [];
       due =
           record { number = 0; used = 0; written = bytes "" }
@@ -719,13 +719,13 @@ history-32 =
       time = 1000;
       start = 0;
       calls =
-          Open 0 2000 16384
-          ∷ Piece 0 (bytes "change t1:d 0.000000000000000000000000000000\n") 3000 16384 32768
-          ∷ Piece 0 (bytes "change t1:d 0.0000000000000000000000000000000\n") 4000 16384 32768
-          ∷ Piece 0 (bytes "change t1:d 0e99\n") 5000 16384 32768
-          ∷ Piece 0 (bytes "change t1:d 0e100\n") 6000 16384 32768
-          ∷ Piece 0 (bytes "change t1:d 1e-99\n") 7000 16384 32768
-          ∷ Piece 0 (bytes "change t1:d 1e-100\n") 8000 16384 32768
+          withArea (Open 0 2000) 16384
+          ∷ withOutbox (Piece 0 (bytes "change t1:d 0.000000000000000000000000000000\n") 3000) 16384 32768
+          ∷ withOutbox (Piece 0 (bytes "change t1:d 0.0000000000000000000000000000000\n") 4000) 16384 32768
+          ∷ withOutbox (Piece 0 (bytes "change t1:d 0e99\n") 5000) 16384 32768
+          ∷ withOutbox (Piece 0 (bytes "change t1:d 0e100\n") 6000) 16384 32768
+          ∷ withOutbox (Piece 0 (bytes "change t1:d 1e-99\n") 7000) 16384 32768
+          ∷ withOutbox (Piece 0 (bytes "change t1:d 1e-100\n") 8000) 16384 32768
           ∷ [];
       due =
           record { number = 0; used = 0; written = bytes "" }
@@ -746,11 +746,11 @@ history-33 =
       time = 1000;
       start = 0;
       calls =
-          Open 0 2000 16384
-          ∷ Piece 0 (bytes "change t1:p -0\n") 3000 16384 32768
-          ∷ Piece 0 (bytes "change t1:m -0\n") 4000 16384 32768
-          ∷ Piece 0 (bytes "change t1:m 2\n") 5000 16384 32768
-          ∷ Piece 0 (bytes "read t1:m\n") 6000 16384 32768
+          withArea (Open 0 2000) 16384
+          ∷ withOutbox (Piece 0 (bytes "change t1:p -0\n") 3000) 16384 32768
+          ∷ withOutbox (Piece 0 (bytes "change t1:m -0\n") 4000) 16384 32768
+          ∷ withOutbox (Piece 0 (bytes "change t1:m 2\n") 5000) 16384 32768
+          ∷ withOutbox (Piece 0 (bytes "read t1:m\n") 6000) 16384 32768
           ∷ [];
       due =
           record { number = 0; used = 0; written = bytes "" }
@@ -769,16 +769,16 @@ history-34 =
       time = 1000;
       start = 0;
       calls =
-          Open 0 9999999999999 16384
-          ∷ Open 1 3000 16383
-          ∷ Open 1 10000000000000 16384
-          ∷ Open 8 5000 16384
-          ∷ Open 0 6000 16384
-          ∷ Close 0 7000 16383
-          ∷ Close 0 10000000000000 16384
-          ∷ Close 8 9000 16384
-          ∷ Close 1 10000 16384
-          ∷ Close 0 9999999999999 16384
+          withArea (Open 0 9999999999999) 16384
+          ∷ withArea (Open 1 3000) 16383
+          ∷ withArea (Open 1 10000000000000) 16384
+          ∷ withArea (Open 8 5000) 16384
+          ∷ withArea (Open 0 6000) 16384
+          ∷ withArea (Close 0 7000) 16383
+          ∷ withArea (Close 0 10000000000000) 16384
+          ∷ withArea (Close 8 9000) 16384
+          ∷ withArea (Close 1 10000) 16384
+          ∷ withArea (Close 0 9999999999999) 16384
           ∷ [];
       due =
           record { number = 0; used = 0; written = bytes "" }
@@ -802,13 +802,13 @@ history-35 =
       time = 1000;
       start = 0;
       calls =
-          Open 0 2000 16384
-          ∷ Piece 0 (bytes "ping\n") 3000 16384 32767
-          ∷ Piece 0 (bytes "ping\n") 4000 16383 32768
-          ∷ Piece 0 (bytes "ping\n") 10000000000000 16384 32768
-          ∷ Piece 8 (bytes "ping\n") 6000 16384 32768
-          ∷ Piece 1 (bytes "ping\n") 7000 16384 32768
-          ∷ Piece 0 (bytes "ping\n") 9999999999999 16384 32768
+          withArea (Open 0 2000) 16384
+          ∷ withOutbox (Piece 0 (bytes "ping\n") 3000) 16384 32767
+          ∷ withOutbox (Piece 0 (bytes "ping\n") 4000) 16383 32768
+          ∷ withOutbox (Piece 0 (bytes "ping\n") 10000000000000) 16384 32768
+          ∷ withOutbox (Piece 8 (bytes "ping\n") 6000) 16384 32768
+          ∷ withOutbox (Piece 1 (bytes "ping\n") 7000) 16384 32768
+          ∷ withOutbox (Piece 0 (bytes "ping\n") 9999999999999) 16384 32768
           ∷ [];
       due =
           record { number = 0; used = 0; written = bytes "" }
@@ -829,15 +829,15 @@ history-36 =
       time = 1000;
       start = 0;
       calls =
-          Open 0 2000 16384
-          ∷ Piece 0 (bytes "activate\n") 3000 16384 32768
-          ∷ Reading 0 (bytes "4") 4000 16384 32767
-          ∷ Reading 0 (bytes "4") 5000 16383 32768
-          ∷ Reading 0 (bytes "4") 10000000000000 16384 32768
-          ∷ Reading 1 (bytes "4") 7000 16384 32768
-          ∷ Reading 0 (bytes "10") 8000 16384 32768
-          ∷ Reading 0 (bytes "") 9000 16384 32768
-          ∷ Piece 0 (bytes "read t1:p\n") 10000 16384 32768
+          withArea (Open 0 2000) 16384
+          ∷ withOutbox (Piece 0 (bytes "activate\n") 3000) 16384 32768
+          ∷ withOutbox (Reading 0 (bytes "4") 4000) 16384 32767
+          ∷ withOutbox (Reading 0 (bytes "4") 5000) 16383 32768
+          ∷ withOutbox (Reading 0 (bytes "4") 10000000000000) 16384 32768
+          ∷ withOutbox (Reading 1 (bytes "4") 7000) 16384 32768
+          ∷ withOutbox (Reading 0 (bytes "10") 8000) 16384 32768
+          ∷ withOutbox (Reading 0 (bytes "") 9000) 16384 32768
+          ∷ withOutbox (Piece 0 (bytes "read t1:p\n") 10000) 16384 32768
           ∷ [];
       due =
           record { number = 0; used = 0; written = bytes "" }
@@ -860,14 +860,14 @@ history-37 =
       time = 1000;
       start = 0;
       calls =
-          Open 0 2000 16384
-          ∷ Open 8 10000000000000 16383
-          ∷ Open 0 10000000000000 16384
-          ∷ Close 1 5000 16383
-          ∷ Piece 1 (bytes "ping\n") 6000 16383 32767
-          ∷ Piece 8 (bytes "ping\n") 10000000000000 16384 32768
-          ∷ Reading 1 (bytes "4") 10000000000000 16384 32767
-          ∷ Reading 1 (bytes "") 9000 16384 32768
+          withArea (Open 0 2000) 16384
+          ∷ withArea (Open 8 10000000000000) 16383
+          ∷ withArea (Open 0 10000000000000) 16384
+          ∷ withArea (Close 1 5000) 16383
+          ∷ withOutbox (Piece 1 (bytes "ping\n") 6000) 16383 32767
+          ∷ withOutbox (Piece 8 (bytes "ping\n") 10000000000000) 16384 32768
+          ∷ withOutbox (Reading 1 (bytes "4") 10000000000000) 16384 32767
+          ∷ withOutbox (Reading 1 (bytes "") 9000) 16384 32768
           ∷ [];
       due =
           record { number = 0; used = 0; written = bytes "" }
@@ -889,9 +889,9 @@ history-38 =
       time = 10000000000000;
       start = 10;
       calls =
-          Open 0 2000 16384
-          ∷ Piece 0 (bytes "read t1:p\n") 3000 16384 32768
-          ∷ Piece 0 (bytes "change t1:p 4\n") 4000 16384 32768
+          withArea (Open 0 2000) 16384
+          ∷ withOutbox (Piece 0 (bytes "read t1:p\n") 3000) 16384 32768
+          ∷ withOutbox (Piece 0 (bytes "change t1:p 4\n") 4000) 16384 32768
           ∷ [];
       due =
           record { number = 0; used = 0; written = bytes "" }
@@ -908,9 +908,9 @@ history-39 =
       time = 1000;
       start = 8;
       calls =
-          Open 0 2000 16384
-          ∷ Piece 0 (bytes "activate\n") 3000 16384 32768
-          ∷ Reading 0 (bytes "4") 4000 16384 32768
+          withArea (Open 0 2000) 16384
+          ∷ withOutbox (Piece 0 (bytes "activate\n") 3000) 16384 32768
+          ∷ withOutbox (Reading 0 (bytes "4") 4000) 16384 32768
           ∷ [];
       due =
           record { number = 0; used = 0; written = bytes "" }
@@ -927,11 +927,11 @@ history-40 =
       time = 1000;
       start = 0;
       calls =
-          Open 0 2000 16384
-          ∷ Open 1 3000 16384
-          ∷ Piece 0 (bytes "ping a\r") 4000 16384 32768
-          ∷ Piece 1 (bytes "ping b\r\n") 5000 16384 32768
-          ∷ Piece 0 (bytes "\n") 6000 16384 32768
+          withArea (Open 0 2000) 16384
+          ∷ withArea (Open 1 3000) 16384
+          ∷ withOutbox (Piece 0 (bytes "ping a\r") 4000) 16384 32768
+          ∷ withOutbox (Piece 1 (bytes "ping b\r\n") 5000) 16384 32768
+          ∷ withOutbox (Piece 0 (bytes "\n") 6000) 16384 32768
           ∷ [];
       due =
           record { number = 0; used = 0; written = bytes "" }
@@ -950,11 +950,11 @@ history-41 =
       time = 1000;
       start = 0;
       calls =
-          Open 0 2000 16384
-          ∷ Piece 0 (bytes "ping a\nping b\nping") 3000 16384 32768
-          ∷ Piece 0 (bytes "ping b\nping") 4000 16384 32768
-          ∷ Piece 0 (bytes "ping") 5000 16384 32768
-          ∷ Piece 0 (bytes " c\n") 6000 16384 32768
+          withArea (Open 0 2000) 16384
+          ∷ withOutbox (Piece 0 (bytes "ping a\nping b\nping") 3000) 16384 32768
+          ∷ withOutbox (Piece 0 (bytes "ping b\nping") 4000) 16384 32768
+          ∷ withOutbox (Piece 0 (bytes "ping") 5000) 16384 32768
+          ∷ withOutbox (Piece 0 (bytes " c\n") 6000) 16384 32768
           ∷ [];
       due =
           record { number = 0; used = 0; written = bytes "" }
@@ -973,13 +973,13 @@ history-42 =
       time = 1000;
       start = 0;
       calls =
-          Open 0 2000 16384
-          ∷ Reading 0 (bytes "4") 9000 16384 32768
-          ∷ Reading 0 (bytes "5") 3000 16384 32768
-          ∷ Piece 0 (bytes "read t1:p\n") 5000 16384 32768
-          ∷ Piece 0 (bytes "change t1:p 6\n") 2500 16384 32768
-          ∷ Piece 0 (bytes "read t1:p\n") 7000 16384 32768
-          ∷ Piece 0 (bytes "ping\n") 5 16384 32768
+          withArea (Open 0 2000) 16384
+          ∷ withOutbox (Reading 0 (bytes "4") 9000) 16384 32768
+          ∷ withOutbox (Reading 0 (bytes "5") 3000) 16384 32768
+          ∷ withOutbox (Piece 0 (bytes "read t1:p\n") 5000) 16384 32768
+          ∷ withOutbox (Piece 0 (bytes "change t1:p 6\n") 2500) 16384 32768
+          ∷ withOutbox (Piece 0 (bytes "read t1:p\n") 7000) 16384 32768
+          ∷ withOutbox (Piece 0 (bytes "ping\n") 5) 16384 32768
           ∷ [];
       due =
           record { number = 0; used = 0; written = bytes "" }
@@ -1000,7 +1000,7 @@ history-43 =
       time = 1000;
       start = 1;
       calls =
-          Open 0 2000 16384
+          withArea (Open 0 2000) 16384
           ∷ [];
       due =
           record { number = 1; used = 0; written = bytes "" }
@@ -1015,7 +1015,7 @@ history-44 =
       time = 1000;
       start = 2;
       calls =
-          Open 0 2000 16384
+          withArea (Open 0 2000) 16384
           ∷ [];
       due =
           record { number = 2; used = 0; written = bytes "" }
@@ -1030,7 +1030,7 @@ history-45 =
       time = 1000;
       start = 3;
       calls =
-          Open 0 2000 16384
+          withArea (Open 0 2000) 16384
           ∷ [];
       due =
           record { number = 3; used = 0; written = bytes "" }
@@ -1045,7 +1045,7 @@ history-46 =
       time = 1000;
       start = 4;
       calls =
-          Open 0 2000 16384
+          withArea (Open 0 2000) 16384
           ∷ [];
       due =
           record { number = 4; used = 0; written = bytes "" }
@@ -1060,7 +1060,7 @@ history-47 =
       time = 1000;
       start = 5;
       calls =
-          Open 0 2000 16384
+          withArea (Open 0 2000) 16384
           ∷ [];
       due =
           record { number = 5; used = 0; written = bytes "" }
@@ -1075,7 +1075,7 @@ history-48 =
       time = 1000;
       start = 1;
       calls =
-          Open 0 2000 16384
+          withArea (Open 0 2000) 16384
           ∷ [];
       due =
           record { number = 1; used = 0; written = bytes "" }
@@ -1090,7 +1090,7 @@ history-49 =
       time = 1000;
       start = 2;
       calls =
-          Open 0 2000 16384
+          withArea (Open 0 2000) 16384
           ∷ [];
       due =
           record { number = 2; used = 0; written = bytes "" }
@@ -1105,7 +1105,7 @@ history-50 =
       time = 1000;
       start = 3;
       calls =
-          Open 0 2000 16384
+          withArea (Open 0 2000) 16384
           ∷ [];
       due =
           record { number = 3; used = 0; written = bytes "" }
@@ -1120,7 +1120,7 @@ history-51 =
       time = 1000;
       start = 4;
       calls =
-          Open 0 2000 16384
+          withArea (Open 0 2000) 16384
           ∷ [];
       due =
           record { number = 4; used = 0; written = bytes "" }
@@ -1135,7 +1135,7 @@ history-52 =
       time = 1000;
       start = 5;
       calls =
-          Open 0 2000 16384
+          withArea (Open 0 2000) 16384
           ∷ [];
       due =
           record { number = 5; used = 0; written = bytes "" }

@@ -13,7 +13,7 @@ use Rattle.table.specs.Layout.{tableOf}
 use Rattle.report.specs.Report.{report}
 use Rattle.report.specs.Judge.{tableNumber}
 use Rattle.plain.specs.Node.{begin}
-use Rattle.plain.specs.Calls.{Call, Open, Piece}
+use Rattle.plain.specs.Calls.{Open, Piece, Call, withArea, withOutbox}
 use Rattle.plain.specs.History.{answers, sent, sentBytes}
 use Rattle.rule.specs.Records.{repliesFor}
 use Rattle.examples.specs.Demo.{demo, noted, stage}
@@ -52,7 +52,7 @@ examples =
 
 -- a client opens and sends the pieces, at 1500, to the node of the outbox example
 unfoldable pub pieceCalls : List (List ℕ) → List Call
-pieceCalls ps = Open 2 0 16384 ∷ map (λ p. Piece 2 p 1500 16384 32768) ps
+pieceCalls ps = withArea (Open 2 0) 16384 ∷ map (λ p. withOutbox (Piece 2 p 1500) 16384 32768) ps
 
 unfoldable pub repliesTo : List (List ℕ) → List (List ℕ)
 repliesTo ps = map replyLine (repliesFor 2 (sent (answers stage (begin (tableOf stage) 0) (pieceCalls ps))))
@@ -89,11 +89,11 @@ TablesAreGood = (tableNumber demo ≡ 0) × (tableNumber noted ≡ 0) × (tableN
 
 unfoldable pub changing : List Call
 changing =
-    Open 2 0 16384
-    ∷ Open 5 0 16384
-    ∷ Piece 2 (bytes "activate t1\n") 0 16384 32768
-    ∷ Piece 5 (bytes "activate t1\n") 0 16384 32768
-    ∷ Piece 2 (bytes "change t1:target 12\n") 1500 16384 32768
+    withArea (Open 2 0) 16384
+    ∷ withArea (Open 5 0) 16384
+    ∷ withOutbox (Piece 2 (bytes "activate t1\n") 0) 16384 32768
+    ∷ withOutbox (Piece 5 (bytes "activate t1\n") 0) 16384 32768
+    ∷ withOutbox (Piece 2 (bytes "change t1:target 12\n") 1500) 16384 32768
     ∷ []
 
 -- what the last of these calls writes

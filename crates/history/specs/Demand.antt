@@ -25,7 +25,7 @@ allSent (a ∷ l) = a .written ++ allSent l
 unfoldable pub allFeeds : ℕ → List Call → List Answer → ℕ
 allFeeds d [] l = 0
 allFeeds d (e ∷ h) [] = 0
-allFeeds d (e ∷ h) (a ∷ l) = feedsUsed d e a + allFeeds d h l
+allFeeds d (e ∷ h) (a ∷ l) = feedsUsed d (e .event) a + allFeeds d h l
 
 -- what holds of every number that was answered
 abbrev pub EachNumber : (ℕ → Type 0) → List Heard → Type 0

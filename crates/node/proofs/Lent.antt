@@ -13,7 +13,7 @@ use Rattle.state.specs.declared.State.{State}
 use Rattle.state.specs.Fit.{isUnfit}
 use Rattle.promise.specs.Lent.{lentNumber}
 
-module _ (table values : List ℕ) (o : ℕ) (s : State) (t : ℕ) where
+module _ (table values : List ℕ) (o : Bool) (s : State) (t : ℕ) where
   pub lent-table : {k : ℕ} → k ≡ tableNumber table → (k ≡ 0 → ⊥) → k ≡ lentNumber table values o s t
   unfolding lentNumber
   lent-table e h = e ∙ sym (lowest-first (tableNumber table) _ (λ z. h (e ∙ z)))
@@ -22,19 +22,19 @@ module _ (table values : List ℕ) (o : ℕ) (s : State) (t : ℕ) where
     ok : tableNumber table ≡ 0
     ok = sym says ∙ zeroth
 
-    pub lent-outbox : o < 32768 → 7 ≡ lentNumber table values o s t
+    pub lent-outbox : o ≡ true → 7 ≡ lentNumber table values o s t
     unfolding lentNumber lowest
-    lent-outbox h = rw (ok, lt-ltb o 32768 h) refl
+    lent-outbox h = rw (ok, h) refl
 
-    module _ (room : 32768 ≤ o) where
+    module _ (room : o ≡ false) where
       pub lent-area : length values < 16384 → 8 ≡ lentNumber table values o s t
       unfolding lentNumber lowest
-      lent-area h = rw (ok, le-ltb o 32768 room, lt-ltb (length values) 16384 h) refl
+      lent-area h = rw (ok, room, lt-ltb (length values) 16384 h) refl
 
       module _ (area : 16384 ≤ length values) where
         pub lent-unfit : {b : Bool} → b ≡ isUnfit (tableOf table) s values → b ≡ true → 9 ≡ lentNumber table values o s t
         unfolding lentNumber lowest
-        lent-unfit e h = rw (ok, le-ltb o 32768 room, le-ltb (length values) 16384 area, sym e ∙ h) refl
+        lent-unfit e h = rw (ok, room, le-ltb (length values) 16384 area, sym e ∙ h) refl
 
         module _ {b : Bool} (judged : b ≡ isUnfit (tableOf table) s values) (not-so : b ≡ false) where
           fit : isUnfit (tableOf table) s values ≡ false
@@ -42,8 +42,8 @@ module _ (table values : List ℕ) (o : ℕ) (s : State) (t : ℕ) where
 
           pub lent-late : latest < t → 10 ≡ lentNumber table values o s t
           unfolding lentNumber lowest
-          lent-late h = rw (ok, le-ltb o 32768 room, le-ltb (length values) 16384 area, fit, lt-ltb latest t h) refl
+          lent-late h = rw (ok, room, le-ltb (length values) 16384 area, fit, lt-ltb latest t h) refl
 
           pub lent-good : t ≤ latest → 0 ≡ lentNumber table values o s t
           unfolding lentNumber lowest
-          lent-good h = rw (ok, le-ltb o 32768 room, le-ltb (length values) 16384 area, fit, le-ltb latest t h) refl
+          lent-good h = rw (ok, room, le-ltb (length values) 16384 area, fit, le-ltb latest t h) refl

@@ -5,12 +5,13 @@ use borrow.Author.Tests.{lt-ltb, le-ltb, not-true, not-false}
 use mathlib.Core.Bool.{Bool, true, false, not}
 use mathlib.Core.List.{List, []}
 use mathlib.Core.Logic.{_≢_}
+use mathlib.Core.Option.{none}
 use mathlib.Core.Path.{_≡_, refl, sym, ap, subst, _∙_}
 use lib.ListN.{length}
 use Rattle.table.specs.Layout.{tableOf}
 use Rattle.report.specs.Judge.{fault}
 use Rattle.plain.specs.Node.{isOpen}
-use Rattle.plain.specs.Calls.{Call, Open, Close, fault11}
+use Rattle.plain.specs.Calls.{Open, Close, Call, withArea, sends, isSmall, fault11, ownFaults}
 use Rattle.state.specs.declared.Clients.{Clients}
 use Rattle.state.specs.declared.State.{State}
 use Rattle.state.specs.View.{isSet, view}
@@ -21,7 +22,7 @@ use Rattle.state.proofs.Cells.{opened-becomes, closed-becomes}
 use Rattle.promise.specs.declared.Done.{Done}
 use Rattle.promise.specs.Promise.{Kept}
 use Rattle.promise.specs.Lent.{lentNumber}
-use Rattle.promise.proofs.Numbers.{open-number, close-number, good}
+use Rattle.promise.proofs.Numbers.{number-is, good}
 use Rattle.promise.proofs.Answers.{accepts}
 use Rattle.promise.proofs.Clients.{opens, closes}
 use Rattle.promise.proofs.Held.{open-is}
@@ -40,10 +41,10 @@ not-high {c} h = rw (le-ltb 7 c h) refl
 
 module _ (table : List ℕ) (s : State) (values : List ℕ) (c t : ℕ) where
   abbrev opening : Call
-  opening = Open c t (length values)
+  opening = withArea (Open c t) (length values)
 
   abbrev closing : Call
-  closing = Close c t (length values)
+  closing = withArea (Close c t) (length values)
 
   abbrev Answers : Call → Done → Type 0
   Answers e r = Kept table e s values [] r values []
@@ -54,19 +55,21 @@ module _ (table : List ℕ) (s : State) (values : List ℕ) (c t : ℕ) where
   abbrev viewed : Bool
   viewed = isOpen (view table s values .clients c)
 
-  numbered-open : Numbered table s values [] opening (lentNumber table values 32768 s t) (fault11 c) (fault 13 viewed)
-  numbered-open = record { is = open-number table s values c t }
+  numbered-open : Numbered table s values [] opening (lentNumber table values false s t) (fault11 c) (fault 13 viewed)
+  unfolding sends isSmall ownFaults
+  numbered-open = record { is = number-is table s values (Open c t) 0 t _ refl }
 
-  numbered-close : Numbered table s values [] closing (lentNumber table values 32768 s t) (fault11 c) (fault 12 (not viewed))
-  numbered-close = record { is = close-number table s values c t }
+  numbered-close : Numbered table s values [] closing (lentNumber table values false s t) (fault11 c) (fault 12 (not viewed))
+  unfolding sends isSmall ownFaults
+  numbered-close = record { is = number-is table s values (Close c t) 0 t _ refl }
 
-  fit : {k : ℕ} → k ≡ lentNumber table values 32768 s t → k ≡ 0 → isUnfit (tableOf table) s values ≡ false
-  fit lent ok = good table s values 32768 t (sym lent ∙ ok) .fit
+  fit : {k : ℕ} → k ≡ lentNumber table values false s t → k ≡ 0 → isUnfit (tableOf table) s values ≡ false
+  fit lent ok = good table s values false t (sym lent ∙ ok) .fit
 
   is-open : {b o : Bool} → b ≡ isSet (s .clients .open) c → b ≡ o → viewed ≡ o
   is-open judged y = open-in-view table s values c ∙ sym judged ∙ y
 
-  module _ {r : Done} {k : ℕ} (lent : k ≡ lentNumber table values 32768 s t) where
+  module _ {r : Done} {k : ℕ} (lent : k ≡ lentNumber table values false s t) where
     pub open-lent : k ≢ 0 → Quiet r k s → Answers opening r
     open-lent z q = refused-lent table s values [] opening numbered-open lent z q
 

@@ -63,17 +63,17 @@ module _ (table values : List ℕ) (s : State) (k : ℕ) where
       subst (Shows table values s k) (sym q)
       (record { is = rw (← h, ne-eqb n 0 z) refl; within = λ y. absurd (z y); text = λ y. absurd (z y); time = λ y. absurd (z y) })
 
-  module _ (n : ℕ) (lent : n ≡ lentNumber table values 32768 s 0) where
+  module _ (n : ℕ) (lent : n ≡ lentNumber table values false s 0) where
     pub value-lent : {r : Shown} → n ≢ 0 → Refuses r n → Shows table values s k r
     unfolding valueNumber
-    value-lent z q = refused (lent ∙ sym (lowest-first (lentNumber table values 32768 s 0) _ (λ y. z (lent ∙ y)))) z q
+    value-lent z q = refused (lent ∙ sym (lowest-first (lentNumber table values false s 0) _ (λ y. z (lent ∙ y)))) z q
 
     module _ (ok : n ≡ 0) where
-      none-lent : lentNumber table values 32768 s 0 ≡ 0
+      none-lent : lentNumber table values false s 0 ≡ 0
       none-lent = sym lent ∙ ok
 
-      abbrev known : Good table s values 32768 0
-      known = good table s values 32768 0 none-lent
+      abbrev known : Good table s values false 0
+      known = good table s values false 0 none-lent
 
       pub value-table : Readable table
       value-table = accepted-readable table (known .accepted)

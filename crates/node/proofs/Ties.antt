@@ -7,7 +7,7 @@ use contract.Lifetimes.{Lfts}
 use borrow.Fn.Kinds.{Dens, resT, endedOf}
 use mathlib.Core.List.{[]}
 use lib.ListN.{length}
-use Rattle.plain.specs.Calls.{Open, Close, Piece, Reading}
+use Rattle.plain.specs.Calls.{Open, Close, Piece, Reading, withArea, withOutbox}
 use Rattle.promise.specs.Promise.{Begins}
 use Rattle.promise.specs.Run.{kit, hears, Called, by-open, by-close, by-piece, by-reading}
 use Rattle.node.proofs.start.jihfasul_start.Kinds as start-kinds
@@ -39,7 +39,7 @@ module _ (κs : Lfts 2) where
       → Called
       (now (a .0))
       (kit (a .1 .1 .0) (now (a .1 .0)))
-      (Open (a .1 .1 .1 .0) (a .1 .1 .1 .1 .0) (length (now (a .1 .0))))
+      (withArea (Open (a .1 .1 .1 .0) (a .1 .1 .1 .1 .0)) (length (now (a .1 .0))))
       (kit (r .state) (now (a .1 .0)))
       (hears r [])
   open-called a r x k = by-open (a .1 .1 .0) (now (a .1 .0)) (a .1 .1 .1 .0) (a .1 .1 .1 .1 .0) r k
@@ -52,7 +52,7 @@ module _ (κs : Lfts 2) where
       → Called
       (now (a .0))
       (kit (a .1 .1 .0) (now (a .1 .0)))
-      (Close (a .1 .1 .1 .0) (a .1 .1 .1 .1 .0) (length (now (a .1 .0))))
+      (withArea (Close (a .1 .1 .1 .0) (a .1 .1 .1 .1 .0)) (length (now (a .1 .0))))
       (kit (r .state) (now (a .1 .0)))
       (hears r [])
   close-called a r x k = by-close (a .1 .1 .0) (now (a .1 .0)) (a .1 .1 .1 .0) (a .1 .1 .1 .1 .0) r k
@@ -68,7 +68,7 @@ module _ (κs : Lfts 4) where
       → Called
       (now (a .0))
       (kit (a .1 .1 .1 .0) (now (a .1 .0)))
-      (Piece (a .1 .1 .1 .1 .0) (now (a .1 .1 .1 .1 .1 .1 .0)) (a .1 .1 .1 .1 .1 .0) (length (now (a .1 .0))) (length (now (a .1 .1 .0))))
+      (withOutbox (Piece (a .1 .1 .1 .1 .0) (now (a .1 .1 .1 .1 .1 .1 .0)) (a .1 .1 .1 .1 .1 .0)) (length (now (a .1 .0))) (length (now (a .1 .1 .0))))
       (kit (r .state) (now (x .1 .0)))
       (hears r (now (x .1 .1 .0)))
   piece-called a r x k =
@@ -82,7 +82,7 @@ module _ (κs : Lfts 4) where
       → Called
       (now (a .0))
       (kit (a .1 .1 .1 .0) (now (a .1 .0)))
-      (Reading (a .1 .1 .1 .1 .0) (now (a .1 .1 .1 .1 .1 .1 .0)) (a .1 .1 .1 .1 .1 .0) (length (now (a .1 .0))) (length (now (a .1 .1 .0))))
+      (withOutbox (Reading (a .1 .1 .1 .1 .0) (now (a .1 .1 .1 .1 .1 .1 .0)) (a .1 .1 .1 .1 .1 .0)) (length (now (a .1 .0))) (length (now (a .1 .1 .0))))
       (kit (r .state) (now (x .1 .0)))
       (hears r (now (x .1 .1 .0)))
   reading-called a r x k =

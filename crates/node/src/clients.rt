@@ -8,7 +8,7 @@ use state::client::is_open;
 use state::client::opened;
 ghost use mathlib.Core.List.{[]};
 ghost use lib.ListN.{length};
-ghost use Rattle.plain.specs.Calls.{Open, Close};
+ghost use Rattle.plain.specs.Calls.{Open, Close, withArea};
 ghost use Rattle.promise.specs.Promise.{Kept};
 
 // A client has a "number 0 to 7".
@@ -23,9 +23,9 @@ pub extern "C" fn jihfasul_open(
     client: u64,
     time: u64,
 ) -> Done
-    ensures { λ r. ⌜ Kept (now (table .entry)) (Open client time (length (now (values .entry)))) state (now (values .entry)) [] r (now (values .entry)) [] ⌝ }
+    ensures { λ r. ⌜ Kept (now (table .entry)) (withArea (Open client time) (length (now (values .entry)))) state (now (values .entry)) [] r (now (values .entry)) [] ⌝ }
 {
-    let number = lent_number(table, values, 32768, state, time);
+    let number = lent_number(table, values, false, state, time);
     if number != 0 {
         return quiet(number, state);
     }
@@ -57,9 +57,9 @@ pub extern "C" fn jihfasul_close(
     client: u64,
     time: u64,
 ) -> Done
-    ensures { λ r. ⌜ Kept (now (table .entry)) (Close client time (length (now (values .entry)))) state (now (values .entry)) [] r (now (values .entry)) [] ⌝ }
+    ensures { λ r. ⌜ Kept (now (table .entry)) (withArea (Close client time) (length (now (values .entry)))) state (now (values .entry)) [] r (now (values .entry)) [] ⌝ }
 {
-    let number = lent_number(table, values, 32768, state, time);
+    let number = lent_number(table, values, false, state, time);
     if number != 0 {
         return quiet(number, state);
     }

@@ -18,16 +18,16 @@ pub(crate) fn quiet(number: u8, state: State) -> Done
     }
 }
 
-// The lowest number of what every call after a start judges: the table, the outbox (32,768 where a call is lent none), the values area, the state and
-// the time.
-pub(crate) fn lent_number(table: &[u8], values: &[u8], outbox: usize, state: State, time: u64) -> u8
-    ensures { λ r. ⌜ r ≡ lentNumber (now (table .entry)) (now (values .entry)) outbox state time ⌝ }
+// The lowest number of what every call after a start judges: the table, whether it is lent an outbox that is too small, the values area, the state
+// and the time.
+pub(crate) fn lent_number(table: &[u8], values: &[u8], small: bool, state: State, time: u64) -> u8
+    ensures { λ r. ⌜ r ≡ lentNumber (now (table .entry)) (now (values .entry)) small state time ⌝ }
 {
     let number = table_number(table);
     if number != 0 {
         return number;
     }
-    if outbox < 32768 {
+    if small {
         return 7;
     }
     if values.len() < 16384 {

@@ -6,7 +6,7 @@ use promise::Done;
 use state::State;
 use state::client::is_open;
 ghost use lib.ListN.{length};
-ghost use Rattle.plain.specs.Calls.{Piece};
+ghost use Rattle.plain.specs.Calls.{Piece, withOutbox};
 ghost use Rattle.promise.specs.Promise.{Kept};
 
 // "Piece: bytes from one client." The caller offers what is not used again.
@@ -20,9 +20,9 @@ pub extern "C" fn jihfasul_piece(
     time: u64,
     bytes: &[u8],
 ) -> Done
-    ensures { λ r. ⌜ Kept (now (table .entry)) (Piece client (now (bytes .entry)) time (length (now (values .entry))) (length (now (outbox .entry)))) state (now (values .entry)) (now (outbox .entry)) r (now (values .exit)) (now (outbox .exit)) ⌝ }
+    ensures { λ r. ⌜ Kept (now (table .entry)) (withOutbox (Piece client (now (bytes .entry)) time) (length (now (values .entry))) (length (now (outbox .entry)))) state (now (values .entry)) (now (outbox .entry)) r (now (values .exit)) (now (outbox .exit)) ⌝ }
 {
-    let number = lent_number(table, values, outbox.len(), state, time);
+    let number = lent_number(table, values, outbox.len() < 32768, state, time);
     if number != 0 {
         return quiet(number, state);
     }

@@ -9,7 +9,7 @@ use search::cursor::NextParameter;
 use search::find::parameter_by_number;
 use state::State;
 ghost use lib.ListN.{length};
-ghost use Rattle.plain.specs.Calls.{Reading};
+ghost use Rattle.plain.specs.Calls.{Reading, withOutbox};
 ghost use Rattle.promise.specs.Promise.{Kept};
 
 // "a driver's value for a parameter, numbered from 0 ..". A table has 64 parameters at most. Number 14: "no such parameter number"; 15: "reading
@@ -24,9 +24,9 @@ pub extern "C" fn jihfasul_reading(
     time: u64,
     bytes: &[u8],
 ) -> Done
-    ensures { λ r. ⌜ Kept (now (table .entry)) (Reading parameter (now (bytes .entry)) time (length (now (values .entry))) (length (now (outbox .entry)))) state (now (values .entry)) (now (outbox .entry)) r (now (values .exit)) (now (outbox .exit)) ⌝ }
+    ensures { λ r. ⌜ Kept (now (table .entry)) (withOutbox (Reading parameter (now (bytes .entry)) time) (length (now (values .entry))) (length (now (outbox .entry)))) state (now (values .entry)) (now (outbox .entry)) r (now (values .exit)) (now (outbox .exit)) ⌝ }
 {
-    let number = lent_number(table, values, outbox.len(), state, time);
+    let number = lent_number(table, values, outbox.len() < 32768, state, time);
     if number != 0 {
         return quiet(number, state);
     }

@@ -55,7 +55,7 @@ fn part_shown(settings: Settings, k: usize, initial: Part) -> Shown
 pub extern "C" fn jihfasul_value(table: &[u8], values: &[u8], state: State, parameter: u64) -> Shown
     ensures { λ r. ⌜ Shows (now (table .entry)) (now (values .entry)) state parameter r ⌝ }
 {
-    let number = lent_number(table, values, 32768, state, 0);
+    let number = lent_number(table, values, false, state, 0);
     if number != 0 {
         return not_shown(number);
     }

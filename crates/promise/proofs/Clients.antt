@@ -14,7 +14,7 @@ use Rattle.table.specs.Table.{Table}
 use Rattle.table.specs.Search.{parameters}
 use Rattle.outbox.specs.Outbox.{encodeAll}
 use Rattle.plain.specs.Node.{Client, closed, Node, withClient, fresh, receive, clientNumbers}
-use Rattle.plain.specs.Calls.{Call, Open, Close, Piece, Effect, effect, pieceEffect, ended, beforeFeed, hasFeed, usedOf}
+use Rattle.plain.specs.Calls.{Event, Open, Close, Piece, Effect, effect, pieceEffect, ended, beforeFeed, hasFeed, usedOf}
 use Rattle.state.specs.declared.Clients.{Clients}
 use Rattle.state.specs.declared.State.{State}
 use Rattle.state.specs.View.{isSet, clientAt, view, outboxAfter, written}
@@ -104,7 +104,7 @@ module _ (table : List ℕ) (s : State) (values : List ℕ) (fit : isUnfit (tabl
   next = record { clients = r; settings = s .settings }
 
   -- client c becomes x, and nothing is sent
-  quiet : (e : Call) (x : Client) (u : ℕ) (condition : ℕ → Type 0) → Becomes (s .clients) c x condition r
+  quiet : (e : Event) (x : Client) (u : ℕ) (condition : ℕ → Type 0) → Becomes (s .clients) c x condition r
       → condition (length (tableOf table .modules))
       → effect (tableOf table) (view table s values) e ≡ record { next = withClient (view table s values) c x; used = u; records = [] }
       → setBy e [] ≡ none → (outbox : List ℕ)
@@ -124,22 +124,22 @@ module _ (table : List ℕ) (s : State) (values : List ℕ) (fit : isUnfit (tabl
       }
 
   pub opens : Becomes (s .clients) c fresh Always r
-      → Leaves table s values (Open c t (length values)) [] (record { number = 0; used = 0; written = 0; state = next }) values []
+      → Leaves table s values (Open c t) [] (record { number = 0; used = 0; written = 0; state = next }) values []
   unfolding effect setBy
-  opens b = quiet (Open c t (length values)) fresh 0 Always b tt refl refl []
+  opens b = quiet (Open c t) fresh 0 Always b tt refl refl []
 
   pub closes : Becomes (s .clients) c closed Always r
-      → Leaves table s values (Close c t (length values)) [] (record { number = 0; used = 0; written = 0; state = next }) values []
+      → Leaves table s values (Close c t) [] (record { number = 0; used = 0; written = 0; state = next }) values []
   unfolding effect setBy
-  closes b = quiet (Close c t (length values)) closed 0 Always b tt refl refl []
+  closes b = quiet (Close c t) closed 0 Always b tt refl refl []
 
   pub joins : (bs outbox : List ℕ) → isSet (s .clients .open) c ≡ true → hasFeed bs ≡ false
       → Becomes (s .clients) c (receive (clientAt (s .clients) c) (beforeFeed bs)) (Joinable (s .clients) c (beforeFeed bs)) r
-      → Leaves table s values (Piece c bs t (length values) (length outbox)) outbox
+      → Leaves table s values (Piece c bs t) outbox
       (record { number = 0; used = length (beforeFeed bs); written = 0; state = next }) values outbox
   unfolding effect setBy pieceEffect usedOf ended view
   joins bs outbox o f b =
-      quiet (Piece c bs t (length values) (length outbox)) (receive (clientAt (s .clients) c) (beforeFeed bs)) (length (beforeFeed bs)) (Joinable (s .clients) c (beforeFeed bs)) b
+      quiet (Piece c bs t) (receive (clientAt (s .clients) c) (beforeFeed bs)) (length (beforeFeed bs)) (Joinable (s .clients) c (beforeFeed bs)) b
       (record { isOpen = o; noFeed = no-feed-before bs })
       (rw f (ap (λ (k : ℕ). record { next = withClient (view table s values) c (receive (clientAt (s .clients) c) (beforeFeed bs)); used = k; records = [] }) (add-zero (length (beforeFeed bs)))))
       (unfold settingIn in refl)

@@ -14,7 +14,7 @@ use Rattle.message.specs.Line.{Line, whole, overlong, printable, withoutReturn,
 use Rattle.outbox.specs.Outbox.{Record, encodeAll}
 use Rattle.plain.specs.Node.{Client, Node, withClient, lineOf, receive, emptied}
 use Rattle.plain.specs.Answer.{answerParts, answer}
-use Rattle.plain.specs.Calls.{Call, Piece, Effect, effect, pieceEffect, ended, beforeFeed, hasFeed, usedOf}
+use Rattle.plain.specs.Calls.{Piece, Effect, effect, pieceEffect, ended, beforeFeed, hasFeed, usedOf}
 use Rattle.state.specs.declared.Clients.{Clients}
 use Rattle.state.specs.declared.State.{State}
 use Rattle.state.specs.View.{isSet, lineBytes, lineAt, clientAt, view, outboxAfter, written}
@@ -51,7 +51,7 @@ module _ (table : List ℕ) (s : State) (values outbox : List ℕ) (c t : ℕ) (
 
 -- a piece with a line feed: `held` is the state with the piece's bytes, and a what answering its line leaves
 module _ (table : List ℕ) (s : State) (values outbox : List ℕ) (c t : ℕ) (r : Clients) where
-  fed : (bs : List ℕ) (n : Node) → hasFeed bs ≡ true → effect (tableOf table) n (Piece c bs t (length values) (length outbox))
+  fed : (bs : List ℕ) (n : Node) → hasFeed bs ≡ true → effect (tableOf table) n (Piece c bs t)
       ≡ record {
         next = answer (tableOf table) (withClient n c (receive (n .clients c) (beforeFeed bs))) c t .0;
         used = length (beforeFeed bs) + 1;
@@ -64,7 +64,7 @@ module _ (table : List ℕ) (s : State) (values outbox : List ℕ) (c t : ℕ) (
       → Becomes (s .clients) c (receive (clientAt (s .clients) c) (beforeFeed bs)) condition r
       → (a : Answered) (values′ outbox′ : List ℕ)
       → Answers table (s .settings) values outbox t a values′ outbox′ (answer (tableOf table) (view table (record { clients = r; settings = s .settings }) values) c t)
-      → Leaves table s values (Piece c bs t (length values) (length outbox)) outbox
+      → Leaves table s values (Piece c bs t) outbox
       (record { number = 0; used = length (beforeFeed bs) + 1; written = a .written; state = a .state }) values′ outbox′
   unfolding setBy timeOf outboxAfter written view
   feeds bs condition f b a values′ outbox′ x =

@@ -4,7 +4,7 @@ use mathlib.Core.Bool.{false}
 use mathlib.Core.List.{List}
 use mathlib.Core.Path.{_≡_}
 use Rattle.table.specs.Layout.{tableOf}
-use Rattle.plain.specs.Calls.{Call, Effect, effect}
+use Rattle.plain.specs.Calls.{Event, Effect, effect}
 use Rattle.state.specs.declared.State.{State}
 use Rattle.state.specs.View.{view, outboxAfter, written}
 use Rattle.state.specs.Fit.{isUnfit}
@@ -13,11 +13,11 @@ use Rattle.promise.specs.declared.Done.{Done}
 use Rattle.promise.specs.Promise.{setBy, timeOf}
 
 -- the plain node's effect, from the node that a state stands for
-abbrev pub effectFrom : List ℕ → State → List ℕ → Call → Effect
+abbrev pub effectFrom : List ℕ → State → List ℕ → Event → Effect
 effectFrom table s values e = effect (tableOf table) (view table s values) e
 
--- handed the state s, the values area and the outbox, an accepted call e answers r and leaves values′ and outbox′
-pub record Leaves (table : List ℕ) (s : State) (values : List ℕ) (e : Call) (outbox : List ℕ) (r : Done) (values′ outbox′ : List ℕ) : Type 0 where
+-- handed the state s, the values area and the outbox, an accepted event e answers r and leaves values′ and outbox′
+pub record Leaves (table : List ℕ) (s : State) (values : List ℕ) (e : Event) (outbox : List ℕ) (r : Done) (values′ outbox′ : List ℕ) : Type 0 where
   pub number : r .number ≡ 0
   pub used : r .used ≡ effectFrom table s values e .used
   pub writes : r .written ≡ written (effectFrom table s values e .records)

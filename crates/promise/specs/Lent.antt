@@ -1,18 +1,19 @@
 -- What every call after a start judges of what it is lent: table, outbox, values area, state and time, in the order of the numbers. Assumes nothing.
 use Prim.Native.Nat.{ℕ}
+use mathlib.Core.Bool.{Bool}
 use mathlib.Core.List.{List, [], _∷_}
 use lib.ListN.{length}
 use Rattle.table.specs.Layout.{tableOf}
-use Rattle.report.specs.Judge.{lowest, tableNumber}
-use Rattle.plain.specs.Calls.{fault7, fault8, fault9, fault10}
+use Rattle.report.specs.Judge.{fault, lowest, tableNumber}
+use Rattle.plain.specs.Calls.{fault8, fault9, fault10}
 use Rattle.state.specs.declared.State.{State}
 use Rattle.state.specs.Fit.{isUnfit}
 
--- the lowest of the numbers 1 to 10; `outbox` is the length of the outbox
-unfoldable pub lentNumber : List ℕ → List ℕ → ℕ → State → ℕ → ℕ
-lentNumber table values outbox s time = lowest
+-- the lowest of the numbers 1 to 10; `small` says whether an outbox is lent that is too small
+unfoldable pub lentNumber : List ℕ → List ℕ → Bool → State → ℕ → ℕ
+lentNumber table values small s time = lowest
     (tableNumber table
-    ∷ fault7 outbox
+    ∷ fault 7 small
     ∷ fault8 (length values)
     ∷ fault9 (isUnfit (tableOf table) s values)
     ∷ fault10 time

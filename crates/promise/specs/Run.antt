@@ -2,7 +2,7 @@
 use Prim.Native.Nat.{ℕ, _<_}
 use mathlib.Core.List.{List, [], _∷_}
 use lib.ListN.{length, take}
-use Rattle.plain.specs.Calls.{Call, Open, Close, Piece, Reading}
+use Rattle.plain.specs.Calls.{Open, Close, Piece, Reading, Call, withArea, withOutbox}
 use Rattle.plain.specs.History.{Heard}
 use Rattle.state.specs.declared.State.{State}
 use Rattle.promise.specs.declared.Done.{Done}
@@ -23,22 +23,22 @@ hears r outbox = record { number = r .number; used = r .used; written = take (r 
 -- A call, which kept its promise, of one of the four functions after a start: what was handed in, the call as the plain node takes it, what was
 -- handed back, and what was heard.
 pub data Called (table : List ℕ) : Kit → Call → Kit → Heard → Type 0 where
-  by-open : (s : State) (values : List ℕ) (c t : ℕ) (r : Done) → Kept table (Open c t (length values)) s values [] r values []
-      → Called table (kit s values) (Open c t (length values)) (kit (r .state) values) (hears r [])
-  by-close : (s : State) (values : List ℕ) (c t : ℕ) (r : Done) → Kept table (Close c t (length values)) s values [] r values []
-      → Called table (kit s values) (Close c t (length values)) (kit (r .state) values) (hears r [])
+  by-open : (s : State) (values : List ℕ) (c t : ℕ) (r : Done) → Kept table (withArea (Open c t) (length values)) s values [] r values []
+      → Called table (kit s values) (withArea (Open c t) (length values)) (kit (r .state) values) (hears r [])
+  by-close : (s : State) (values : List ℕ) (c t : ℕ) (r : Done) → Kept table (withArea (Close c t) (length values)) s values [] r values []
+      → Called table (kit s values) (withArea (Close c t) (length values)) (kit (r .state) values) (hears r [])
   by-piece : (s : State) (values outbox : List ℕ) (c : ℕ) (bs : List ℕ) (t : ℕ) (r : Done) (values′ outbox′ : List ℕ)
-      → Kept table (Piece c bs t (length values) (length outbox)) s values outbox r values′ outbox′
+      → Kept table (withOutbox (Piece c bs t) (length values) (length outbox)) s values outbox r values′ outbox′
       → Called table
       (kit s values)
-      (Piece c bs t (length values) (length outbox))
+      (withOutbox (Piece c bs t) (length values) (length outbox))
       (kit (r .state) values′)
       (hears r outbox′)
   by-reading : (s : State) (values outbox : List ℕ) (p : ℕ) (bs : List ℕ) (t : ℕ) (r : Done) (values′ outbox′ : List ℕ)
-      → Kept table (Reading p bs t (length values) (length outbox)) s values outbox r values′ outbox′
+      → Kept table (withOutbox (Reading p bs t) (length values) (length outbox)) s values outbox r values′ outbox′
       → Called table
       (kit s values)
-      (Reading p bs t (length values) (length outbox))
+      (withOutbox (Reading p bs t) (length values) (length outbox))
       (kit (r .state) values′)
       (hears r outbox′)
   -- the same, lent a values area of under 16,384 bytes in the place of its own, which the caller keeps

@@ -1,6 +1,6 @@
 -- What the call that shows a parameter's value promises. Assumes nothing.
 use Prim.Native.Nat.{ℕ, _+_, _≤_}
-use mathlib.Core.Bool.{cond, not}
+use mathlib.Core.Bool.{false, cond, not}
 use mathlib.Core.List.{List, [], _∷_}
 use mathlib.Core.Option.{Option, none, some}
 use mathlib.Core.Path.{_≡_}
@@ -21,7 +21,7 @@ use Rattle.promise.specs.Lent.{lentNumber}
 -- the lowest number: of what every call judges (no outbox and no time are lent), and 14, "no such parameter number"
 unfoldable pub valueNumber : List ℕ → List ℕ → State → ℕ → ℕ
 valueNumber table values s p =
-    lowest (lentNumber table values 32768 s 0 ∷ fault 14 (not (isSome (getElem? (parameters (tableOf table)) p))) ∷ [])
+    lowest (lentNumber table values false s 0 ∷ fault 14 (not (isSome (getElem? (parameters (tableOf table)) p))) ∷ [])
 
 -- a refusal answers its number only
 abbrev pub notShown : ℕ → Shown

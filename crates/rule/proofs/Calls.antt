@@ -13,6 +13,7 @@ use Rattle.fit.specs.Fit.{Verdict, fits, rangeError, wrongType, badJSON, severi
 use Rattle.table.specs.Table.{Parameter, Table}
 use Rattle.table.specs.Layout.{tableOf}
 use Rattle.table.specs.Search.{Placed, parameters}
+use Rattle.report.specs.Judge.{lowest}
 use Rattle.report.proofs.Faults.{no-fault, lowest-none}
 use Rattle.message.specs.Line.{Parts, content, partsOf}
 use Rattle.message.specs.Request.{Request}
@@ -20,8 +21,9 @@ use Rattle.message.specs.Reply.{Reply, error}
 use Rattle.outbox.specs.Outbox.{Record, final}
 use Rattle.plain.specs.Node.{Client, closed, fresh, Node, put, withClient, withValue, isOpen, lineOf, receive, emptied, reportOf, clientNumbers, updatesTo}
 use Rattle.plain.specs.Answer.{Outcome, refused, carried, outcome, activates, deactivates, reads, sets, conclude, answerParts, answer}
-use Rattle.plain.specs.Calls.{Call, Open, Close, Piece, Reading, callNumber, readingVerdict, beforeFeed, hasFeed, ended, pieceEffect, readingEffect, effect, settle, stepIf}
+use Rattle.plain.specs.Calls.{Event, Open, Close, Piece, Reading, Call, ownFaults, callNumber, readingVerdict, beforeFeed, hasFeed, ended, pieceEffect, readingEffect, effect, settle, stepIf}
 use Rattle.plain.specs.History.{step}
+use Rattle.plain.proofs.Numbers as Numbers
 use Rattle.rule.specs.Theorems.{requestOf, Refused, RefusalsAlterNothing}
 use Rattle.rule.proofs.Laws.{put-same, put-put, emptied-received, NoFinal, final-not-in, updates-to-no-final, updates-of-no-final}
 use Rattle.rule.proofs.Outcomes.{outcome-holds}
@@ -84,17 +86,17 @@ pub record Answered (w : Table) (n : Node) (c : ℕ) (bs : List ℕ) (t : ℕ) (
   pub node : m ≡ nodeAfter (idle n c) (outcomeAt w n c bs t)
   pub records : rs ≡ before (outcomeAt w n c bs t) ++ (final c (replyTo (partsAt n c bs) (outcomeAt w n c bs t)) ∷ [])
 
--- what an accepted call does
-pub data Did (w : Table) (n : Node) : Call → Node → List Record → Type 0 where
-  opened : {c t a : ℕ} → Did w n (Open c t a) (withClient n c fresh) []
-  shut : {c t a : ℕ} → Did w n (Close c t a) (withClient n c closed) []
-  received : {c : ℕ} {bs : List ℕ} {t a o : ℕ} → hasFeed bs ≡ false → Did w n (Piece c bs t a o) (withClient n c (receive (n .clients c) (beforeFeed bs))) []
-  read : {k : ℕ} {bs : List ℕ} {t a o : ℕ} (p : Placed Parameter) → getElem? (parameters w) k ≡ some p
+-- what an accepted event does
+pub data Did (w : Table) (n : Node) : Event → Node → List Record → Type 0 where
+  opened : {c t : ℕ} → Did w n (Open c t) (withClient n c fresh) []
+  shut : {c t : ℕ} → Did w n (Close c t) (withClient n c closed) []
+  received : {c : ℕ} {bs : List ℕ} {t : ℕ} → hasFeed bs ≡ false → Did w n (Piece c bs t) (withClient n c (receive (n .clients c) (beforeFeed bs))) []
+  read : {k : ℕ} {bs : List ℕ} {t : ℕ} (p : Placed Parameter) → getElem? (parameters w) k ≡ some p
       → verdict (p .it .datainfo) bs ≡ fits
-      → Did w n (Reading k bs t a o) (withValue n k (record { text = storedForm bs; time = t }))
+      → Did w n (Reading k bs t) (withValue n k (record { text = storedForm bs; time = t }))
       (updatesTo (n .clients) (p .home) (reportOf p (record { text = storedForm bs; time = t })) clientNumbers)
-  line : {c : ℕ} {bs : List ℕ} {t a o : ℕ} {m : Node} {rs : List Record} → hasFeed bs ≡ true → Answered w n c bs t m rs
-      → Did w n (Piece c bs t a o) m rs
+  line : {c : ℕ} {bs : List ℕ} {t : ℕ} {m : Node} {rs : List Record} → hasFeed bs ≡ true → Answered w n c bs t m rs
+      → Did w n (Piece c bs t) m rs
 
 answer-is : (w : Table) (n : Node) (c : ℕ) (x : Client) (t : ℕ) → emptied x ≡ emptied (n .clients c)
     → answer w (withClient n c x) c t ≡ answerParts w (idle n c) c t (partsOf (content (lineOf x)))
@@ -126,10 +128,10 @@ answered w n c bs t h =
 -- ## Numbers of accepted calls
 
 -- an accepted piece's client is open
-piece-open : (table : List ℕ) (n : Node) (c : ℕ) (bs : List ℕ) (t a o : ℕ)
-    → callNumber table false n (Piece c bs t a o) ≡ 0 → isOpen (n .clients c) ≡ true
-unfolding callNumber
-piece-open table n c bs t a o e = not-false (isOpen (n .clients c)) (no-fault 11 (not (isOpen (n .clients c))) (lowest-none _ e 6))
+piece-open : (table : List ℕ) (n : Node) (c : ℕ) (bs : List ℕ) (t : ℕ)
+    → lowest (ownFaults (tableOf table) n (Piece c bs t)) ≡ 0 → isOpen (n .clients c) ≡ true
+unfolding ownFaults
+piece-open table n c bs t e = not-false (isOpen (n .clients c)) (no-fault 11 (not (isOpen (n .clients c))) (lowest-none _ e 2))
 
 -- an accepted reading's parameter is there, and its value fits
 fit-is : (v : Verdict) → isFit v ≡ true → v ≡ fits
@@ -143,63 +145,63 @@ there-is : (x : Option (Placed Parameter)) → isSome x ≡ true → (p : Placed
 there-is none e = absurd (false≢true e)
 there-is (some p) e = (p, refl)
 
-did-reading : (w : Table) (n : Node) (k : ℕ) (bs : List ℕ) (t a o : ℕ) (x : Option (Placed Parameter)) (p : Placed Parameter)
+did-reading : (w : Table) (n : Node) (k : ℕ) (bs : List ℕ) (t : ℕ) (x : Option (Placed Parameter)) (p : Placed Parameter)
     → getElem? (parameters w) k ≡ x → x ≡ some p → readingVerdict x bs ≡ fits
-    → let r = readingEffect n k x bs t in Did w n (Reading k bs t a o) (r .next) (r .records)
+    → let r = readingEffect n k x bs t in Did w n (Reading k bs t) (r .next) (r .records)
 unfolding readingEffect readingVerdict
-did-reading w n k bs t a o none p q h v = let z : _≡_ {A = ℕ} 0 1 = cc in absurd (omega arith)
-did-reading w n k bs t a o (some y) p q h v = read y q v
+did-reading w n k bs t none p q h v = let z : _≡_ {A = ℕ} 0 1 = cc in absurd (omega arith)
+did-reading w n k bs t (some y) p q h v = read y q v
 
-did-piece : (w : Table) (n : Node) (c : ℕ) (bs : List ℕ) (t a o : ℕ) (q : Bool) → hasFeed bs ≡ q → isOpen (n .clients c) ≡ true
-    → let r = ended w (withClient n c (receive (n .clients c) (beforeFeed bs))) c t q in Did w n (Piece c bs t a o) (r .0) (r .1)
+did-piece : (w : Table) (n : Node) (c : ℕ) (bs : List ℕ) (t : ℕ) (q : Bool) → hasFeed bs ≡ q → isOpen (n .clients c) ≡ true
+    → let r = ended w (withClient n c (receive (n .clients c) (beforeFeed bs))) c t q in Did w n (Piece c bs t) (r .0) (r .1)
 unfolding ended
-did-piece w n c bs t a o true f h = line f (answered w n c bs t h)
-did-piece w n c bs t a o false f h = received f
+did-piece w n c bs t true f h = line f (answered w n c bs t h)
+did-piece w n c bs t false f h = received f
 
-did : (table : List ℕ) (n : Node) (e : Call) → callNumber table false n e ≡ 0
+did : (table : List ℕ) (n : Node) (e : Event) → lowest (ownFaults (tableOf table) n e) ≡ 0
     → let r = effect (tableOf table) n e in Did (tableOf table) n e (r .next) (r .records)
-unfolding effect pieceEffect callNumber
-did table n (Open c t a) h = opened
-did table n (Close c t a) h = shut
-did table n (Piece c bs t a o) h = did-piece (tableOf table) n c bs t a o (hasFeed bs) refl (piece-open table n c bs t a o h)
-did table n (Reading k bs t a o) h =
+unfolding effect pieceEffect ownFaults
+did table n (Open c t) h = opened
+did table n (Close c t) h = shut
+did table n (Piece c bs t) h = did-piece (tableOf table) n c bs t (hasFeed bs) refl (piece-open table n c bs t h)
+did table n (Reading k bs t) h =
     let x = getElem? (parameters (tableOf table)) k in
     let b = isFit (readingVerdict x bs) in
-    let p = there-is x (not-false (isSome x) (no-fault 13 (not (isSome x)) (lowest-none _ h 5))) in
-    did-reading (tableOf table) n k bs t a o x (p .0) refl (p .1)
-    (fit-is (readingVerdict x bs) (not-false b (no-fault 14 (not b) (lowest-none _ h 6))))
+    let p = there-is x (not-false (isSome x) (no-fault 13 (not (isSome x)) (lowest-none _ h 1))) in
+    did-reading (tableOf table) n k bs t x (p .0) refl (p .1)
+    (fit-is (readingVerdict x bs) (not-false b (no-fault 14 (not b) (lowest-none _ h 2))))
 
 -- ## Steps
 
 settled : (table : List ℕ) (n : Node) (e : Call) (j : ℕ) → callNumber table false n e ≡ j
-    → let s = settle j n (effect (tableOf table) n e) in
-    Refused n (s .0) (s .1) ⊎ Did (tableOf table) n e (s .0) (s .1 .records)
+    → let s = settle j n (effect (tableOf table) n (e .event)) in
+    Refused n (s .0) (s .1) ⊎ Did (tableOf table) n (e .event) (s .0) (s .1 .records)
 unfolding settle
-settled table n e zero h = inr (did table n e h)
+settled table n e zero h = inr (did table n (e .event) (Numbers.accepted-call table false e n .0 h .1))
 settled table n e (suc j) h = inl (record { node = refl; used = refl; records = refl })
 
 -- every call is refused and alters nothing, or it does what an accepted call does
 pub every-call : (table : List ℕ) (n : Node) (e : Call)
-    → Refused n (step table n e .0) (step table n e .1) ⊎ Did (tableOf table) n e (step table n e .0) (step table n e .1 .records)
+    → Refused n (step table n e .0) (step table n e .1) ⊎ Did (tableOf table) n (e .event) (step table n e .0) (step table n e .1 .records)
 unfolding step stepIf
 every-call table n e = settled table n e (callNumber table false n e) refl
 
 pub accepted-call : (table : List ℕ) (n : Node) (e : Call) → step table n e .1 .number ≡ 0
-    → Did (tableOf table) n e (step table n e .0) (step table n e .1 .records)
+    → Did (tableOf table) n (e .event) (step table n e .0) (step table n e .1 .records)
 unfolding step stepIf settle
 accepted-call table n e h = go (callNumber table false n e) refl h
   where
-    go : (j : ℕ) → callNumber table false n e ≡ j → settle j n (effect (tableOf table) n e) .1 .number ≡ 0
-        → let s = settle j n (effect (tableOf table) n e) in Did (tableOf table) n e (s .0) (s .1 .records)
-    go zero q z = did table n e q
+    go : (j : ℕ) → callNumber table false n e ≡ j → settle j n (effect (tableOf table) n (e .event)) .1 .number ≡ 0
+        → let s = settle j n (effect (tableOf table) n (e .event)) in Did (tableOf table) n (e .event) (s .0) (s .1 .records)
+    go zero q z = did table n (e .event) (Numbers.accepted-call table false e n .0 q .1)
     go (suc j) q z = absurd (omega arith)
 
 pub refusals-alter-nothing : RefusalsAlterNothing
 unfolding step stepIf settle
 refusals-alter-nothing table n e k h = go (callNumber table false n e) refl h
   where
-    go : (j : ℕ) → callNumber table false n e ≡ j → settle j n (effect (tableOf table) n e) .1 .number ≡ suc k
-        → let s = settle j n (effect (tableOf table) n e) in Refused n (s .0) (s .1)
+    go : (j : ℕ) → callNumber table false n e ≡ j → settle j n (effect (tableOf table) n (e .event)) .1 .number ≡ suc k
+        → let s = settle j n (effect (tableOf table) n (e .event)) in Refused n (s .0) (s .1)
     go zero q z = absurd (omega arith)
     go (suc j) q z = record { node = refl; used = refl; records = refl }
 
@@ -213,28 +215,28 @@ the-final rs c d r x h m =
     (List·Memᴰ·append-cases rs m)
 
 -- the line that a final reply among the records of a call answers
-pub data Line-of (w : Table) (n m : Node) (rs : List Record) (c : ℕ) (r : Reply) : Call → Type 0 where
-  line-of : {bs : List ℕ} {t a o : ℕ} → Answered w n c bs t m rs → r ≡ replyTo (partsAt n c bs) (outcomeAt w n c bs t)
-      → Line-of w n m rs c r (Piece c bs t a o)
+pub data Line-of (w : Table) (n m : Node) (rs : List Record) (c : ℕ) (r : Reply) : Event → Type 0 where
+  line-of : {bs : List ℕ} {t : ℕ} → Answered w n c bs t m rs → r ≡ replyTo (partsAt n c bs) (outcomeAt w n c bs t)
+      → Line-of w n m rs c r (Piece c bs t)
 
-line-in : (w : Table) (n : Node) (m : Node) (rs : List Record) (c d : ℕ) (r : Reply) (bs : List ℕ) (t a o : ℕ) → Answered w n c bs t m rs
-    → List·Memᴰ (final d r) rs → Line-of w n m rs d r (Piece c bs t a o)
-line-in w n m rs c d r bs t a o h l =
+line-in : (w : Table) (n : Node) (m : Node) (rs : List Record) (c d : ℕ) (r : Reply) (bs : List ℕ) (t : ℕ) → Answered w n c bs t m rs
+    → List·Memᴰ (final d r) rs → Line-of w n m rs d r (Piece c bs t)
+line-in w n m rs c d r bs t h l =
     let x : Outcome = outcomeAt w n c bs t in
     let q = the-final (before x) c d (replyTo (partsAt n c bs) x) r (quiet w (idle n c) c t (requestOf n c bs))
     (subst (List·Memᴰ (final d r)) (h .records) l) in
-    subst (λ y. Line-of w n m rs y r (Piece c bs t a o)) (sym (q .0)) (line-of h (q .1))
+    subst (λ y. Line-of w n m rs y r (Piece c bs t)) (sym (q .0)) (line-of h (q .1))
 
-final-in : {w : Table} {n : Node} {e : Call} {m : Node} {rs : List Record} → Did w n e m rs → (c : ℕ) (r : Reply)
+final-in : {w : Table} {n : Node} {e : Event} {m : Node} {rs : List Record} → Did w n e m rs → (c : ℕ) (r : Reply)
     → List·Memᴰ (final c r) rs → Line-of w n m rs c r e
 final-in opened c r l = absurd (List·Memᴰ·not-nil l)
 final-in shut c r l = absurd (List·Memᴰ·not-nil l)
 final-in (received f) c r l = absurd (List·Memᴰ·not-nil l)
 final-in {n = n} (read p q f) c r l = absurd (final-not-in _ c r (updates-to-no-final (n .clients) (p .home) _ clientNumbers) l)
-final-in {w} {n} (line {c = d} {bs = bs} {t = t} {a = a} {o = o} {m = m} {rs = rs} f h) c r l = line-in w n m rs d c r bs t a o h l
+final-in {w} {n} (line {c = d} {bs = bs} {t = t} {m = m} {rs = rs} f h) c r l = line-in w n m rs d c r bs t h l
 
 pub line-of-final : (table : List ℕ) (n : Node) (e : Call) (c : ℕ) (r : Reply) → List·Memᴰ (final c r) (step table n e .1 .records)
-    → Line-of (tableOf table) n (step table n e .0) (step table n e .1 .records) c r e
+    → Line-of (tableOf table) n (step table n e .0) (step table n e .1 .records) c r (e .event)
 line-of-final table n e c r l =
     ⊎-elim
     (λ h. absurd (List·Memᴰ·not-nil (subst (List·Memᴰ (final c r)) (h .records) l)))

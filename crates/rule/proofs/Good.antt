@@ -108,7 +108,7 @@ module _ (w : Table) (n : Node) (c t : ℕ) where
 -- ## Lines
 
 -- the line that an accepted piece ends is carried out
-ended-line : {w : Table} {n m : Node} {rs : List Record} {c : ℕ} {bs : List ℕ} {t a o : ℕ} → Did w n (Piece c bs t a o) m rs → hasFeed bs ≡ true
+ended-line : {w : Table} {n m : Node} {rs : List Record} {c : ℕ} {bs : List ℕ} {t : ℕ} → Did w n (Piece c bs t) m rs → hasFeed bs ≡ true
     → Answered w n c bs t m rs
 ended-line (received g) f = absurd (true≢false (sym f ∙ g))
 ended-line (line _ h) f = h
@@ -122,15 +122,15 @@ comes-to {w} {n} {m} {rs} {c} {bs} {t} h q x e f =
     (h .node ∙ ap (nodeAfter (idle n c)) g, h .records ∙ ap (λ y. before y ++ (final c (replyTo (partsAt n c bs) y) ∷ [])) g)
 
 pub good-changes-are-made : GoodChangesAreMade
-good-changes-are-made table n c m x v k p e r g bs t a o z f q =
+good-changes-are-made table n c m x v k p e r g bs t l z f q =
     answered-change _ n _ c t (k, p) (storedForm v) _ (parameter-there _ m x (k, p) e) bs
-    (ended-line (accepted-call table n (Piece c bs t a o) z) f)
+    (ended-line (accepted-call table n (record { event = Piece c bs t; lent = l }) z) f)
     (ap (outcome _ (idle n c) c t) q ∙ good-set _ (idle n c) c t m x v (k, p) e r g)
 
 pub good-reads-are-answered : GoodReadsAreAnswered
 unfolding reads
-good-reads-are-answered table n c m x k p e bs t a o z f q =
-    let g = comes-to (ended-line (accepted-call table n (Piece c bs t a o) z) f) (read m x) _ q (good-read _ (idle n c) c t m x (k, p) e) in
+good-reads-are-answered table n c m x k p e bs t l z f q =
+    let g = comes-to (ended-line (accepted-call table n (record { event = Piece c bs t; lent = l }) z) f) (read m x) _ q (good-read _ (idle n c) c t m x (k, p) e) in
     record {
       alone = g .1;
       values = ap (λ (y : Node). y .values) (g .0);
@@ -138,8 +138,8 @@ good-reads-are-answered table n c m x k p e bs t a o z f q =
     }
 
 pub good-commands-are-ordered : GoodCommandsAreOrdered
-good-commands-are-ordered table n c m x v k p e r bs t a o z f q =
-    let g = comes-to (ended-line (accepted-call table n (Piece c bs t a o) z) f) (execute m x v) _ q (good-order _ (idle n c) c t m x v (k, p) e r) in
+good-commands-are-ordered table n c m x v k p e r bs t l z f q =
+    let g = comes-to (ended-line (accepted-call table n (record { event = Piece c bs t; lent = l }) z) f) (execute m x v) _ q (good-order _ (idle n c) c t m x v (k, p) e r) in
     record { records = g .1; node = g .0 }
 
 -- what a client that sent a line has active, where it was given other active modules
@@ -180,6 +180,6 @@ deactivation-made {w} {n} {c = c} {t = t} s e h q =
 
 pub good-activations-are-made : GoodActivationsAreMade
 good-activations-are-made table n c s e = (
-  λ bs t a o z f q. activation-made s e (ended-line (accepted-call table n (Piece c bs t a o) z) f) q,
-  λ bs t a o z f q. deactivation-made s e (ended-line (accepted-call table n (Piece c bs t a o) z) f) q,
+  λ bs t l z f q. activation-made s e (ended-line (accepted-call table n (record { event = Piece c bs t; lent = l }) z) f) q,
+  λ bs t l z f q. deactivation-made s e (ended-line (accepted-call table n (record { event = Piece c bs t; lent = l }) z) f) q,
 )

@@ -17,7 +17,7 @@ use Rattle.message.specs.Reply.{Report, Reply, identification, describing, pong
 use Rattle.outbox.specs.Outbox.{Record, final, orderCommand}
 use Rattle.plain.specs.Node.{Client, closed, connected, Node, put, withClient, lineOf, receive, emptied, activated, reportOf}
 use Rattle.plain.specs.Answer.{Outcome, refused, carried, outcome, argumentVerdict, argumentForm, activates, deactivates, reads, sets}
-use Rattle.plain.specs.Calls.{Call, Piece, Answer, callNumber, beforeFeed, hasFeed, usedOf, pieceEffect, effect, settle, stepIf}
+use Rattle.plain.specs.Calls.{Event, Piece, Lent, Call, Answer, callNumber, beforeFeed, hasFeed, usedOf, pieceEffect, effect, settle, stepIf}
 use Rattle.plain.specs.History.{step}
 use Rattle.rule.specs.Theorems.{requestOf, OfPiece, of-piece, Belongs, ParametersBelong, PieceUsed, PiecesAreUsed, ReadTold, ReadsAreTrue, CommandOrdered, CommandsAreOrdered}
 use Rattle.rule.proofs.Laws.{put-same, put-other}
@@ -92,7 +92,7 @@ read-in w n c now p q =
     (λ k v h f r e. other isReply (reply r) _ refl refl e)
     q
 
-read-line : {w : Table} {n m : Node} {rs : List Record} {c : ℕ} (r : Report) {e : Call} → Line-of w n m rs c (reply r) e
+read-line : {w : Table} {n m : Node} {rs : List Record} {c : ℕ} (r : Report) {e : Event} → Line-of w n m rs c (reply r) e
     → OfPiece c (λ bs t. ReadTold w n c bs r rs) e
 read-line {w} {n} {m} {rs} {c} r (line-of {bs = bs} {t = t} h q) =
     let o : Outcome = outcomeAt w n c bs t in
@@ -146,7 +146,7 @@ order-in w n c now p q =
     record { k = k; v = v; there = h; asked = refl; fitting = f; tells = done-is r _ e; ordered = refl })
     q
 
-command-line : {w : Table} {n m : Node} {rs : List Record} {c : ℕ} (r : Report) {e : Call} → Line-of w n m rs c (done r) e
+command-line : {w : Table} {n m : Node} {rs : List Record} {c : ℕ} (r : Report) {e : Event} → Line-of w n m rs c (done r) e
     → OfPiece c (λ bs t. CommandOrdered w n c bs t r rs) e
 command-line {w} {n} {m} {rs} {c} r (line-of {bs = bs} {t = t} h q) =
     let o : Outcome = outcomeAt w n c bs t in
@@ -215,8 +215,8 @@ unfolding emptied lineOf
 emptied-line closed = refl
 emptied-line (connected l a) = refl
 
-piece-used : {w : Table} {n m : Node} {rs : List Record} {c : ℕ} {bs : List ℕ} {t a o : ℕ} (x : Answer) → x .used ≡ usedOf bs
-    → x .records ≡ rs → Did w n (Piece c bs t a o) m rs → PieceUsed n m c bs x
+piece-used : {w : Table} {n m : Node} {rs : List Record} {c : ℕ} {bs : List ℕ} {t : ℕ} (x : Answer) → x .used ≡ usedOf bs
+    → x .records ≡ rs → Did w n (Piece c bs t) m rs → PieceUsed n m c bs x
 piece-used {n = n} {c = c} {bs} x u q (received f) =
     record {
       used = u;
@@ -241,23 +241,20 @@ piece-used {w} {n} {m} {c = c} {bs} {t} x u q (line f h) =
           ap (λ (y : Node). y .clients d) (h .node) ∙ g .others d i ∙ put-other (n .clients) c (emptied (n .clients c)) d i;
     }
 
-used-is : (table : List ℕ) (n : Node) (c : ℕ) (bs : List ℕ) (t a o : ℕ) → step table n (Piece c bs t a o) .1 .number ≡ 0
-    → step table n (Piece c bs t a o) .1 .used ≡ usedOf bs
+used-is : (table : List ℕ) (n : Node) (c : ℕ) (bs : List ℕ) (t : ℕ) (lent : Lent)
+    → let r = step table n (record { event = Piece c bs t; lent = lent }) in r .1 .number ≡ 0 → r .1 .used ≡ usedOf bs
 unfolding step stepIf settle effect pieceEffect
-used-is table n c bs t a o h = go (callNumber table false n (Piece c bs t a o)) h
+used-is table n c bs t lent h = go (callNumber table false n (record { event = Piece c bs t; lent = lent })) h
   where
-    go : (j : ℕ) → settle j n (effect (tableOf table) n (Piece c bs t a o)) .1 .number ≡ 0
-        → settle j n (effect (tableOf table) n (Piece c bs t a o)) .1 .used ≡ usedOf bs
+    go : (j : ℕ) → settle j n (effect (tableOf table) n (Piece c bs t)) .1 .number ≡ 0
+        → settle j n (effect (tableOf table) n (Piece c bs t)) .1 .used ≡ usedOf bs
     go zero z = refl
     go (suc j) z = absurd (omega arith)
 
 pub pieces-are-used : PiecesAreUsed
-pieces-are-used table n c bs t a o h =
-    piece-used
-    (step table n (Piece c bs t a o) .1)
-    (used-is table n c bs t a o h)
-    refl
-    (accepted-call table n (Piece c bs t a o) h)
+pieces-are-used table n c bs t lent h =
+    let e : Call = record { event = Piece c bs t; lent = lent } in
+    piece-used (step table n e .1) (used-is table n c bs t lent h) refl (accepted-call table n e h)
 
 -- ## Where a parameter belongs
 

@@ -17,7 +17,7 @@ use Rattle.message.specs.Reply.{Report, Reply}
 use Rattle.outbox.specs.Outbox.{Record, final}
 use Rattle.plain.specs.Node.{Node, withClient, lineOf, emptied, reportOf, clientNumbers, updatesTo}
 use Rattle.plain.specs.Answer.{Outcome, outcome, conclude, answerParts, answer}
-use Rattle.plain.specs.Calls.{Call, Open, Close, Piece, Reading, callNumber, beforeFeed, hasFeed, usedOf, ended, pieceEffect, readingEffect, effect, settle, stepIf}
+use Rattle.plain.specs.Calls.{Event, Open, Close, Piece, Reading, callNumber, beforeFeed, hasFeed, usedOf, ended, pieceEffect, readingEffect, effect, settle, stepIf}
 use Rattle.plain.specs.History.{step}
 use Rattle.rule.specs.Records.{repliesFor, feedCount, feedsUsed}
 use Rattle.rule.specs.Theorems.{OneReplyForEachLine}
@@ -83,19 +83,19 @@ reading-replies n k (some p) bs t d =
     (updatesTo (n .clients) (p .home) r clientNumbers)
     (updates-to-no-final (n .clients) (p .home) r clientNumbers))
 
-one-reply : (w : Table) (n : Node) (e : Call) (d j : ℕ)
+one-reply : (w : Table) (n : Node) (e : Event) (d j : ℕ)
     → length (repliesFor d (settle j n (effect w n e) .1 .records)) ≡ feedsUsed d e (settle j n (effect w n e) .1)
 unfolding settle effect feedsUsed repliesFor pieceEffect feedCount
-one-reply w n (Open c t a) d zero = refl
-one-reply w n (Open c t a) d (suc j) = refl
-one-reply w n (Close c t a) d zero = refl
-one-reply w n (Close c t a) d (suc j) = refl
-one-reply w n (Piece c bs t a o) d zero =
+one-reply w n (Open c t) d zero = refl
+one-reply w n (Open c t) d (suc j) = refl
+one-reply w n (Close c t) d zero = refl
+one-reply w n (Close c t) d (suc j) = refl
+one-reply w n (Piece c bs t) d zero =
     ended-replies w _ c t d (hasFeed bs) ∙ ap (λ k. cond (eqb d c) k 0) (sym (feeds-used bs))
-one-reply w n (Piece c bs t a o) d (suc j) = either-way (eqb d c) 0
-one-reply w n (Reading p bs t a o) d zero = reading-replies n p (getElem? (parameters w) p) bs t d
-one-reply w n (Reading p bs t a o) d (suc j) = refl
+one-reply w n (Piece c bs t) d (suc j) = either-way (eqb d c) 0
+one-reply w n (Reading p bs t) d zero = reading-replies n p (getElem? (parameters w) p) bs t d
+one-reply w n (Reading p bs t) d (suc j) = refl
 
 pub one-reply-for-each-line : OneReplyForEachLine
 unfolding step stepIf
-one-reply-for-each-line table n e d = one-reply (tableOf table) n e d (callNumber table false n e)
+one-reply-for-each-line table n e d = one-reply (tableOf table) n (e .event) d (callNumber table false n e)

@@ -20,7 +20,7 @@ use Rattle.message.specs.Reply.{Report, Reply, identification, describing, pong
 use Rattle.outbox.specs.Outbox.{Record, final, update, orderChange, orderCommand}
 use Rattle.plain.specs.Node.{Client, closed, fresh, Value, Node, put, withClient, withValue, isOpen, isActive, receive, emptied, activated, reportOf, clientNumbers, updatesTo, updatesOf}
 use Rattle.plain.specs.Answer.{Outcome, refused, carried, outcome, activates, deactivates, reads, sets}
-use Rattle.plain.specs.Calls.{Call, Open, Close, Piece, Reading, Answer, beforeFeed}
+use Rattle.plain.specs.Calls.{Event, Open, Close, Piece, Reading, Answer, beforeFeed}
 use Rattle.plain.specs.History.{step}
 use Rattle.rule.specs.Records.{updatesFor, repliesFor, inScopeOf, reportsOf, activeBy, activeAfter}
 use Rattle.rule.specs.Theorems.{requestOf, ToActive, UpdatesGoToActiveClients, Set, ReadingSets, ReadingsAreSentToAll, Changed, ChangeSets, OfPiece, of-piece, ChangesAreSentToAll, BySetting, by-reading, by-change, ValuesAlterBySettings, InitialUpdates, ActivationsSendAll, ActivationsAreOnesOwn, AltersNothing, ErrorsAlterNothing}
@@ -104,7 +104,7 @@ altered n m rs c p (refused x) r i h e f g =
     }
 altered n m rs c p (carried y l q) r i h e f g = absurd (h (ap kindOf (sym g) ∙ i))
 
-altered-line : {w : Table} {n m : Node} {rs : List Record} {c : ℕ} {r : Reply} {e : Call} → Line-of w n m rs c r e → kindOf r ≡ an-error
+altered-line : {w : Table} {n m : Node} {rs : List Record} {c : ℕ} {r : Reply} {e : Event} → Line-of w n m rs c r e → kindOf r ≡ an-error
     → AltersNothing n m rs c r
 altered-line {w} {n} {m} {rs} {c} {r} (line-of {bs = bs} {t = t} h q) i =
     altered n m rs c (partsAt n c bs) (outcomeAt w n c bs t) r i (no-error w (idle n c) c t (requestOf n c bs)) (h .node) (h .records) q
@@ -127,7 +127,7 @@ set-sent w n m k p v rs t e u =
       nobody = λ d h. u d ∙ sent-never (m .clients) (p .home) (reportOf p v) d h;
     }
 
-reading-sets : {w : Table} {n m : Node} {rs : List Record} {k : ℕ} {bs : List ℕ} {t a o : ℕ} → Did w n (Reading k bs t a o) m rs
+reading-sets : {w : Table} {n m : Node} {rs : List Record} {k : ℕ} {bs : List ℕ} {t : ℕ} → Did w n (Reading k bs t) m rs
     → ReadingSets w n m k bs t rs
 reading-sets {w} {n} {k = k} {bs} {t} (read p q f) =
     let v : Value = record { text = storedForm bs; time = t } in
@@ -139,7 +139,7 @@ reading-sets {w} {n} {k = k} {bs} {t} (read p q f) =
     }
 
 pub readings-are-sent-to-all : ReadingsAreSentToAll
-readings-are-sent-to-all table n k bs t a o h = reading-sets (accepted-call table n (Reading k bs t a o) h)
+readings-are-sent-to-all table n k bs t l h = reading-sets (accepted-call table n (record { event = Reading k bs t; lent = l }) h)
 
 -- what is known of an outcome whose reply is `changed`
 record Changing (w : Table) (n : Node) (c now : ℕ) (q : Request) (o : Outcome) (r : Report) : Type 0 where
@@ -229,7 +229,7 @@ module _ (w : Table) (n m : Node) (c t : ℕ) (k : ℕ × Placed Parameter) (v :
       (h .node ∙ ap (nodeAfter (idle n c)) e)
       (h .records ∙ ap (λ o. before o ++ (final c (replyTo (partsAt n c bs) o) ∷ [])) e)
 
-changed-line : {w : Table} {n m : Node} {rs : List Record} {c : ℕ} (r : Report) {e : Call} → Line-of w n m rs c (changed r) e
+changed-line : {w : Table} {n m : Node} {rs : List Record} {c : ℕ} (r : Report) {e : Event} → Line-of w n m rs c (changed r) e
     → OfPiece c (λ bs t. ChangeSets w n m c bs t r rs) e
 changed-line {w} {n} {m} {rs} {c} r (line-of {bs = bs} {t = t} h q) =
     let g = changing w (idle n c) c t (partsAt n c bs) (requestOf n c bs) r q in
@@ -271,9 +271,9 @@ alters w n c now p q =
     (λ k v h f. inl refl)
     q
 
-line-alters : (w : Table) (n m : Node) (c : ℕ) (bs : List ℕ) (t a o : ℕ) (x : Answer) → Answered w n c bs t m (x .records)
-    → (m .values ≡ n .values) ⊎ BySetting (Piece c bs t a o) x
-line-alters w n m c bs t a o x h =
+line-alters : (w : Table) (n m : Node) (c : ℕ) (bs : List ℕ) (t : ℕ) (x : Answer) → Answered w n c bs t m (x .records)
+    → (m .values ≡ n .values) ⊎ BySetting (Piece c bs t) x
+line-alters w n m c bs t x h =
     let y : Outcome = outcomeAt w n c bs t in
     ⊎-elim
     (λ e. inl (ap (λ (z : Node). z .values) (h .node) ∙ e))
@@ -286,19 +286,19 @@ line-alters w n m c bs t a o x h =
     (Memᴰ·append-right (before y) (List·Memᴰ·head (ap (final c) (sym (e .1))))))))
     (alters w (idle n c) c t (partsAt n c bs) (requestOf n c bs))
 
-did-alter : {w : Table} {n m : Node} {e : Call} (x : Answer) → x .number ≡ 0 → (rs : List Record) → x .records ≡ rs → Did w n e m rs
+did-alter : {w : Table} {n m : Node} {e : Event} (x : Answer) → x .number ≡ 0 → (rs : List Record) → x .records ≡ rs → Did w n e m rs
     → (m .values ≡ n .values) ⊎ BySetting e x
 did-alter x z rs q opened = inl refl
 did-alter x z rs q shut = inl refl
 did-alter x z rs q (received f) = inl refl
 did-alter x z rs q (read p f g) = inr (by-reading z)
-did-alter {w} {n} {m} x z rs q (line {c = c} {bs = bs} {t = t} {a = a} {o = o} f h) =
-    line-alters w n m c bs t a o x (subst (Answered w n c bs t m) (sym q) h)
+did-alter {w} {n} {m} x z rs q (line {c = c} {bs = bs} {t = t} f h) =
+    line-alters w n m c bs t x (subst (Answered w n c bs t m) (sym q) h)
 
 pub values-alter-by-settings : ValuesAlterBySettings
 values-alter-by-settings table n e = go (step table n e .1 .number) refl
   where
-    go : (j : ℕ) → step table n e .1 .number ≡ j → (step table n e .0 .values ≡ n .values) ⊎ BySetting e (step table n e .1)
+    go : (j : ℕ) → step table n e .1 .number ≡ j → (step table n e .0 .values ≡ n .values) ⊎ BySetting (e .event) (step table n e .1)
     go zero z = did-alter (step table n e .1) z (step table n e .1 .records) refl (accepted-call table n e z)
     go (suc j) z = inl (ap (λ (x : Node). x .values) (refusals-alter-nothing table n e j z .node))
 
@@ -334,7 +334,7 @@ activation w n c now p q =
     (λ k v h f m e. not-active m (done _) refl e)
     q
 
-initial-updates : {w : Table} {n k : Node} {rs : List Record} {c : ℕ} (m : Option (List ℕ)) {e : Call}
+initial-updates : {w : Table} {n k : Node} {rs : List Record} {c : ℕ} (m : Option (List ℕ)) {e : Event}
     → Line-of w n k rs c (active m) e → InitialUpdates w n c m rs
 initial-updates {w} {n} {k} {rs} {c} m (line-of {bs = bs} {t = t} h q) =
     let o : Outcome = outcomeAt w n c bs t in
@@ -456,7 +456,7 @@ none-active n c x h d i = go (eqb d c)
     go true = h i
     go false = refl
 
-ones-own : {w : Table} {n m : Node} {e : Call} {rs : List Record} → Did w n e m rs → (d i : ℕ)
+ones-own : {w : Table} {n m : Node} {e : Event} {rs : List Record} → Did w n e m rs → (d i : ℕ)
     → isActive (m .clients d) i ≡ activeAfter w d i (isActive (n .clients d) i) e rs
 unfolding activeAfter activeBy repliesFor isActive
 ones-own {n = n} (opened {c = c}) d i = none-active n c fresh (λ j. refl) d i
@@ -557,7 +557,7 @@ line-active w n m c bs t rs h d r k =
     (λ i. absurd (not-update d r (final c (replyTo (partsAt n c bs) o)) refl (List·Memᴰ·eq-of-singleton i)))
     (List·Memᴰ·append-cases (before o) (subst (List·Memᴰ (update d r)) (h .records) k))
 
-did-active : {w : Table} {n m : Node} {e : Call} {rs : List Record} → Did w n e m rs → (d : ℕ) (r : Report)
+did-active : {w : Table} {n m : Node} {e : Event} {rs : List Record} → Did w n e m rs → (d : ℕ) (r : Report)
     → List·Memᴰ (update d r) rs → ToActive w m d r
 did-active opened d r k = absurd (List·Memᴰ·not-nil k)
 did-active shut d r k = absurd (List·Memᴰ·not-nil k)

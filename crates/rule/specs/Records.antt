@@ -11,7 +11,7 @@ use Rattle.table.specs.Search.{Placed, findModule}
 use Rattle.message.specs.Reply.{Report, Reply, identification, describing, pong, active, inactive, reply, changed, done, error}
 use Rattle.outbox.specs.Outbox.{Record, final, update, orderChange, orderCommand}
 use Rattle.plain.specs.Node.{Value, reportOf}
-use Rattle.plain.specs.Calls.{Call, Open, Close, Piece, Reading, Answer}
+use Rattle.plain.specs.Calls.{Event, Open, Close, Piece, Reading, Answer}
 
 -- the updates to client d, in order
 unfoldable pub updatesFor : ℕ → List Record → List Report
@@ -34,12 +34,12 @@ unfoldable pub feedCount : List ℕ → ℕ
 feedCount [] = 0
 feedCount (b ∷ bs) = cond (eqb b 10) 1 0 + feedCount bs
 
--- the line feeds of client d that a call used
-unfoldable pub feedsUsed : ℕ → Call → Answer → ℕ
-feedsUsed d (Open c t a) r = 0
-feedsUsed d (Close c t a) r = 0
-feedsUsed d (Piece c bs t a o) r = cond (eqb d c) (feedCount (take (r .used) bs)) 0
-feedsUsed d (Reading p bs t a o) r = 0
+-- the line feeds of client d that an event used
+unfoldable pub feedsUsed : ℕ → Event → Answer → ℕ
+feedsUsed d (Open c t) r = 0
+feedsUsed d (Close c t) r = 0
+feedsUsed d (Piece c bs t) r = cond (eqb d c) (feedCount (take (r .used) bs)) 0
+feedsUsed d (Reading p bs t) r = 0
 
 -- the modules that `active M` or `inactive M` names, by number; with no name, all
 unfoldable pub numberIs : Option (ℕ × Module) → ℕ → Bool
@@ -73,9 +73,9 @@ activeBy w i b (changed x ∷ rs) = activeBy w i b rs
 activeBy w i b (done x ∷ rs) = activeBy w i b rs
 activeBy w i b (error a s x ∷ rs) = activeBy w i b rs
 
--- whether client d has module i active after an accepted call, by d's own opens, closes and replies alone
-unfoldable pub activeAfter : Table → ℕ → ℕ → Bool → Call → List Record → Bool
-activeAfter w d i b (Open c t a) rs = cond (eqb d c) false b
-activeAfter w d i b (Close c t a) rs = cond (eqb d c) false b
-activeAfter w d i b (Piece c bs t a o) rs = activeBy w i b (repliesFor d rs)
-activeAfter w d i b (Reading p bs t a o) rs = b
+-- whether client d has module i active after an accepted event, by d's own opens, closes and replies alone
+unfoldable pub activeAfter : Table → ℕ → ℕ → Bool → Event → List Record → Bool
+activeAfter w d i b (Open c t) rs = cond (eqb d c) false b
+activeAfter w d i b (Close c t) rs = cond (eqb d c) false b
+activeAfter w d i b (Piece c bs t) rs = activeBy w i b (repliesFor d rs)
+activeAfter w d i b (Reading p bs t) rs = b

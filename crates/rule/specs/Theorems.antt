@@ -20,7 +20,7 @@ use Rattle.table.specs.Search.{Placed, parameters, commands, findParameter, fin
 use Rattle.outbox.specs.Outbox.{Record, final, update, orderChange, orderCommand}
 use Rattle.plain.specs.Node.{Value, Node, put, withClient, isOpen, isActive, lineOf, receive, emptied, reportOf, clientNumbers, updatesTo, updatesOf}
 use Rattle.plain.specs.Answer.{argumentVerdict, argumentForm}
-use Rattle.plain.specs.Calls.{Call, Piece, Reading, Answer, beforeFeed, hasFeed, usedOf}
+use Rattle.plain.specs.Calls.{Event, Piece, Reading, Lent, Call, Answer, beforeFeed, hasFeed, usedOf}
 use Rattle.plain.specs.History.{step}
 use Rattle.rule.specs.Records.{updatesFor, repliesFor, feedsUsed, inScopeOf, isThere, reportsOf, activeAfter}
 
@@ -56,9 +56,9 @@ pub record ReadingSets (w : Table) (n m : Node) (k : ℕ) (bs : List ℕ) (t : �
   pub records : rs ≡ updatesTo (n .clients) (p .home) (reportOf p (record { text = storedForm bs; time = t })) clientNumbers
 
 abbrev pub ReadingsAreSentToAll : Type 0
-ReadingsAreSentToAll = (table : List ℕ) (n : Node) (k : ℕ) (bs : List ℕ) (t a o : ℕ)
-    → step table n (Reading k bs t a o) .1 .number ≡ 0
-    → ReadingSets (tableOf table) n (step table n (Reading k bs t a o) .0) k bs t (step table n (Reading k bs t a o) .1 .records)
+ReadingsAreSentToAll = (table : List ℕ) (n : Node) (k : ℕ) (bs : List ℕ) (t : ℕ) (lent : Lent)
+    → let r = step table n (record { event = Reading k bs t; lent = lent }) in
+    r .1 .number ≡ 0 → ReadingSets (tableOf table) n (r .0) k bs t (r .1 .records)
 
 -- what client c asks for by the line that these bytes end
 unfoldable pub requestOf : Node → ℕ → List ℕ → Request
@@ -86,18 +86,18 @@ pub record ChangeSets (w : Table) (n m : Node) (c : ℕ) (bs : List ℕ) (t : �
   pub changed : Changed w n m c k p (record { text = storedForm offered; time = t }) rs
 
 -- what holds of a piece of client c, by its bytes and its time
-pub data OfPiece (c : ℕ) (P : List ℕ → ℕ → Type 0) : Call → Type 0 where
-  of-piece : {bs : List ℕ} {t a o : ℕ} → P bs t → OfPiece c P (Piece c bs t a o)
+pub data OfPiece (c : ℕ) (P : List ℕ → ℕ → Type 0) : Event → Type 0 where
+  of-piece : {bs : List ℕ} {t : ℕ} → P bs t → OfPiece c P (Piece c bs t)
 
 abbrev pub ChangesAreSentToAll : Type 0
 ChangesAreSentToAll = (table : List ℕ) (n : Node) (e : Call) (c : ℕ) (r : Report)
     → List·Memᴰ (final c (changed r)) (step table n e .1 .records)
-    → OfPiece c (λ bs t. ChangeSets (tableOf table) n (step table n e .0) c bs t r (step table n e .1 .records)) e
+    → OfPiece c (λ bs t. ChangeSets (tableOf table) n (step table n e .0) c bs t r (step table n e .1 .records)) (e .event)
 
 -- what holds of every accepted piece of client c that ends a line which asks for q: by its time, the node that it leaves and its records
 abbrev pub WhenAsked : List ℕ → Node → ℕ → Request → (ℕ → Node → List Record → Type 0) → Type 0
-WhenAsked table n c q P = (bs : List ℕ) (t a o : ℕ) → step table n (Piece c bs t a o) .1 .number ≡ 0 → hasFeed bs ≡ true
-    → requestOf n c bs ≡ q → P t (step table n (Piece c bs t a o) .0) (step table n (Piece c bs t a o) .1 .records)
+WhenAsked table n c q P = (bs : List ℕ) (t : ℕ) (lent : Lent) → let r = step table n (record { event = Piece c bs t; lent = lent }) in
+    r .1 .number ≡ 0 → hasFeed bs ≡ true → requestOf n c bs ≡ q → P t (r .0) (r .1 .records)
 
 -- And every good change is made: one of a parameter that is there and is not readonly, by a value that fits.
 abbrev pub GoodChangesAreMade : Type 0
@@ -106,13 +106,13 @@ GoodChangesAreMade = (table : List ℕ) (n : Node) (c : ℕ) (m x offered : List
     → WhenAsked table n c (change m x offered) λ t y rs. Changed (tableOf table) n y c k p (record { text = storedForm offered; time = t }) rs
 
 -- No other call alters a value: of a call that alters one, either it is an accepted reading, or its line was replied to by `changed`.
-pub data BySetting : Call → Answer → Type 0 where
-  by-reading : {k : ℕ} {bs : List ℕ} {t a o : ℕ} {x : Answer} → x .number ≡ 0 → BySetting (Reading k bs t a o) x
-  by-change : {e : Call} {x : Answer} (c : ℕ) (r : Report) → List·Memᴰ (final c (changed r)) (x .records) → BySetting e x
+pub data BySetting : Event → Answer → Type 0 where
+  by-reading : {k : ℕ} {bs : List ℕ} {t : ℕ} {x : Answer} → x .number ≡ 0 → BySetting (Reading k bs t) x
+  by-change : {e : Event} {x : Answer} (c : ℕ) (r : Report) → List·Memᴰ (final c (changed r)) (x .records) → BySetting e x
 
 abbrev pub ValuesAlterBySettings : Type 0
 ValuesAlterBySettings = (table : List ℕ) (n : Node) (e : Call)
-    → (step table n e .0 .values ≡ n .values) ⊎ BySetting e (step table n e .1)
+    → (step table n e .0 .values ≡ n .values) ⊎ BySetting (e .event) (step table n e .1)
 
 -- `activate` that is replied to by `active` sends its client an update for each parameter of the modules in scope, in table order, and
 -- nobody else any.
@@ -146,7 +146,7 @@ GoodActivationsAreMade = (table : List ℕ) (n : Node) (c : ℕ) (scope : Option
 abbrev pub ActivationsAreOnesOwn : Type 0
 ActivationsAreOnesOwn = (table : List ℕ) (n : Node) (e : Call) → step table n e .1 .number ≡ 0 → (d i : ℕ)
     → isActive (step table n e .0 .clients d) i
-    ≡ activeAfter (tableOf table) d i (isActive (n .clients d) i) e (step table n e .1 .records)
+    ≡ activeAfter (tableOf table) d i (isActive (n .clients d) i) (e .event) (step table n e .1 .records)
 
 -- A parameter stands in the module that it is said to belong to, by number and by name: no update is filed under another's.
 pub record Belongs (w : Table) (p : Placed Parameter) : Type 0 where
@@ -163,7 +163,7 @@ ParametersBelong = (w : Table) (k : ℕ) (p : Placed Parameter) → getElem? (pa
 -- Each client is sent as many final replies as line feeds of it were used: one for each, and nobody else any.
 abbrev pub OneReplyForEachLine : Type 0
 OneReplyForEachLine = (table : List ℕ) (n : Node) (e : Call) (d : ℕ)
-    → length (repliesFor d (step table n e .1 .records)) ≡ feedsUsed d e (step table n e .1)
+    → length (repliesFor d (step table n e .1 .records)) ≡ feedsUsed d (e .event) (step table n e .1)
 
 -- An accepted piece is used up to and including its first line feed, or whole. Without one its bytes join its client's and nothing is sent;
 -- with one no bytes of the line stay. No other client's line is touched.
@@ -174,9 +174,9 @@ pub record PieceUsed (n m : Node) (c : ℕ) (bs : List ℕ) (x : Answer) : Type 
   pub others : (d : ℕ) → (d ≡ c → ⊥) → m .clients d ≡ n .clients d
 
 abbrev pub PiecesAreUsed : Type 0
-PiecesAreUsed = (table : List ℕ) (n : Node) (c : ℕ) (bs : List ℕ) (t a o : ℕ)
-    → step table n (Piece c bs t a o) .1 .number ≡ 0
-    → PieceUsed n (step table n (Piece c bs t a o) .0) c bs (step table n (Piece c bs t a o) .1)
+PiecesAreUsed = (table : List ℕ) (n : Node) (c : ℕ) (bs : List ℕ) (t : ℕ) (lent : Lent)
+    → let r = step table n (record { event = Piece c bs t; lent = lent }) in
+    r .1 .number ≡ 0 → PieceUsed n (r .0) c bs (r .1)
 
 -- A line of client c alters nothing: its reply is all that is sent, no value and no time alters, and of the clients only the sender's line is
 -- emptied.
@@ -197,7 +197,7 @@ pub record ReadTold (w : Table) (n : Node) (c : ℕ) (bs : List ℕ) (r : Report
 abbrev pub ReadsAreTrue : Type 0
 ReadsAreTrue = (table : List ℕ) (n : Node) (e : Call) (c : ℕ) (r : Report)
     → List·Memᴰ (final c (reply r)) (step table n e .1 .records)
-    → OfPiece c (λ bs t. ReadTold (tableOf table) n c bs r (step table n e .1 .records)) e
+    → OfPiece c (λ bs t. ReadTold (tableOf table) n c bs r (step table n e .1 .records)) (e .event)
 
 -- And every good read is answered: one of a parameter that is there, with what the node holds of it.
 abbrev pub GoodReadsAreAnswered : Type 0
@@ -220,7 +220,7 @@ pub record CommandOrdered (w : Table) (n : Node) (c : ℕ) (bs : List ℕ) (t : 
 abbrev pub CommandsAreOrdered : Type 0
 CommandsAreOrdered = (table : List ℕ) (n : Node) (e : Call) (c : ℕ) (r : Report)
     → List·Memᴰ (final c (done r)) (step table n e .1 .records)
-    → OfPiece c (λ bs t. CommandOrdered (tableOf table) n c bs t r (step table n e .1 .records)) e
+    → OfPiece c (λ bs t. CommandOrdered (tableOf table) n c bs t r (step table n e .1 .records)) (e .event)
 
 -- And every good command is ordered: one that is there, with an argument that fits. It is done at the time of the line feed, and of the node only
 -- the sender's line is emptied.

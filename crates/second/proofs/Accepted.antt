@@ -9,10 +9,10 @@ use Rattle.table.specs.Layout.{tableOf}
 use Rattle.report.specs.Judge.{tableNumber}
 use Rattle.plain.specs.Node.{Node, begin, isOpen}
 use Rattle.plain.specs.Calls.{Call, Piece}
-use Rattle.plain.specs.History.{step, own, marks, standing, itemsOf, items, kept, taken, Roomy, AllRoomy}
+use Rattle.plain.specs.History.{step, own, marks, standing, itemsOf, items, kept, taken, Roomy, AllRoomy, EmptiesOpen}
 use Rattle.second.specs.Theorems.{keepCall, acceptedCalls, AcceptedCallsAreSecond}
 use Rattle.second.proofs.Calls.{permitted, accepts, step-number, step-used}
-use Rattle.second.proofs.Second.{used-open, Asked, standing-then, good-table}
+use Rattle.second.proofs.Second.{used-open, standing-then, good-table}
 
 module _ (table : List ℕ) where
   kept-items : (h : List Call) (n : Node) → items (acceptedCalls table n h) ≡ taken table n h
@@ -20,32 +20,32 @@ module _ (table : List ℕ) where
   kept-items [] n = refl
   kept-items (e ∷ h) n =
       go (step table n e .1 .number) (acceptedCalls table (step table n e .0) h)
-      ∙ ap (kept (step table n e .1 .number) (itemsOf e) ++_) (kept-items h (step table n e .0))
+      ∙ ap (kept (step table n e .1 .number) (itemsOf (e .event)) ++_) (kept-items h (step table n e .0))
     where
-      go : (j : ℕ) (l : List Call) → items (keepCall j e l) ≡ kept j (itemsOf e) ++ items l
+      go : (j : ℕ) (l : List Call) → items (keepCall j e l) ≡ kept j (itemsOf (e .event)) ++ items l
       go zero l = refl
       go (suc j) l = refl
 
   -- one call, kept or not, before calls whose empty pieces come from open clients
-  asked-kept : (n m : Node) (e : Call) (k : List Call) (j : ℕ) → (j ≡ 0 → So (permitted table n e))
-      → ((d : ℕ) → isOpen (m .clients d) ≡ standing (isOpen (n .clients d)) (own d (kept j (itemsOf e))))
-      → Asked table m k → Asked table n (keepCall j e k)
+  asked-kept : (n m : Node) (e : Call) (k : List Call) (j : ℕ) → (j ≡ 0 → So (permitted table n (e .event)))
+      → ((d : ℕ) → isOpen (m .clients d) ≡ standing (isOpen (n .clients d)) (own d (kept j (itemsOf (e .event)))))
+      → EmptiesOpen m k → EmptiesOpen n (keepCall j e k)
   unfolding keepCall kept own standing items
-  asked-kept n m e k (suc j) f u h l c t a o r q = ap (λ b. standing b (own c (items l))) (sym (u c)) ∙ h l c t a o r q
-  asked-kept n m e k zero f u h [] c t a o r q =
-      let p : e ≡ Piece c [] t a o = cc in
-      let g = and-eq-true-iff (not (ltb 7 c)) (not (not (isOpen (n .clients c)))) .0 (subst (λ d. So (permitted table n d)) p (f refl)) in
+  asked-kept n m e k (suc j) f u h l c t lent r q = ap (λ b. standing b (own c (items l))) (sym (u c)) ∙ h l c t lent r q
+  asked-kept n m e k zero f u h [] c t lent r q =
+      let p : e .event ≡ Piece c [] t = cc in
+      let g = and-eq-true-iff (not (ltb 7 c)) (not (not (isOpen (n .clients c)))) .0 (subst (λ v. So (permitted table n v)) p (f refl)) in
       not-false _ (not-true _ (g .1))
-  asked-kept n m e k zero f u h (d ∷ l) c t a o r q =
+  asked-kept n m e k zero f u h (d ∷ l) c t lent r q =
       let p : d ≡ e = cc in
-      let s : k ≡ l ++ (Piece c [] t a o ∷ r) = cc in
+      let s : k ≡ l ++ (record { event = Piece c [] t; lent = lent } ∷ r) = cc in
       ap (λ i. standing (isOpen (n .clients c)) (own c (items (i ∷ l)))) p
       ∙ sym (standing-then table n m e c (u c) l)
-      ∙ h l c t a o r s
+      ∙ h l c t lent r s
 
   module _ (z : tableNumber table ≡ 0) where
     -- a call of the number 0
-    zero-call : (n : Node) (e : Call) → step table n e .1 .number ≡ 0 → Roomy e × So (permitted table n e)
+    zero-call : (n : Node) (e : Call) → step table n e .1 .number ≡ 0 → Roomy e × So (permitted table n (e .event))
     zero-call n e q = accepts table z n e .0 (sym (step-number table n e) ∙ q)
 
     all-roomy : (h : List Call) (n : Node) → AllRoomy (acceptedCalls table n h)
@@ -57,11 +57,11 @@ module _ (table : List ℕ) where
         go zero l f r = (f refl, r)
         go (suc j) l f r = r
 
-    all-asked : (h : List Call) (n : Node) → Asked table n (acceptedCalls table n h)
+    all-asked : (h : List Call) (n : Node) → EmptiesOpen n (acceptedCalls table n h)
     unfolding acceptedCalls
-    all-asked [] n [] c t a o r q = cc
-    all-asked [] n (d ∷ l) c t a o r q = cc
-    all-asked (e ∷ h) n l c t a o r q =
+    all-asked [] n [] c t lent r q = cc
+    all-asked [] n (d ∷ l) c t lent r q = cc
+    all-asked (e ∷ h) n l c t lent r q =
         let m = step table n e .0 in
         asked-kept
         n
@@ -75,8 +75,7 @@ module _ (table : List ℕ) where
         l
         c
         t
-        a
-        o
+        lent
         r
         q
 

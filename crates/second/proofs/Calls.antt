@@ -15,26 +15,26 @@ use Rattle.table.specs.Table.{Table}
 use Rattle.table.specs.Layout.{tableOf}
 use Rattle.table.specs.Search.{parameters}
 use Rattle.report.specs.Judge.{fault, lowest, tableNumber}
-use Rattle.report.proofs.Faults.{lowest-none}
 use Rattle.outbox.specs.Outbox.{Record}
 use Rattle.plain.specs.Node.{Client, closed, connected, Node, put, withClient, isOpen, receive}
 use Rattle.plain.specs.Answer.{answer}
-use Rattle.plain.specs.Calls.{Call, Open, Close, Piece, Reading, fault7, fault8, fault9, fault10, readingVerdict, callNumber, beforeFeed, hasFeed, ended, pieceEffect, effect, settle, stepIf}
-use Rattle.plain.specs.History.{step, Mark, feeds, opens, closes, reads, Item, byte, mark, markOf, itemOf, consIf, own, marks, pieceItems, itemsOf, kept, Roomy, standing}
+use Rattle.plain.specs.Calls.{Event, Open, Close, Piece, Reading, Call, fault10, readingVerdict, ownFaults, callNumber, beforeFeed, hasFeed, ended, pieceEffect, effect, settle, stepIf}
+use Rattle.plain.specs.History.{step, Mark, feeds, opens, closes, reads, Item, byte, mark, markOf, itemOf, consIf, own, marks, pieceItems, itemsOf, kept, InTime, Roomy, standing}
+use Rattle.plain.proofs.Numbers.{accepted-call}
 use Rattle.second.proofs.Items.{due, inOrder}
 use Rattle.second.proofs.Lines.{put-same}
 use Rattle.second.proofs.Runs.{outOf, after, run}
 
 -- ## Numbers
 
--- a number that is too small, and the faults after it
-under : (k a m : ℕ) (ks : List ℕ) → (lowest (fault (suc k) (ltb a m) ∷ ks) ≡ 0) ↔ ((m ≤ a) × (lowest ks ≡ 0))
+-- the time, and the faults after it
+in-time : (t : ℕ) (ks : List ℕ) → (lowest (fault10 t ∷ ks) ≡ 0) ↔ ((t ≤ latest) × (lowest ks ≡ 0))
 unfolding lowest
-under k a m ks = go (ltb a m) refl
+in-time t ks = go (ltb latest t) refl
   where
-    go : (b : Bool) → ltb a m ≡ b → (lowest (fault (suc k) b ∷ ks) ≡ 0) ↔ ((m ≤ a) × (lowest ks ≡ 0))
-    go true e = (λ h. absurd (omega arith), λ h. absurd (false≢true (sym (le-ltb a m (h .0)) ∙ e)))
-    go false e = (λ h. (ltb-false a m e, h), λ h. h .1)
+    go : (b : Bool) → ltb latest t ≡ b → (lowest (fault 10 b ∷ ks) ≡ 0) ↔ ((t ≤ latest) × (lowest ks ≡ 0))
+    go true e = (λ h. absurd (omega arith), λ h. absurd (false≢true (sym (le-ltb latest t (h .0)) ∙ e)))
+    go false e = (λ h. (ltb-false latest t e, h), λ h. h .1)
 
 -- the last two
 two-faults : (j k : ℕ) (a b : Bool) → (lowest (fault (suc j) a ∷ fault (suc k) b ∷ []) ≡ 0) ↔ So (not a && not b)
@@ -53,50 +53,38 @@ module _ (table : List ℕ) where
       not (not (isSome (getElem? (parameters (tableOf table)) p)))
       && not (not (isFit (readingVerdict (getElem? (parameters (tableOf table)) p) bs)))
 
-  -- what a call needs besides its buffers and its time
-  abbrev pub permitted : Node → Call → Bool
-  permitted n (Open c t a) = due c (isOpen (n .clients c)) (mark (opens c t))
-  permitted n (Close c t a) = due c (isOpen (n .clients c)) (mark (closes c t))
-  permitted n (Piece c bs t a o) = due c (isOpen (n .clients c)) (mark (feeds c t))
-  permitted n (Reading p bs t a o) = readable (reads p bs t)
+  -- what an event needs besides its time
+  abbrev pub permitted : Node → Event → Bool
+  permitted n (Open c t) = due c (isOpen (n .clients c)) (mark (opens c t))
+  permitted n (Close c t) = due c (isOpen (n .clients c)) (mark (closes c t))
+  permitted n (Piece c bs t) = due c (isOpen (n .clients c)) (mark (feeds c t))
+  permitted n (Reading p bs t) = readable (reads p bs t)
 
-  -- the faults of the area and of the time, and two more
-  roomy : (a t j k : ℕ) (p q : Bool) → (lowest (fault8 a ∷ fault9 false ∷ fault10 t ∷ fault (suc j) p ∷ fault (suc k) q ∷ []) ≡ 0)
-      ↔ (((16384 ≤ a) × (t ≤ latest)) × So (not p && not q))
-  unfolding lowest
-  roomy a t j k p q =
-      let ks : List ℕ = fault (suc j) p ∷ fault (suc k) q ∷ [] in
-      let f = under 7 a 16384 (0 ∷ fault10 t ∷ ks) in
-      let g = under 9 latest t ks in
-      let h = two-faults j k p q in (
-        λ e. ((f .0 e .0, g .0 (f .0 e .1) .0), h .0 (g .0 (f .0 e .1) .1)),
-        λ r. f .1 (r .0 .0, g .1 (r .0 .1, h .1 (r .1))),
-      )
+  timed : (t j k : ℕ) (p q : Bool) → (lowest (fault10 t ∷ fault (suc j) p ∷ fault (suc k) q ∷ []) ≡ 0) ↔ ((t ≤ latest) × So (not p && not q))
+  timed t j k p q =
+      let f = in-time t (fault (suc j) p ∷ fault (suc k) q ∷ []) in
+      let g = two-faults j k p q in
+      (λ h. (f .0 h .0, g .0 (f .0 h .1)), λ h. f .1 (h .0, g .1 (h .1)))
 
-  -- and of the outbox
-  roomier : (o a t j k : ℕ) (p q : Bool) → (lowest (fault7 o ∷ fault8 a ∷ fault9 false ∷ fault10 t ∷ fault (suc j) p ∷ fault (suc k) q ∷ []) ≡ 0)
-      ↔ (((32768 ≤ o) × (16384 ≤ a) × (t ≤ latest)) × So (not p && not q))
-  roomier o a t j k p q = (
-    λ e. let f = under 6 o 32768 _ .0 e in let g = roomy a t j k p q .0 (f .1) in ((f .0, g .0 .0, g .0 .1), g .1),
-    λ r. under 6 o 32768 _ .1 (r .0 .0, roomy a t j k p q .1 ((r .0 .1, r .0 .2), r .1)),
-  )
-
-  pub accepts : tableNumber table ≡ 0 → (n : Node) (e : Call) → (callNumber table false n e ≡ 0) ↔ (Roomy e × So (permitted n e))
-  unfolding callNumber lowest
-  accepts z n (Open c t a) = rw z (roomy a t 10 12 (ltb 7 c) (isOpen (n .clients c)))
-  accepts z n (Close c t a) = rw z (roomy a t 10 11 (ltb 7 c) (not (isOpen (n .clients c))))
-  accepts z n (Piece c bs t a o) = rw z (roomier o a t 10 11 (ltb 7 c) (not (isOpen (n .clients c))))
-  accepts z n (Reading p bs t a o) =
+  by-itself : (n : Node) (e : Event) → (lowest (ownFaults (tableOf table) n e) ≡ 0) ↔ (InTime e × So (permitted n e))
+  unfolding ownFaults
+  by-itself n (Open c t) = timed t 10 12 (ltb 7 c) (isOpen (n .clients c))
+  by-itself n (Close c t) = timed t 10 11 (ltb 7 c) (not (isOpen (n .clients c)))
+  by-itself n (Piece c bs t) = timed t 10 11 (ltb 7 c) (not (isOpen (n .clients c)))
+  by-itself n (Reading p bs t) =
       let x = getElem? (parameters (tableOf table)) p in
-      rw z (roomier o a t 13 14 (not (isSome x)) (not (isFit (readingVerdict x bs))))
+      timed t 13 14 (not (isSome x)) (not (isFit (readingVerdict x bs)))
 
--- where there is no fault the table has none
-good-table : (table : List ℕ) (n : Node) (e : Call) → callNumber table false n e ≡ 0 → tableNumber table ≡ 0
-unfolding callNumber
-good-table table n (Open c t a) h = lowest-none _ h 0
-good-table table n (Close c t a) h = lowest-none _ h 0
-good-table table n (Piece c bs t a o) h = lowest-none _ h 0
-good-table table n (Reading p bs t a o) h = lowest-none _ h 0
+  pub accepts : tableNumber table ≡ 0 → (n : Node) (e : Call) → (callNumber table false n e ≡ 0) ↔ (Roomy e × So (permitted n (e .event)))
+  accepts z n e =
+      let f = accepted-call table false e n in
+      let g = by-itself n (e .event) in (
+        λ h.
+            let l = f .0 h .0 in
+            let o = g .0 (f .0 h .1) in
+            (record { outbox = l .outbox; area = l .area; inTime = o .0 }, o .1),
+        λ h. f .1 (record { accepted = z; outbox = h .0 .outbox; area = h .0 .area; fit = refl }, g .1 (h .0 .inTime, h .1)),
+      )
 
 -- ## Items of an accepted call
 
@@ -148,33 +136,33 @@ module _ (table : List ℕ) (n : Node) where
   at-client : (i : Item) (d c : ℕ) → So (due c (isOpen (n .clients c)) i) → So (eqb d c) → So (due d (isOpen (n .clients d)) i)
   at-client i d c h e = ap (λ k. due k (isOpen (n .clients k)) i) (eqb-true d c e) ∙ h
 
-  call-order : (e : Call) → So (permitted table n e) → (d : ℕ) → So (inOrder d (isOpen (n .clients d)) (own d (itemsOf e)))
+  call-order : (e : Event) → So (permitted table n e) → (d : ℕ) → So (inOrder d (isOpen (n .clients d)) (own d (itemsOf e)))
   unfolding itemsOf own itemOf markOf consIf
-  call-order (Open c t a) h d =
+  call-order (Open c t) h d =
       order-own d _ (mark (opens c t)) [] (eqb d c) (at-client (mark (opens c t)) d c h) refl refl
-  call-order (Close c t a) h d =
+  call-order (Close c t) h d =
       order-own d _ (mark (closes c t)) [] (eqb d c) (at-client (mark (closes c t)) d c h) refl refl
-  call-order (Piece c bs t a o) h d = piece-order c t d _ (at-client (mark (feeds c t)) d c h) bs
-  call-order (Reading p bs t a o) h d = refl
+  call-order (Piece c bs t) h d = piece-order c t d _ (at-client (mark (feeds c t)) d c h) bs
+  call-order (Reading p bs t) h d = refl
 
-  call-reads : (e : Call) → So (permitted table n e) → So (all (readable table) (marks (itemsOf e)))
+  call-reads : (e : Event) → So (permitted table n e) → So (all (readable table) (marks (itemsOf e)))
   unfolding itemsOf marks all
-  call-reads (Open c t a) h = refl
-  call-reads (Close c t a) h = refl
-  call-reads (Piece c bs t a o) h = piece-reads c t table bs
-  call-reads (Reading p bs t a o) h = ap (_&& true) h
+  call-reads (Open c t) h = refl
+  call-reads (Close c t) h = refl
+  call-reads (Piece c bs t) h = piece-reads c t table bs
+  call-reads (Reading p bs t) h = ap (_&& true) h
 
   -- and back: an empty piece has no items, so that its client's due is asked for
-  pub order-call : (e : Call) → ((d : ℕ) → So (inOrder d (isOpen (n .clients d)) (own d (itemsOf e))))
+  pub order-call : (e : Event) → ((d : ℕ) → So (inOrder d (isOpen (n .clients d)) (own d (itemsOf e))))
       → So (all (readable table) (marks (itemsOf e)))
-      → ((c t a o : ℕ) → e ≡ Piece c [] t a o → So (due c (isOpen (n .clients c)) (mark (feeds c t))))
+      → ((c t : ℕ) → e ≡ Piece c [] t → So (due c (isOpen (n .clients c)) (mark (feeds c t))))
       → So (permitted table n e)
   unfolding itemsOf own itemOf markOf marks all
-  order-call (Open c t a) h r k = own-order c _ (mark (opens c t)) [] (eqb c c) (eq-eqb c c refl) (h c)
-  order-call (Close c t a) h r k = own-order c _ (mark (closes c t)) [] (eqb c c) (eq-eqb c c refl) (h c)
-  order-call (Piece c [] t a o) h r k = k c t a o refl
-  order-call (Piece c (b ∷ bs) t a o) h r k = order-piece c t _ b bs (h c)
-  order-call (Reading p bs t a o) h r k = and-eq-true-iff (readable table (reads p bs t)) true .0 r .0
+  order-call (Open c t) h r k = own-order c _ (mark (opens c t)) [] (eqb c c) (eq-eqb c c refl) (h c)
+  order-call (Close c t) h r k = own-order c _ (mark (closes c t)) [] (eqb c c) (eq-eqb c c refl) (h c)
+  order-call (Piece c [] t) h r k = k c t refl
+  order-call (Piece c (b ∷ bs) t) h r k = order-piece c t _ b bs (h c)
+  order-call (Reading p bs t) h r k = and-eq-true-iff (readable table (reads p bs t)) true .0 r .0
 
 -- ## Effects
 
@@ -222,12 +210,12 @@ module _ (w : Table) (c t : ℕ) where
           ∙ ap (λ y. put (put f c x) c (receive y (beforeFeed bs))) (sym (put-at f c x)))
           ∙ h
 
-effect-run : (w : Table) (n : Node) (e : Call) → outOf (effect w n e) ≡ run w n (itemsOf e)
+effect-run : (w : Table) (n : Node) (e : Event) → outOf (effect w n e) ≡ run w n (itemsOf e)
 unfolding effect pieceEffect itemsOf
-effect-run w n (Open c t a) = refl
-effect-run w n (Close c t a) = refl
-effect-run w n (Piece c bs t a o) = piece-run w c t bs n
-effect-run w n (Reading p bs t a o) =
+effect-run w n (Open c t) = refl
+effect-run w n (Close c t) = refl
+effect-run w n (Piece c bs t) = piece-run w c t bs n
+effect-run w n (Reading p bs t) =
     let r = after w n (mark (reads p bs t)) in
     λ i. (r .0, sym (append-nil (r .1)) i)
 
@@ -248,22 +236,22 @@ module _ (table : List ℕ) (n : Node) (e : Call) where
   unfolding step stepIf settle
   step-number = go (callNumber table false n e)
     where
-      go : (j : ℕ) → settle j n (effect (tableOf table) n e) .1 .number ≡ j
+      go : (j : ℕ) → settle j n (effect (tableOf table) n (e .event)) .1 .number ≡ j
       go zero = refl
       go (suc j) = refl
 
   -- Every call, accepted or not, does what the items that it used do.
-  pub step-used : Used table n (kept (step table n e .1 .number) (itemsOf e)) (step table n e .0, step table n e .1 .records)
+  pub step-used : Used table n (kept (step table n e .1 .number) (itemsOf (e .event))) (step table n e .0, step table n e .1 .records)
   unfolding step stepIf settle kept
   step-used = go (callNumber table false n e) refl
     where
-      go : (j : ℕ) → callNumber table false n e ≡ j → let r = settle j n (effect (tableOf table) n e) in
-          Used table n (kept (r .1 .number) (itemsOf e)) (r .0, r .1 .records)
+      go : (j : ℕ) → callNumber table false n e ≡ j → let r = settle j n (effect (tableOf table) n (e .event)) in
+          Used table n (kept (r .1 .number) (itemsOf (e .event))) (r .0, r .1 .records)
       go zero q =
-          let h = accepts table (good-table table n e q) n e .0 q .1 in
+          let h = accepts table (accepted-call table false e n .0 q .0 .accepted) n e .0 q .1 in
           record {
-            ran = effect-run (tableOf table) n e;
-            ordered = call-order table n e h;
-            readings = call-reads table n e h;
+            ran = effect-run (tableOf table) n (e .event);
+            ordered = call-order table n (e .event) h;
+            readings = call-reads table n (e .event) h;
           }
       go (suc j) q = none-used table n

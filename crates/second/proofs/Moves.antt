@@ -7,9 +7,9 @@ use mathlib.Core.Path.{_≡_, refl, sym, _∙_, ap, ap₂, subst, fun-ext}
 use lib.Dec.{eqb, ltb}
 use borrow.Author.Tests.{eqb-true, not-true, not-false}
 use Rattle.plain.specs.Node.{Node, isOpen}
-use Rattle.plain.specs.Calls.{Call, Open, Close, Piece, Reading, hasFeed}
+use Rattle.plain.specs.Calls.{Event, Open, Close, Piece, Reading, Lent, Call, hasFeed}
 use Rattle.plain.specs.History.{feeds, opens, closes, Item, byte, mark, itemOf, markOf, consIf, own, marks, standing, pieceItems, itemsOf, items, AllRoomy, IsSecond}
-use Rattle.second.specs.Theorems.{EmptyPasses, CallsMayChangePlaces, callOf, PiecesMayBeMingled, PiecesMayBeCut}
+use Rattle.second.specs.Theorems.{EmptyPasses, CallsMayChangePlaces, eventOf, PiecesMayBeMingled, PiecesMayBeCut}
 use Rattle.second.proofs.Items.{own-append, marks-append, standing-append, inOrder, own-both}
 use Rattle.second.proofs.Calls.{order-piece}
 use Rattle.second.proofs.Second.{all-used}
@@ -26,26 +26,26 @@ stands-append f x y c = ap (standing (f c)) (own-append c x y) ∙ standing-appe
 -- Empty pieces come from open clients, call by call.
 abbrev Asks : (ℕ → Bool) → List Call → Type 0
 Asks f [] = Unit {0}
-Asks f (e ∷ k) = ((c t a o : ℕ) → e ≡ Piece c [] t a o → f c ≡ true) × Asks (stands f (itemsOf e)) k
+Asks f (e ∷ k) = ((c t : ℕ) → e .event ≡ Piece c [] t → f c ≡ true) × Asks (stands f (itemsOf (e .event))) k
 
 asks-append : (x y : List Call) (f : ℕ → Bool) → Asks f (x ++ y) ↔ (Asks f x × Asks (stands f (items x)) y)
 unfolding items own standing
 asks-append [] y f = (λ h. (tt, h), λ h. h .1)
 asks-append (e ∷ x) y f =
-    let r = asks-append x y (stands f (itemsOf e)) in
-    let p : stands f (itemsOf e ++ items x) ≡ stands (stands f (itemsOf e)) (items x) = fun-ext (stands-append f (itemsOf e) (items x)) in (
+    let r = asks-append x y (stands f (itemsOf (e .event))) in
+    let p : stands f (itemsOf (e .event) ++ items x) ≡ stands (stands f (itemsOf (e .event))) (items x) = fun-ext (stands-append f (itemsOf (e .event)) (items x)) in (
       λ h. ((h .0, r .0 (h .1) .0), subst (λ g. Asks g y) (sym p) (r .0 (h .1) .1)),
       λ h. (h .0 .0, r .1 (h .0 .1, subst (λ g. Asks g y) p (h .1))),
     )
 
 asks-all : (k : List Call) (f : ℕ → Bool)
-    → ((l : List Call) (c t a o : ℕ) (r : List Call) → k ≡ l ++ (Piece c [] t a o ∷ r) → stands f (items l) c ≡ true) → Asks f k
+    → ((l : List Call) (c t : ℕ) (lent : Lent) (r : List Call) → k ≡ l ++ (record { event = Piece c [] t; lent = lent } ∷ r) → stands f (items l) c ≡ true) → Asks f k
 unfolding items own standing
 asks-all [] f h = tt
 asks-all (e ∷ k) f h = (
-  λ c t a o q. h [] c t a o k (ap (_∷ k) q),
-  asks-all k (stands f (itemsOf e))
-      (λ l c t a o r q. sym (stands-append f (itemsOf e) (items l) c) ∙ h (e ∷ l) c t a o r (ap (e ∷_) q)),
+  λ c t q. h [] c t (e .lent) k (ap (λ v. record { event = v; lent = e .lent } ∷ k) q),
+  asks-all k (stands f (itemsOf (e .event)))
+      (λ l c t lent r q. sym (stands-append f (itemsOf (e .event)) (items l) c) ∙ h (e ∷ l) c t lent r (ap (e ∷_) q)),
 )
 
 -- ## Some calls replaced by others
@@ -81,14 +81,14 @@ replaced table n h l x y r p q f g s =
       roomy = roomy-append l (y ++ r) .1 (a .0, roomy-append y r .1 (f (b .0), b .1));
       clients = λ c. s .clients c ∙ simp (items-append, own-append, p c);
       common = s .common ∙ simp (items-append, marks-append, q);
-      empties = λ m c t a o j e. asks-append m (Piece c [] t a o ∷ j) i .0 (subst (Asks i) e k) .1 .0 c t a o refl;
+      empties = λ m c t lent j e. asks-append m (record { event = Piece c [] t; lent = lent } ∷ j) i .0 (subst (Asks i) e k) .1 .0 c t refl;
     }
 
 -- ## Calls that change places
 
-two-items : (e f : Call) → items (e ∷ f ∷ []) ≡ itemsOf e ++ itemsOf f
+two-items : (e f : Call) → items (e ∷ f ∷ []) ≡ itemsOf (e .event) ++ itemsOf (f .event)
 unfolding items
-two-items e f = ap (itemsOf e ++_) (append-nil (itemsOf f))
+two-items e f = ap (itemsOf (e .event) ++_) (append-nil (itemsOf (f .event)))
 
 pub calls-may-change-places : CallsMayChangePlaces
 calls-may-change-places table n h l r e f p q i j s =
@@ -96,7 +96,7 @@ calls-may-change-places table n h l r e f p q i j s =
     (λ c. rw (two-items e f, two-items f e) (p c))
     (rw (two-items e f, two-items f e) q)
     (λ u. (u .1 .0, (u .0, tt)))
-    (λ u. (λ c t a o k. sym (j c t a o _ k) ∙ u .1 .0 c t a o k, (λ c t a o k. i c t a o _ k ∙ u .0 c t a o k, tt)))
+    (λ u. (λ c t k. sym (j c t _ k) ∙ u .1 .0 c t k, (λ c t k. i c t _ k ∙ u .0 c t k, tt)))
     s
 
 -- ## Pieces
@@ -154,62 +154,62 @@ module _ (c t : ℕ) where
       go true k h = absurd (false≢true (sym h))
       go false k h = ap (byte c v ∷_) (k h)
 
--- a call that is not a client's has none of its items
-not-own : (d : ℕ) (e : Call) → callOf d e ≡ false → own d (itemsOf e) ≡ []
-unfolding callOf itemsOf own itemOf markOf consIf
-not-own d (Open c t a) h = ap (λ q. consIf q (mark (opens c t)) []) h
-not-own d (Close c t a) h = ap (λ q. consIf q (mark (closes c t)) []) h
-not-own d (Piece c bs t a o) h = piece-others c t d h bs
-not-own d (Reading p bs t a o) h = refl
+-- an event that is not a client's has none of its items
+not-own : (d : ℕ) (e : Event) → eventOf d e ≡ false → own d (itemsOf e) ≡ []
+unfolding eventOf itemsOf own itemOf markOf consIf
+not-own d (Open c t) h = ap (λ q. consIf q (mark (opens c t)) []) h
+not-own d (Close c t) h = ap (λ q. consIf q (mark (closes c t)) []) h
+not-own d (Piece c bs t) h = piece-others c t d h bs
+not-own d (Reading p bs t) h = refl
 
 -- two lists of which one is empty
 either-way : {A : Type 0} (x y : List A) → x ≡ [] → x ++ y ≡ y ++ x
 either-way x y h = ap (_++ y) h ∙ sym (append-nil y) ∙ ap (y ++_) (sym h)
 
--- a piece without a line feed, and a call that is not its client's
-module _ (c t a o : ℕ) (bs : List ℕ) (e : Call) (k : hasFeed bs ≡ false) (j : callOf c e ≡ false) where
+-- a piece without a line feed, and an event that is not its client's
+module _ (c t : ℕ) (bs : List ℕ) (e : Event) (k : hasFeed bs ≡ false) (j : eventOf c e ≡ false) where
   piece-own : (d : ℕ) → own d (pieceItems c t bs ++ itemsOf e) ≡ own d (itemsOf e ++ pieceItems c t bs)
   piece-own d = simp own-append (go (eqb d c) refl)
     where
       go : (q : Bool) → eqb d c ≡ q → own d (pieceItems c t bs) ++ own d (itemsOf e) ≡ own d (itemsOf e) ++ own d (pieceItems c t bs)
-      go true h = sym (either-way _ _ (not-own d e (ap (λ i. callOf i e) (eqb-true d c h) ∙ j)))
+      go true h = sym (either-way _ _ (not-own d e (ap (λ i. eventOf i e) (eqb-true d c h) ∙ j)))
       go false h = either-way _ _ (piece-others c t d h bs)
 
   piece-common : marks (pieceItems c t bs ++ itemsOf e) ≡ marks (itemsOf e ++ pieceItems c t bs)
   piece-common = simp marks-append (either-way _ _ (piece-marks c t bs k))
 
-  piece-passes : EmptyPasses (Piece c bs t a o) e
+  piece-passes : EmptyPasses (Piece c bs t) e
   unfolding standing
-  piece-passes d s i m b q =
+  piece-passes d s b q =
       let p : d ≡ c = cc in
-      ap (standing b) (not-own d e (ap (λ i. callOf i e) p ∙ j))
+      ap (standing b) (not-own d e (ap (λ i. eventOf i e) p ∙ j))
 
-  passes-piece : EmptyPasses e (Piece c bs t a o)
+  passes-piece : EmptyPasses e (Piece c bs t)
   unfolding itemsOf
-  passes-piece d s i m b q = standing-piece c t d b bs
+  passes-piece d s b q = standing-piece c t d b bs
 
 pub pieces-may-be-mingled : PiecesMayBeMingled
 unfolding itemsOf
-pieces-may-be-mingled table n h l r c t a o bs e k j =
-    let x : Call = Piece c bs t a o in
-    let p = piece-own c t a o bs e k j in
-    let q = piece-common c t a o bs e k j in
-    let u = piece-passes c t a o bs e k j in
-    let v = passes-piece c t a o bs e k j in (
+pieces-may-be-mingled table n h l r c t bs lent e k j =
+    let x : Call = record { event = Piece c bs t; lent = lent } in
+    let p = piece-own c t bs (e .event) k j in
+    let q = piece-common c t bs (e .event) k j in
+    let u = piece-passes c t bs (e .event) k j in
+    let v = passes-piece c t bs (e .event) k j in (
       calls-may-change-places table n h l r x e p q u v,
       calls-may-change-places table n h l r e x (λ d. sym (p d)) (sym q) v u,
     )
 
 -- a piece of a second history comes from an open client
-piece-open : (table : List ℕ) (n : Node) (h l r : List Call) (c t a o : ℕ) (bs : List ℕ) → IsSecond table n h (l ++ (Piece c bs t a o ∷ r))
-    → opened n l c ≡ true
+piece-open : (table : List ℕ) (n : Node) (h l r : List Call) (c t : ℕ) (lent : Lent) (bs : List ℕ)
+    → IsSecond table n h (l ++ (record { event = Piece c bs t; lent = lent } ∷ r)) → opened n l c ≡ true
 unfolding items itemsOf
-piece-open table n h l r c t a o [] s = s .empties l c t a o r refl
-piece-open table n h l r c t a o (v ∷ bs) s =
+piece-open table n h l r c t lent [] s = s .empties l c t lent r refl
+piece-open table n h l r c t lent (v ∷ bs) s =
     let b = isOpen (n .clients c) in
     let x = pieceItems c t (v ∷ bs) in
     let p : So (inOrder c b (own c (items l ++ (x ++ items r)))) =
-    ap (λ i. inOrder c b (own c i)) (sym (items-append l (Piece c (v ∷ bs) t a o ∷ r)))
+    ap (λ i. inOrder c b (own c i)) (sym (items-append l (record { event = Piece c (v ∷ bs) t; lent = lent } ∷ r)))
     ∙ ap (inOrder c b) (sym (s .clients c))
     ∙ all-used table h n .ordered c in
     let q = own-both c (opened n l c) x (items r) .0 (own-both c b (items l) (x ++ items r) .0 p .1) .0 in
@@ -217,18 +217,18 @@ piece-open table n h l r c t a o (v ∷ bs) s =
 
 pub pieces-may-be-cut : PiecesMayBeCut
 unfolding items itemsOf
-pieces-may-be-cut table n h l r c t a o s b p d q xs ys k u v w =
-    let e : Call = Piece c (xs ++ ys) t a o in
-    let f : Call = Piece c xs s b p in
-    let g : Call = Piece c ys t d q in
+pieces-may-be-cut table n h l r c t s a b d xs ys k u v w =
+    let e : Call = record { event = Piece c (xs ++ ys) t; lent = a } in
+    let f : Call = record { event = Piece c xs s; lent = b } in
+    let g : Call = record { event = Piece c ys t; lent = d } in
     let i : items (e ∷ []) ≡ items (f ∷ g ∷ []) = ap (_++ []) (piece-cut c t s xs ys k) ∙ append-assoc (pieceItems c s xs) (pieceItems c t ys) [] in
     let j : (m : ℕ) → opened n l c ≡ true → m ≡ c → opened n l m ≡ true = λ m z y. ap (opened n l) y ∙ z in (
       λ z.
-          let y = piece-open table n h l r c t a o (xs ++ ys) z in
+          let y = piece-open table n h l r c t a (xs ++ ys) z in
           replaced table n h l (e ∷ []) (f ∷ g ∷ []) r (λ m. ap (own m) i) (ap marks i) (λ _. (v, (w, tt)))
-          (λ _. (λ m t′ a′ o′ x. j m y (cc), (λ m t′ a′ o′ x. standing-piece c s m _ xs ∙ j m y (cc), tt)))
+          (λ _. (λ m t′ x. j m y (cc), (λ m t′ x. standing-piece c s m _ xs ∙ j m y (cc), tt)))
           z,
       λ z.
-          let y = piece-open table n h l (g ∷ r) c s b p xs z in
-          replaced table n h l (f ∷ g ∷ []) (e ∷ []) r (λ m. ap (own m) (sym i)) (ap marks (sym i)) (λ _. (u, tt)) (λ _. (λ m t′ a′ o′ x. j m y (cc), tt)) z,
+          let y = piece-open table n h l (g ∷ r) c s b xs z in
+          replaced table n h l (f ∷ g ∷ []) (e ∷ []) r (λ m. ap (own m) (sym i)) (ap marks (sym i)) (λ _. (u, tt)) (λ _. (λ m t′ x. j m y (cc), tt)) z,
     )

@@ -10,8 +10,8 @@ use Rattle.report.specs.Judge.{tableNumber}
 use Rattle.report.proofs.Faults.{lowest-none}
 use Rattle.outbox.specs.Outbox.{Record, encodeAll}
 use Rattle.plain.specs.Node.{Node, begin, isOpen}
-use Rattle.plain.specs.Calls.{Call, Piece, startNumber}
-use Rattle.plain.specs.History.{step, answers, finish, sent, sentBytes, AllAccepted, Item, own, marks, standing, itemsOf, items, kept, taken, AllRoomy, IsSecond, Alike}
+use Rattle.plain.specs.Calls.{Call, startNumber}
+use Rattle.plain.specs.History.{step, answers, finish, sent, sentBytes, AllAccepted, Item, own, marks, standing, itemsOf, items, kept, taken, AllRoomy, EmptiesOpen, IsSecond, Alike}
 use Rattle.second.specs.Theorems.{SecondHistoriesAreAlike}
 use Rattle.second.proofs.Items.{own-append, standing-append, inOrder, own-both, marks-both, order-small}
 use Rattle.second.proofs.Runs.{run, run-append, same-run, run-open}
@@ -40,19 +40,14 @@ module _ (table : List ℕ) where
         readings = marks-both (readable table) x y .1 (u .readings, v .readings);
       }
 
-  -- Empty pieces come from open clients, as the record of a second history says it.
-  abbrev pub Asked : Node → List Call → Type 0
-  Asked n k = (l : List Call) (c t a o : ℕ) (r : List Call) → k ≡ l ++ (Piece c [] t a o ∷ r)
-      → standing (isOpen (n .clients c)) (own c (items l)) ≡ true
-
   -- whether a client is open after one more call
-  pub standing-then : (n m : Node) (e : Call) (c : ℕ) → isOpen (m .clients c) ≡ standing (isOpen (n .clients c)) (own c (itemsOf e))
+  pub standing-then : (n m : Node) (e : Call) (c : ℕ) → isOpen (m .clients c) ≡ standing (isOpen (n .clients c)) (own c (itemsOf (e .event)))
       → (l : List Call) → standing (isOpen (m .clients c)) (own c (items l)) ≡ standing (isOpen (n .clients c)) (own c (items (e ∷ l)))
   unfolding items
   standing-then n m e c h l =
       ap (λ b. standing b (own c (items l))) h
-      ∙ sym (standing-append (isOpen (n .clients c)) (own c (itemsOf e)) (own c (items l)))
-      ∙ ap (standing (isOpen (n .clients c))) (sym (own-append c (itemsOf e) (items l)))
+      ∙ sym (standing-append (isOpen (n .clients c)) (own c (itemsOf (e .event))) (own c (items l)))
+      ∙ ap (standing (isOpen (n .clients c))) (sym (own-append c (itemsOf (e .event)) (items l)))
 
   pub all-used : (h : List Call) (n : Node) → Used table n (taken table n h) (finish table n h, sent (answers table n h))
   unfolding taken finish answers sent
@@ -65,21 +60,21 @@ module _ (table : List ℕ) where
     -- its calls are accepted, and use all their items, where only clients with small numbers are open
     wholly : (k : List Call) (n : Node) → ((d : ℕ) → So (isOpen (n .clients d)) → So (not (ltb 7 d))) → AllRoomy k
         → ((d : ℕ) → So (inOrder d (isOpen (n .clients d)) (own d (items k))))
-        → So (all (readable table) (marks (items k))) → Asked n k
+        → So (all (readable table) (marks (items k))) → EmptiesOpen n k
         → AllAccepted (answers table n k) × (taken table n k ≡ items k)
     unfolding taken answers items kept
     wholly [] n small room ok rd asked = (tt, refl)
     wholly (e ∷ k) n small room ok rd asked =
-        let x = itemsOf e in
+        let x = itemsOf (e .event) in
         let y = items k in
         let m = step table n e .0 in
         let f : (d : ℕ) → So (inOrder d (isOpen (n .clients d)) (own d x)) × So (inOrder d (standing (isOpen (n .clients d)) (own d x)) (own d y)) =
         λ d. own-both d (isOpen (n .clients d)) x y .0 (ok d) in
         let g = marks-both (readable table) x y .0 rd in
-        let p : So (permitted table n e) =
-        order-call table n e (λ d. f d .0) (g .0)
-        (λ c t a o q.
-        let s : So (isOpen (n .clients c)) = unfold own standing in asked [] c t a o k (ap (_∷ k) q) in
+        let p : So (permitted table n (e .event)) =
+        order-call table n (e .event) (λ d. f d .0) (g .0)
+        (λ c t q.
+        let s : So (isOpen (n .clients c)) = unfold own standing in asked [] c t (e .lent) k (ap (λ v. record { event = v; lent = e .lent } ∷ k) q) in
         ap₂ (λ a b. a && not (not b)) (small c s) s) in
         let a : step table n e .1 .number ≡ 0 = step-number table n e ∙ accepts table z n e .1 (room .0, p) in
         let u : (d : ℕ) → isOpen (m .clients d) ≡ standing (isOpen (n .clients d)) (own d x) =
@@ -92,7 +87,7 @@ module _ (table : List ℕ) where
         (room .1)
         (λ d. ap (λ b. inOrder d b (own d y)) (u d) ∙ f d .1)
         (g .1)
-        (λ l c t a o r q. standing-then n m e c (u c) l ∙ asked (e ∷ l) c t a o r (ap (e ∷_) q)) in
+        (λ l c t lent r q. standing-then n m e c (u c) l ∙ asked (e ∷ l) c t lent r (ap (e ∷_) q)) in
         ((a, r .0), ap₂ (λ j l. kept j x ++ l) a (r .1))
 
     alike : (n : Node) → ((d : ℕ) → So (isOpen (n .clients d)) → So (not (ltb 7 d))) → (h k : List Call)

@@ -7,7 +7,7 @@ use mathlib.Core.Path.{_≡_}
 use lib.Dec.{eqb}
 use Rattle.table.specs.Layout.{tableOf}
 use Rattle.plain.specs.Node.{Node, begin}
-use Rattle.plain.specs.Calls.{Call, Open, Close, Piece, Reading, startNumber, hasFeed}
+use Rattle.plain.specs.Calls.{Event, Open, Close, Piece, Reading, Lent, Call, startNumber, hasFeed}
 use Rattle.plain.specs.History.{step, own, marks, standing, itemsOf, Roomy, IsSecond, Alike}
 
 -- After an accepted start, for every history and every second history of it: all calls of the second are accepted, the same bytes are
@@ -33,36 +33,40 @@ AcceptedCallsAreSecond = (table : List ℕ) (area time : ℕ) → startNumber ta
 
 -- ## A second history that is cut and mingled anew is one too
 
--- the first call may pass the second: where it is an empty piece, the second leaves its client open, or not, as it was
-abbrev pub EmptyPasses : Call → Call → Type 0
-EmptyPasses e f = (c t a o : ℕ) (b : Bool) → e ≡ Piece c [] t a o → standing b (own c (itemsOf f)) ≡ b
+-- the first event may pass the second: where it is an empty piece, the second leaves its client open, or not, as it was
+abbrev pub EmptyPasses : Event → Event → Type 0
+EmptyPasses e f = (c t : ℕ) (b : Bool) → e ≡ Piece c [] t → standing b (own c (itemsOf f)) ≡ b
 
 -- Two neighbouring calls of a second history may change places, if each client's own items stay in order, and so do the common marks,
 -- and no empty piece, which has no item, passes its client's open or close.
 abbrev pub CallsMayChangePlaces : Type 0
 CallsMayChangePlaces = (table : List ℕ) (n : Node) (h l r : List Call) (e f : Call)
-    → ((c : ℕ) → own c (itemsOf e ++ itemsOf f) ≡ own c (itemsOf f ++ itemsOf e))
-    → marks (itemsOf e ++ itemsOf f) ≡ marks (itemsOf f ++ itemsOf e) → EmptyPasses e f → EmptyPasses f e
+    → ((c : ℕ) → own c (itemsOf (e .event) ++ itemsOf (f .event)) ≡ own c (itemsOf (f .event) ++ itemsOf (e .event)))
+    → marks (itemsOf (e .event) ++ itemsOf (f .event)) ≡ marks (itemsOf (f .event) ++ itemsOf (e .event))
+    → EmptyPasses (e .event) (f .event) → EmptyPasses (f .event) (e .event)
     → IsSecond table n h (l ++ (e ∷ f ∷ r)) → IsSecond table n h (l ++ (f ∷ e ∷ r))
 
--- whose a call is; a reading is no client's
-unfoldable pub callOf : ℕ → Call → Bool
-callOf d (Open c t a) = eqb d c
-callOf d (Close c t a) = eqb d c
-callOf d (Piece c bs t a o) = eqb d c
-callOf d (Reading p bs t a o) = false
+-- whose an event is; a reading is no client's
+unfoldable pub eventOf : ℕ → Event → Bool
+eventOf d (Open c t) = eqb d c
+eventOf d (Close c t) = eqb d c
+eventOf d (Piece c bs t) = eqb d c
+eventOf d (Reading p bs t) = false
 
 -- So a piece without a line feed may change places with the call after it or before it, if that is another's: a reading, or another
 -- client's piece, with a line feed or without, open or close.
 abbrev pub PiecesMayBeMingled : Type 0
-PiecesMayBeMingled = (table : List ℕ) (n : Node) (h l r : List Call) (c t a o : ℕ) (bs : List ℕ) (e : Call)
-    → hasFeed bs ≡ false → callOf c e ≡ false
-    → IsSecond table n h (l ++ (Piece c bs t a o ∷ e ∷ r)) ↔ IsSecond table n h (l ++ (e ∷ Piece c bs t a o ∷ r))
+PiecesMayBeMingled = (table : List ℕ) (n : Node) (h l r : List Call) (c t : ℕ) (bs : List ℕ) (lent : Lent) (e : Call)
+    → hasFeed bs ≡ false → eventOf c (e .event) ≡ false
+    → let f : Call = record { event = Piece c bs t; lent = lent } in
+    IsSecond table n h (l ++ (f ∷ e ∷ r)) ↔ IsSecond table n h (l ++ (e ∷ f ∷ r))
 
 -- A piece may be cut in two anywhere before its line feed, or anywhere if it has none, and two such parts may be joined. The first part
 -- may come at any time that is no later than the limit, each part may be empty, and the buffers may be others that are no smaller than
 -- asked.
 abbrev pub PiecesMayBeCut : Type 0
-PiecesMayBeCut = (table : List ℕ) (n : Node) (h l r : List Call) (c t a o s b p d q : ℕ) (xs ys : List ℕ) → hasFeed xs ≡ false
-    → Roomy (Piece c (xs ++ ys) t a o) → Roomy (Piece c xs s b p) → Roomy (Piece c ys t d q)
-    → IsSecond table n h (l ++ (Piece c (xs ++ ys) t a o ∷ r)) ↔ IsSecond table n h (l ++ (Piece c xs s b p ∷ Piece c ys t d q ∷ r))
+PiecesMayBeCut = (table : List ℕ) (n : Node) (h l r : List Call) (c t s : ℕ) (x y z : Lent) (xs ys : List ℕ) → hasFeed xs ≡ false
+    → let e : Call = record { event = Piece c (xs ++ ys) t; lent = x } in
+    let f : Call = record { event = Piece c xs s; lent = y } in
+    let g : Call = record { event = Piece c ys t; lent = z } in
+    Roomy e → Roomy f → Roomy g → IsSecond table n h (l ++ (e ∷ r)) ↔ IsSecond table n h (l ++ (f ∷ g ∷ r))

@@ -24,11 +24,13 @@ use Rattle.table.specs.Table.{Parameter, Command, Table}
 use Rattle.table.specs.Layout.{tableOf}
 use Rattle.table.specs.Search.{Placed, parameters, commands, first, findModule, findParameter, findCommand}
 use Rattle.report.specs.Report.{report}
+use Rattle.report.specs.Judge.{lowest}
 use Rattle.report.proofs.Faults.{no-fault, lowest-none}
 use Rattle.plain.specs.Node.{closed, Value, Node, withClient, withValue, fresh, lineOf, receive, emptied, reportOf, clientNumbers, updatesTo}
 use Rattle.plain.specs.Answer.{Outcome, refused, carried, found, letIn, argumentVerdict, argumentForm, activates, deactivates, inScope, reads, sets, changes, does, outcome, conclude, answerParts, answer}
-use Rattle.plain.specs.Calls.{Call, Open, Close, Piece, Reading, readingVerdict, callNumber, beforeFeed, hasFeed, ended, pieceEffect, readingEffect, effect, settle, stepIf}
+use Rattle.plain.specs.Calls.{Event, Open, Close, Piece, Reading, Call, readingVerdict, ownFaults, callNumber, beforeFeed, hasFeed, ended, Effect, pieceEffect, readingEffect, effect, settle, stepIf}
 use Rattle.plain.specs.History.{step}
+use Rattle.plain.proofs.Numbers.{accepted-call}
 use Rattle.sound.specs.Theorems.{ValueHeld, Sound}
 use Rattle.sound.proofs.Lists.{either, each-at, first-at}
 use Rattle.sound.proofs.Accepted.{Accepted, GoodParameter, GoodCommand, client-low, time-low}
@@ -229,29 +231,31 @@ module _ (table : List ℕ) (a : Accepted (tableOf table)) where
   w = tableOf table
 
   module _ (n : Node) (s : Sound w n) where
-    effected : (e : Call) → callNumber table false n e ≡ 0 → Kept w (effect w n e .next) (effect w n e .records)
-    unfolding callNumber effect pieceEffect all
-    effected (Open c t o) z =
-        let low = client-low c (lowest-none _ z 4) in
+    effected : (e : Event) → lowest (ownFaults w n e) ≡ 0 → Kept w (effect w n e .next) (effect w n e .records)
+    unfolding ownFaults effect pieceEffect all
+    effected (Open c t) z =
+        let low = client-low c (lowest-none _ z 1) in
         quiet w a (withClient n c fresh) (with-client w n c fresh low ((omega arith, refl), λ i e. refl) s)
-    effected (Close c t o) z =
-        let low = client-low c (lowest-none _ z 4) in
+    effected (Close c t) z =
+        let low = client-low c (lowest-none _ z 1) in
         quiet w a (withClient n c closed) (with-client w n c closed low tt s)
-    effected (Piece c bs t o b) z =
-        let low = client-low c (lowest-none _ z 5) in
+    effected (Piece c bs t) z =
+        let low = client-low c (lowest-none _ z 1) in
         let x = receive (n .clients c) (beforeFeed bs) in
         let h = received w (n .clients c) (beforeFeed bs) (before-feed bs) (s .clients c) in
-        answered w a (withClient n c x) (with-client w n c x low h s) c t low (time-low t (lowest-none _ z 4)) (hasFeed bs)
-    effected (Reading k bs t o b) z =
+        answered w a (withClient n c x) (with-client w n c x low h s) c t low (time-low t (lowest-none _ z 0)) (hasFeed bs)
+    effected (Reading k bs t) z =
         let x = getElem? (parameters w) k in
         let f = isFit (readingVerdict x bs) in
-        read-in w a n s k x refl bs t (time-low t (lowest-none _ z 4)) (not-false f (no-fault 14 (not f) (lowest-none _ z 6)))
+        read-in w a n s k x refl bs t (time-low t (lowest-none _ z 0)) (not-false f (no-fault 14 (not f) (lowest-none _ z 2)))
 
     pub stepped : (e : Call) → Kept w (step table n e .0) (step table n e .1 .records)
     unfolding step stepIf settle
-    stepped e = go (callNumber table false n e) (effected e)
+    stepped e = go (callNumber table false n e) (λ z. effected (e .event) (accepted-call table false e n .0 z .1))
       where
-        go : (k : ℕ) → (k ≡ 0 → Kept w (effect w n e .next) (effect w n e .records))
-            → Kept w (settle k n (effect w n e) .0) (settle k n (effect w n e) .1 .records)
+        f : Effect
+        f = effect w n (e .event)
+
+        go : (k : ℕ) → (k ≡ 0 → Kept w (f .next) (f .records)) → Kept w (settle k n f .0) (settle k n f .1 .records)
         go zero f = f refl
         go (suc k) f = quiet w a n s

@@ -45,7 +45,7 @@ take-piece-requires : tie.Need-take-piece-requires
 take-piece-requires c κs =
     let start = c .before .before .before .before .before .before .before .before .before .before .before .before .before in (
       piece-ready _ (start .args .state) _ _ _ (start .args .time) (start .args .bytes .now) (c .before .before .before .before .before .before .before .lent-number .ensures) (search needs) (search needs) (c .before .before .before .is-open .ensures) (search needs),
-      search piece-timely,
+      piece-timely _ (start .args .state) _ _ _ (c .before .before .before .before .before .before .before .lent-number .ensures) (search needs),
     )
 
 same-length-4 : tie.Need-same-length-4

@@ -29,7 +29,7 @@ returns-2 : tie.Need-returns-2
 returns-2 c = search read-past
 
 parameter-by-number-requires : tie.Need-parameter-by-number-requires
-parameter-by-number-requires c κs = search read-table
+parameter-by-number-requires c κs = read-table _ _ _ _ _ (c .before .before .lent-number .ensures) (c .before .if1 .left)
 
 enum-known-p : tie.Need-enum-known-p
 enum-known-p c = search needs
