@@ -8,7 +8,7 @@ use Rattle.table.specs.Layout.{tableOf}
 use Rattle.message.specs.Line.{whole, content, partsOf}
 use Rattle.outbox.specs.Outbox.{Record}
 use Rattle.plain.specs.Node.{Node, receive, emptied}
-use Rattle.plain.specs.Answer.{answerParts, answer}
+use Rattle.plain.specs.Answer.{answerParts, answer, partsSet, answerSets}
 use Rattle.plain.specs.Calls.{Event, Piece, beforeFeed, hasFeed}
 use Rattle.state.specs.declared.Clients.{Clients}
 use Rattle.state.specs.declared.State.{State}
@@ -42,13 +42,16 @@ module _ (table : List ℕ) (s : State) (values out : List ℕ) (c t : ℕ) (g :
   held-short = rw (part-of (1024 * c) (getD (s .clients .length) c 0), length-take) (omega (arith, line-short table s values out c g))
 
   pub held-answered : (r : Clients) → Becomes (s .clients) c (emptied (clientAt (s .clients) c)) Always r → {a : Answered} {values′ out′ : List ℕ}
-      → Answers table (s .settings) values out t a values′ out′ (answerParts (tableOf table) (view table (record { clients = r; settings = s .settings }) values) c t (partsOf (content (whole line))))
-      → Answers table (s .settings) values out t a values′ out′ (answer (tableOf table) (view table s values) c t)
+      → Answers table (s .settings) values out a values′ out′
+      (answerParts (tableOf table) (view table (record { clients = r; settings = s .settings }) values) c t (partsOf (content (whole line))))
+      (partsSet (tableOf table) (view table (record { clients = r; settings = s .settings }) values) c t (partsOf (content (whole line))))
+      → Answers table (s .settings) values out a values′ out′ (answer (tableOf table) (view table s values) c t) (answerSets (tableOf table) (view table s values) c t)
+  unfolding answer answerSets
   held-answered r b {a} {values′} {out′} x =
-      subst (λ (o : Node × List Record). Answers table (s .settings) values out t a values′ out′ o)
-      (ap (λ (l : List ℕ). answerParts (tableOf table) (view table (record { clients = r; settings = s .settings }) values) c t (partsOf (content (whole l)))) held-line
-      ∙ held-answer table s values out c t r (g .isOpen) (overlong-empty table s values out c g) b)
-      x
+      let P : Node → List ℕ → Type 0 =
+      λ m l. Answers table (s .settings) values out a values′ out′ (answerParts (tableOf table) m c t (partsOf l)) (partsSet (tableOf table) m c t (partsOf l)) in
+      held-answer table s values out c t r P (g .isOpen) (overlong-empty table s values out c g) b
+      (subst (λ (l : List ℕ). P (view table (record { clients = r; settings = s .settings }) values) (content (whole l))) held-line x)
 
 -- ## The bytes before a line feed
 
@@ -84,7 +87,8 @@ module _ (table : List ℕ) (s : State) (values outbox : List ℕ) (c t : ℕ) (
         (record { isOpen = g .isOpen; noFeed = no-feed-before bs })
 
     pub piece-feeds : (n ≡ length bs → ⊥) → {u : ℕ} → u ≡ n + 1 → (a : Answered) {values′ outbox′ : List ℕ}
-        → Answers table (s .settings) values outbox t a values′ outbox′ (answer (tableOf table) (view table (record { clients = r; settings = s .settings }) values) c t)
+        → Answers table (s .settings) values outbox a values′ outbox′ (answer (tableOf table) (view table (record { clients = r; settings = s .settings }) values) c t)
+        (answerSets (tableOf table) (view table (record { clients = r; settings = s .settings }) values) c t)
         → Leaves table s values piece outbox (record { number = 0; used = u; written = a .written; state = a .state }) values′ outbox′
     piece-feeds e v a {values′} {outbox′} x =
         subst (λ (k : ℕ). Leaves table s values piece outbox (record { number = 0; used = k; written = a .written; state = a .state }) values′ outbox′) (sym (v ∙ ap (λ (k : ℕ). k + 1) first))

@@ -3,7 +3,7 @@ use Prim.Native.Nat.{ℕ, _+_, _*_, _-_, _≤_, _<_}
 use native.Mathlib.Nat.{zero-add}
 use native.Mathlib.Omega.{arith}
 use mathlib.Core.Bool.{true, false}
-use mathlib.Core.List.{List}
+use mathlib.Core.List.{List, [], _∷_}
 use mathlib.Core.Option.{some}
 use mathlib.Core.Path.{_≡_, refl, sym, ap, _∙_}
 use borrow.Author.Tests.{ltb-false}
@@ -25,7 +25,7 @@ use Rattle.outbox.specs.Outbox.{Record, encodeAll}
 use Rattle.report.specs.Judge.{lowest}
 use Rattle.search.specs.declared.cursor.Cursor.{Cursor}
 use Rattle.search.specs.Left.{placed}
-use Rattle.plain.specs.Node.{clientNumbers, updatesTo, withValue}
+use Rattle.plain.specs.Node.{Setting, withSettings, clientNumbers, updatesTo}
 use Rattle.plain.specs.Calls.{Reading, Call, withOutbox, Effect, sends, isSmall, ownFaults, callNumber, readingVerdict, readingEffect, effect}
 use Rattle.sound.proofs.Lists.{each-at}
 use Rattle.sound.proofs.Accepted.{GoodParameter, accepted}
@@ -34,13 +34,12 @@ use Rattle.sound.proofs.Values.{stored, stored-short}
 use Rattle.sound.proofs.Records.{Fine, name-short, written-to}
 use Rattle.state.specs.declared.Settings.{Settings}
 use Rattle.state.specs.declared.State.{State}
-use Rattle.state.specs.View.{clientAt, view, withStored, withLength, outboxAfter, written}
+use Rattle.state.specs.View.{clientAt, view, withStored, withLength, areaWith, settingsWith, outboxAfter, written}
 use Rattle.state.specs.Fit.{clientUnfit, settingsUnfit, isUnfit}
 use Rattle.state.proofs.Forms.{stands, fits-text, form-room}
-use Rattle.state.proofs.Settled.{Sized, some-stored, stored-fit}
-use Rattle.state.proofs.Views.{value-view}
-use Rattle.outcome.specs.Setting.{areaWith, settingsWith}
-use Rattle.promise.specs.Promise.{Kept, setBy, timeOf}
+use Rattle.state.proofs.Settled.{Sized}
+use Rattle.state.proofs.Sets.{AllSet, all-set}
+use Rattle.promise.specs.Promise.{Kept}
 use Rattle.promise.proofs.Numbers.{Good, good, number-is}
 use Rattle.promise.proofs.Answers.{accepts}
 use Rattle.promise.proofs.Clients.{fit-parts}
@@ -106,8 +105,11 @@ module _ (table : List ℕ) (s : State) (values outbox : List ℕ) (k t : ℕ) (
     read-size = rw size-is small
 
     -- what the plain node does
+    abbrev sets : List Setting
+    sets = record { parameter = k; text = storedForm bs; time = t } ∷ []
+
     does : effect w (view table s values) (Reading k bs t)
-        ≡ record { next = withValue (view table s values) k (record { text = storedForm bs; time = t }); used = 0; records = updates (storedForm bs) }
+        ≡ record { next = withSettings (view table s values) sets; settings = sets; used = 0; records = updates (storedForm bs) }
     unfolding effect readingEffect view parameterOf
     does = rw there refl
 
@@ -159,19 +161,21 @@ module _ (table : List ℕ) (s : State) (values outbox : List ℕ) (k t : ℕ) (
         unfolding withStored
         area-is = x .is
 
-        node-is : view table next after ≡ withValue (view table s values) k (record { text = storedForm bs; time = t })
-        node-is =
-            rw (next-is, area-is)
-            (value-view table s z values (lent-good .area) k (g .low) (storedForm bs) (some-stored (it .it .datainfo) (storedForm bs) is-stored) small t (fit .0) it there)
+        is-set : AllSet table s values sets
+        is-set =
+            all-set table (accepted table (lent-good .accepted) .few) sets s values z (lent-good .area) (fit .0)
+            (record { it = it; there = there; fits = is-stored; inTime = lent-good .time }, tt)
+
+        node-is : view table next after ≡ withSettings (view table s values) sets
+        unfolding areaWith settingsWith
+        node-is = rw (next-is, area-is) (is-set .node)
 
         still-fit : isUnfit w next after ≡ false
-        unfolding isUnfit
-        still-fit =
-            rw (next-is, area-is)
-            (rw (stored-fit (s .settings) z values (lent-good .area) k (g .low) (storedForm bs) (some-stored (it .it .datainfo) (storedForm bs) is-stored) small t (parameters w) (fit .0) it there is-stored (lent-good .time), fit .1) refl)
+        unfolding isUnfit areaWith settingsWith
+        still-fit = rw (next-is, area-is) (rw (is-set .fit, fit .1) refl)
 
         pub is-taken : Kept table taken s values outbox (record { number = 0; used = 0; written = n; state = next }) after outbox′
-        unfolding written outboxAfter setBy timeOf areaWith settingsWith
+        unfolding written outboxAfter areaWith settingsWith
         is-taken =
             let d = sym does in
             let u = written-to (clientAt (s .clients)) (e .modules - 1) (told (storedForm bs)) (fine (storedForm bs) small) clientNumbers .short in
@@ -182,8 +186,8 @@ module _ (table : List ℕ) (s : State) (values outbox : List ℕ) (k t : ℕ) (
               used = ap (λ (y : Effect). y .used) d;
               writes = puts .ends ∙ zero-add _ ∙ ap (λ (y : Effect). written (y .records)) d;
               sends = puts .is ∙ ap (λ (y : Effect). outboxAfter outbox (y .records)) d;
-              area = area-is;
-              settings = next-is;
+              area = area-is ∙ ap (λ (y : Effect). areaWith values (y .settings)) d;
+              settings = next-is ∙ ap (λ (y : Effect). settingsWith (s .settings) (y .settings)) d;
               node = node-is ∙ ap (λ (y : Effect). y .next) d;
               fit = still-fit;
             })

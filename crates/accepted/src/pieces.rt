@@ -10,7 +10,7 @@ use state::client::joined;
 ghost use Prim.Native.Nat.{_≤_};
 ghost use Rattle.ascii.specs.Numbers.{latest};
 ghost use Rattle.table.specs.Layout.{tableOf};
-ghost use Rattle.plain.specs.Answer.{answer};
+ghost use Rattle.plain.specs.Answer.{answer, answerSets};
 ghost use Rattle.plain.specs.Calls.{Piece};
 ghost use Rattle.state.specs.View.{view};
 ghost use Rattle.outcome.specs.Ready.{Ready};
@@ -27,7 +27,7 @@ fn answer_held(
     time: u64,
 ) -> Answered
     requires { ⌜ Ready (now table) state (now values) (now outbox) client × (time ≤ latest) ⌝ }
-    ensures { λ r. ⌜ Answers (now (table .entry)) (state .settings) (now (values .entry)) (now (outbox .entry)) time r (now (values .exit)) (now (outbox .exit)) (answer (tableOf (now (table .entry))) (view (now (table .entry)) state (now (values .entry))) client time) ⌝ }
+    ensures { λ r. ⌜ Answers (now (table .entry)) (state .settings) (now (values .entry)) (now (outbox .entry)) r (now (values .exit)) (now (outbox .exit)) (answer (tableOf (now (table .entry))) (view (now (table .entry)) state (now (values .entry))) client time) (answerSets (tableOf (now (table .entry))) (view (now (table .entry)) state (now (values .entry))) client time) ⌝ }
 {
     let c = client as usize;
     let clients = state.clients;

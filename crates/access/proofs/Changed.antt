@@ -30,7 +30,6 @@ use Rattle.sound.proofs.Values.{stored}
 use Rattle.state.specs.declared.State.{State}
 use Rattle.state.specs.View.{clientAt, view}
 use Rattle.outcome.specs.Ready.{Ready}
-use Rattle.outcome.specs.Setting.{settingIn}
 use Rattle.outcome.specs.Outcome.{Comes}
 use Rattle.outcome.specs.declared.Outcome.{Outcome}
 use Rattle.outcome.specs.declared.Outcome.the-variants.{Refused}
@@ -93,7 +92,7 @@ module _ (s : List ℕ) (st : State) (values out : List ℕ) (c t : ℕ) (m a xs
 
           pub change-set : (o : Outcome) (stored-values after : List ℕ) → IsSet (st .clients) c k h m a xs t values out o stored-values after
               → Comes s st values out c t o stored-values after (change m a xs)
-          unfolding letIn sets setRecords settingIn view
+          unfolding letIn sets setRecords view
           change-set o stored-values after i =
               subst (λ (x : Outcome). Comes s st values out c t x stored-values after (change m a xs)) (sym (i .is))
               (record {
@@ -108,7 +107,6 @@ module _ (s : List ℕ) (st : State) (values out : List ℕ) (c t : ℕ) (m a xs
                       reply = changed (reportOf m a (storedForm xs) t);
                       is = is-let-in ∙ rw (z, p .home, p .moduleNamed, p .named);
                       puts = i .puts;
-                      sets = refl;
                     };
                 area = i .area;
               })

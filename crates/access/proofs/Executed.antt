@@ -26,7 +26,6 @@ use Rattle.outbox.specs.Outbox.{orderCommand, encodeAll}
 use Rattle.plain.specs.Node.{Node}
 use Rattle.plain.specs.Answer.{Outcome, refused, carried, found, letIn, argumentVerdict, does, outcome}
 use Rattle.outcome.specs.Ready.{Lent}
-use Rattle.outcome.specs.Setting.{settingIn}
 use Rattle.outcome.specs.Outcome.{ComesAtAny}
 use Rattle.outcome.specs.declared.Outcome.the-variants.{Refused, Sent}
 use Rattle.access.specs.Argument.{JudgesArgument, formOf, Ordered, Reported, orderRecords}
@@ -58,7 +57,7 @@ module _ (s out : List ℕ) (c t : ℕ) (m a xs : List ℕ) where
       judged-is = j .is (g .argument)
 
       abbrev ordered : Node → Outcome
-      ordered n = carried n (orderCommand c k (formOf (q .argument) xs) ∷ []) (done (reportOf m a (bytes "null") t))
+      ordered n = carried n [] (orderCommand c k (formOf (q .argument) xs) ∷ []) (done (reportOf m a (bytes "null") t))
 
       let-in : (n : Node) → outcome (tableOf s) n c t (execute m a xs) ≡ letIn (meaning v) (ordered n)
       unfolding found does
@@ -88,7 +87,7 @@ module _ (s out : List ℕ) (c t : ℕ) (m a xs : List ℕ) where
       pub execute-sent : v ≡ Fits → (after : List ℕ) (written : ℕ)
           → Puts out 0 (encodeAll (orderRecords c k (formOf (q .argument) xs) m a t)) after written
           → ComesAtAny s out c t (Sent written) after (execute m a xs)
-      unfolding letIn orderRecords settingIn
+      unfolding letIn orderRecords
       execute-sent z after written p n values =
           record {
             carries =
@@ -97,7 +96,6 @@ module _ (s out : List ℕ) (c t : ℕ) (m a xs : List ℕ) where
                   reply = done (reportOf m a (bytes "null") t);
                   is = let-in n ∙ rw z;
                   puts = p;
-                  sets = refl;
                 };
             unstored = refl;
           }

@@ -32,7 +32,6 @@ use Rattle.state.proofs.Flags.{neither}
 use Rattle.state.proofs.Settled.{each-fit, fit-parts}
 use Rattle.state.proofs.Stands.{value-held}
 use Rattle.outcome.specs.Ready.{Ready}
-use Rattle.outcome.specs.Setting.{settingIn}
 use Rattle.outcome.specs.Outcome.{Comes}
 use Rattle.outcome.specs.declared.Outcome.the-variants.{Refused, Sent}
 use Rattle.access.proofs.Finding.{ParameterKnown}
@@ -88,7 +87,7 @@ module _ (s : List ℕ) (st : State) (values out : List ℕ) (c : ℕ) (g : Read
 
     pub read-sent : isSome (findModule (tableOf s) m) ≡ true → (after : List ℕ) (written : ℕ) → Puts out 0 (encode shows) after written
         → (t : ℕ) → Comes s st values out c t (Sent written) values after (read m a)
-    unfolding outcome found reads settingIn
+    unfolding outcome found reads
     read-sent e after written x t =
         record {
           carries =
@@ -97,7 +96,6 @@ module _ (s : List ℕ) (st : State) (values out : List ℕ) (c : ℕ) (g : Read
                 reply = reply own;
                 is = past-module Error.NoSuchModule (findModule (tableOf s) m) _ e ∙ rw (p .is);
                 puts = puts-after [] (final c (reply own)) out out 0 (puts-none out) after written (rw own-is x);
-                sets = refl;
               };
           unstored = refl;
         }

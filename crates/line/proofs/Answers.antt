@@ -24,25 +24,24 @@ use Rattle.table.specs.Table.{Table}
 use Rattle.table.specs.Layout.{tableOf}
 use Rattle.table.specs.Search.{parameters}
 use Rattle.outbox.specs.Outbox.{Record, final, encode, encodeAll}
-use Rattle.plain.specs.Node.{Node, clientNumbers}
+use Rattle.plain.specs.Node.{Node, Setting, clientNumbers}
 use Rattle.plain.specs.Answer as Plain
-use Rattle.plain.specs.Answer.{refused, carried, outcome, conclude, answerParts}
+use Rattle.plain.specs.Answer.{refused, carried, settingsOf, outcome, conclude, answerParts, partsSet}
 use Rattle.sound.proofs.Accepted.{accepted}
 use Rattle.sound.proofs.Values.{short-stored}
 use Rattle.state.specs.declared.Clients.{Clients}
 use Rattle.state.specs.declared.Settings.{Settings}
 use Rattle.state.specs.declared.State.{State}
-use Rattle.state.specs.View.{view, withStored, withLength}
+use Rattle.state.specs.View.{view, withStored, withLength, areaWith, settingsWith}
 use Rattle.state.specs.Fit.{settingsUnfit, clientUnfit, isUnfit}
 use Rattle.state.proofs.Flags.{neither, nor}
 use Rattle.state.proofs.Becomes.{Sized}
 use Rattle.state.proofs.Cells.{active-becomes}
 use Rattle.state.proofs.Kept.{still-fit}
 use Rattle.state.proofs.Settled as Settled
-use Rattle.state.proofs.Settled.{some-stored, stored-fit}
+use Rattle.state.proofs.Sets.{all-set}
 use Rattle.sound.proofs.Lists.{there-low}
-use Rattle.state.proofs.Views.{client-view, value-view}
-use Rattle.outcome.specs.Setting.{Setting, settingIn, areaWith, settingsWith}
+use Rattle.state.proofs.Views.{client-view}
 use Rattle.outcome.specs.Outcome.{Carries, Refuses, Sends, Activates, Stores, OutcomeIs, Comes, Answers}
 use Rattle.outcome.specs.Ready.{Ready}
 use Rattle.outcome.specs.declared.Outcome.{Outcome}
@@ -83,8 +82,8 @@ module _ (table : List ℕ) (s : State) (values before : List ℕ) (c t : ℕ) (
   error-answered :
       (p : Parts) (after : List ℕ) (r : Answered) (e : Class) → r .state ≡ s
       → Puts before 0 (encode (final c (error (p .action) (p .specifier) (classOf e)))) after (r .written)
-      → Answers table (s .settings) values before t r values after (conclude w n c t p (refused (classOf e)))
-  unfolding conclude settingIn areaWith settingsWith
+      → Answers table (s .settings) values before r values after (conclude w n c t p (refused (classOf e))) []
+  unfolding conclude areaWith settingsWith
   error-answered p after r e same puts =
       record {
         node = rw same;
@@ -97,40 +96,41 @@ module _ (table : List ℕ) (s : State) (values before : List ℕ) (c t : ℕ) (
   module _ (p : Parts) (mid stored : List ℕ) (o : Plain.Outcome) (after : List ℕ) (r : Answered) where
     -- what was carried out: its records were written before
     carried-answered :
-        (next : Node) (written : ℕ) (set : Option Setting) → Carries w n c t before mid values stored o next written set → Keeps mid after s c t r written
+        (next : Node) (written : ℕ) (set : List Setting) → Carries w n c t before mid values stored o next written set → Keeps mid after s c t r written
         → view table (r .state) stored ≡ next → isUnfit w (r .state) stored ≡ false
-        → stored ≡ areaWith values set → r .state .settings ≡ settingsWith (s .settings) t set
-        → Answers table (s .settings) values before t r stored after (conclude w n c t p o)
-    unfolding conclude
+        → stored ≡ areaWith values set → r .state .settings ≡ settingsWith (s .settings) set
+        → Answers table (s .settings) values before r stored after (conclude w n c t p o) (settingsOf o)
+    unfolding conclude settingsOf
     carried-answered next written set x k node fit area settings =
         rw (x .is)
         (record {
           node = node;
           fit = fit;
           puts = rw (k .size, k .quiet) (x .puts);
-          area = area ∙ ap (areaWith values) (sym (x .sets));
-          settings = settings ∙ ap (settingsWith (s .settings) t) (sym (x .sets));
+          area = area;
+          settings = settings;
         })
 
     refused-answered : (e : Class) → Refuses w n c t before mid values stored o (refused (classOf e)) → Denies mid after s c t r (p .action) (p .specifier) e
-        → Answers table (s .settings) values before t r stored after (conclude w n c t p o)
+        → Answers table (s .settings) values before r stored after (conclude w n c t p o) (settingsOf o)
+    unfolding settingsOf
     refused-answered e x k =
         rw (x .is, x .area)
         (error-answered p after r e (k .state) (subst (λ (l : List ℕ). Puts l 0 (encode (final c (error (p .action) (p .specifier) (classOf e)))) after (r .written)) (x .quiet) (k .puts)))
 
     sent-answered : (written : ℕ) → Sends w n c t before mid values stored o written → Passes mid after s c t r written
-        → Answers table (s .settings) values before t r stored after (conclude w n c t p o)
+        → Answers table (s .settings) values before r stored after (conclude w n c t p o) (settingsOf o)
     unfolding areaWith settingsWith
     sent-answered written x k =
-        carried-answered n written none (x .carries) (k .keeps) (rw (k .state, x .unstored)) (rw (k .state, x .unstored) (given .fit)) (x .unstored) (rw (k .state))
+        carried-answered n written [] (x .carries) (k .keeps) (rw (k .state, x .unstored)) (rw (k .state, x .unstored) (given .fit)) (x .unstored) (rw (k .state))
 
     active-answered : Sized (s .clients) → (mask written : ℕ) → Activates w n c t before mid values stored o mask written → Switches mid after s c t r mask written
-        → Answers table (s .settings) values before t r stored after (conclude w n c t p o)
+        → Answers table (s .settings) values before r stored after (conclude w n c t p o) (settingsOf o)
     unfolding isUnfit view areaWith settingsWith
     active-answered z mask written x k =
         let b = active-becomes (s .clients) z c (given .lent .low) mask (k .clients) in
         let fit = still-fit (length (w .modules)) b (record { isOpen = given .isOpen; within = x .low }) clients-fit in
-        carried-answered _ written none (x .carries) (k .keeps)
+        carried-answered _ written [] (x .carries) (k .keeps)
         (rw (x .unstored) (parts-view table values (r .state) refl (k .settings) ∙ client-view table s values b))
         (rw (x .unstored) (rw (k .settings) (nor settings-fit fit)))
         (x .unstored)
@@ -138,25 +138,22 @@ module _ (table : List ℕ) (s : State) (values before : List ℕ) (c t : ℕ) (
 
     stored-answered : Settled.Sized (s .settings) → t ≤ latest
         → (k size written : ℕ) → Stores w n c t before mid values stored o k size written → Sets mid after s c t r k size written
-        → Answers table (s .settings) values before t r stored after (conclude w n c t p o)
+        → Answers table (s .settings) values before r stored after (conclude w n c t p o) (settingsOf o)
     unfolding isUnfit areaWith settingsWith
     stored-answered z h k size written x y =
-        let d = x .parameter .it .datainfo in
-        let low : k < 64 = omega (arith, there-low (parameters w) k (x .parameter) (x .there), accepted table (given .lent .accepted) .few) in
-        let short = short-stored d (x .text) (x .fits) in
-        let long = some-stored d (x .text) (x .fits) in
-        let settings : r .state .settings ≡ withLength (s .settings) k (length (x .text)) t = rw (← (x .long)) (y .settings) in
-        let same = parts-view table (withStored values k (x .text)) (r .state) (y .clients) settings in
-        carried-answered _ written (some (k, x .text)) (x .carries) (y .keeps)
-        (rw (x .area) (same ∙ value-view table s z values (given .area) k low (x .text) long short t settings-fit (x .parameter) (x .there)))
-        (rw (x .area, settings, y .clients)
-        (nor (stored-fit (s .settings) z values (given .area) k low (x .text) long short t (parameters w) settings-fit (x .parameter) (x .there) (x .fits) h) clients-fit))
+        let set : List Setting = record { parameter = k; text = x .text; time = t } ∷ [] in
+        let settings : r .state .settings ≡ settingsWith (s .settings) set = rw (← (x .long)) (y .settings) in
+        let is = all-set table (accepted table (given .lent .accepted) .few) set s values z (given .area) settings-fit
+        (record { it = x .parameter; there = x .there; fits = x .fits; inTime = h }, tt) in
+        carried-answered _ written set (x .carries) (y .keeps)
+        (rw (x .area) (parts-view table (areaWith values set) (r .state) (y .clients) settings ∙ is .node))
+        (rw (x .area, settings, y .clients) (nor (is .fit) clients-fit))
         (x .area)
         settings
 
     answered : Sized (s .clients) → Settled.Sized (s .settings) → t ≤ latest
         → (came : Outcome) → OutcomeIs w n c t before mid values stored came o → Concludes mid after s c t r (p .action) (p .specifier) came
-        → Answers table (s .settings) values before t r stored after (conclude w n c t p o)
+        → Answers table (s .settings) values before r stored after (conclude w n c t p o) (settingsOf o)
     answered y z h (Refused e) x k = refused-answered e x k
     answered y z h (Sent written) x k = sent-answered written x k
     answered y z h (Active mask written) x k = active-answered y mask written x k
@@ -168,8 +165,9 @@ module _ (table : List ℕ) (s : State) (values before : List ℕ) (c t : ℕ) (
   pub bad-answered :
       (xs : List ℕ) → content (whole xs) ≡ [] → (after : List ℕ) (r : Answered) → r .state ≡ s
       → Puts before 0 (encode (final c (error [] [] (classOf ProtocolError)))) after (r .written)
-      → Answers table (s .settings) values before t r values after (answerParts w n c t (partsOf (content (whole xs))))
-  unfolding answerParts partsOf beforeSpace afterSpace takeWhile dropWhile tail request same bytes outcome
+      → Answers table (s .settings) values before r values after (answerParts w n c t (partsOf (content (whole xs))))
+      (partsSet w n c t (partsOf (content (whole xs))))
+  unfolding answerParts partsSet settingsOf partsOf beforeSpace afterSpace takeWhile dropWhile tail request same bytes outcome
   bad-answered xs e after r same puts = rw e (error-answered (record { action = []; specifier = []; payload = [] }) after r ProtocolError same puts)
 
   module _ (xs : List ℕ) (short : length xs ≤ 1024) (a p d : Part) (h : Parted xs a p d) where
@@ -193,8 +191,9 @@ module _ (table : List ℕ) (s : State) (values before : List ℕ) (c t : ℕ) (
         → (mid stored after : List ℕ) (came : Outcome) (r : Answered)
         → Comes table s values before c t came stored mid (meaning xs (part xs p) (part xs d) asked)
         → Concludes mid after s c t r (part xs a) (part xs p) came
-        → Answers table (s .settings) values before t r stored after (answerParts w n c t (partsOf (content (whole xs))))
-    unfolding answerParts
+        → Answers table (s .settings) values before r stored after (answerParts w n c t (partsOf (content (whole xs))))
+        (partsSet w n c t (partsOf (content (whole xs))))
+    unfolding answerParts partsSet
     line-answered asked k i z l mid stored after came r x y =
         answered (partsOf (content (whole xs))) mid stored (outcome w n c t (request (partsOf (content (whole xs))))) after r i z l came
         (rw (requested xs a p d asked h k) at x)

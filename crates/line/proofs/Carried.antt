@@ -31,7 +31,6 @@ use Rattle.state.specs.Fit.{pastLast, isUnfit, settingsUnfit}
 use Rattle.state.proofs.Flags.{neither}
 use Rattle.state.proofs.Kept.{each-fit}
 use Rattle.state.proofs.Cells.{fit-at}
-use Rattle.outcome.specs.Setting.{settingIn}
 use Rattle.outcome.specs.Outcome.{Sends, ComesAtAny}
 use Rattle.outcome.specs.Ready.{Ready}
 use Rattle.outcome.specs.declared.Outcome.the-variants.{Sent}
@@ -61,9 +60,8 @@ part-short xs p w h = let i = w .within in rw length-take (omega arith)
 -- ## Replies of one record
 
 module _ {before after : List ℕ} {c written : ℕ} where
-  pub sends : (w : Table) (n : Node) (t : ℕ) (values : List ℕ) (o : Plain.Outcome) (r : Reply) → o ≡ carried n [] r
+  pub sends : (w : Table) (n : Node) (t : ℕ) (values : List ℕ) (o : Plain.Outcome) (r : Reply) → o ≡ carried n [] [] r
       → Puts before 0 (encode (final c r)) after written → Sends w n c t before after values values o written
-  unfolding settingIn
   sends w n t values o r e x =
       record {
         carries = record {
@@ -71,7 +69,6 @@ module _ {before after : List ℕ} {c written : ℕ} where
           reply = r;
           is = e;
           puts = puts-after [] (final c r) before before 0 (puts-none before) after written x;
-          sets = refl;
         };
         unstored = refl;
       }

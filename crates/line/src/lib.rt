@@ -4,7 +4,7 @@ ghost use lib.ListN.{length};
 ghost use Rattle.ascii.specs.Numbers.{latest};
 ghost use Rattle.table.specs.Layout.{tableOf};
 ghost use Rattle.message.specs.Line.{whole, content, partsOf};
-ghost use Rattle.plain.specs.Answer.{answerParts};
+ghost use Rattle.plain.specs.Answer.{answerParts, partsSet};
 ghost use Rattle.state.specs.View.{view};
 ghost use Rattle.outcome.specs.Ready.{Ready};
 ghost use Rattle.outcome.specs.Outcome.{Answers};
@@ -34,7 +34,7 @@ pub fn answer_line(
     line: &[u8],
 ) -> Answered
     requires { ⌜ Ready (now table) state (now values) (now out) client × ((time ≤ latest) × (length (now line) ≤ 1024)) ⌝ }
-    ensures { λ r. ⌜ Answers (now (table .entry)) (state .settings) (now (values .entry)) (now (out .entry)) time r (now (values .exit)) (now (out .exit)) (answerParts (tableOf (now (table .entry))) (view (now (table .entry)) state (now (values .entry))) client time (partsOf (content (whole (now (line .entry)))))) ⌝ }
+    ensures { λ r. ⌜ Answers (now (table .entry)) (state .settings) (now (values .entry)) (now (out .entry)) r (now (values .exit)) (now (out .exit)) (answerParts (tableOf (now (table .entry))) (view (now (table .entry)) state (now (values .entry))) client time (partsOf (content (whole (now (line .entry)))))) (partsSet (tableOf (now (table .entry))) (view (now (table .entry)) state (now (values .entry))) client time (partsOf (content (whole (now (line .entry)))))) ⌝ }
 {
     let Parsed::Line {
         action,

@@ -2,7 +2,7 @@
 use Prim.Native.Nat.{ℕ}
 use mathlib.Core.Bool.{true, false}
 use mathlib.Core.List.{List, [], _∷_, _++_}
-use mathlib.Core.Option.{Option, none, some}
+use mathlib.Core.Option.{some}
 use mathlib.Core.Path.{_≡_}
 use lib.ListN.{length, getElem?}
 use Rattle.ascii.specs.Writer.{Puts}
@@ -13,15 +13,14 @@ use Rattle.table.specs.Search.{Placed, parameters}
 use Rattle.message.specs.Said.{classOf}
 use Rattle.message.specs.Reply.{Reply}
 use Rattle.outbox.specs.Outbox.{Record, final, encodeAll}
-use Rattle.plain.specs.Node.{Node, withClient, withValue, isActive, activated}
+use Rattle.plain.specs.Node.{Node, withClient, Setting, withSettings, isActive, activated}
 use Rattle.plain.specs.Answer as Plain
 use Rattle.plain.specs.Answer.{refused, carried, outcome}
 use Rattle.message.specs.Request.{Request}
 use Rattle.state.specs.declared.Settings.{Settings}
 use Rattle.state.specs.declared.State.{State}
-use Rattle.state.specs.View.{bit, view, withStored}
+use Rattle.state.specs.View.{bit, view, withStored, areaWith, settingsWith}
 use Rattle.state.specs.Fit.{isUnfit, pastLast}
-use Rattle.outcome.specs.Setting.{Setting, settingIn, areaWith, settingsWith}
 use Rattle.outcome.specs.declared.Outcome.{Outcome}
 use Rattle.outcome.specs.declared.Outcome.the-variants.{Refused, Sent, Active, Stored}
 use Rattle.outcome.specs.declared.Answered.{Answered}
@@ -30,12 +29,11 @@ use Rattle.outcome.specs.declared.Answered.{Answered}
 -- holds `stored`.
 module _ (w : Table) (n : Node) (c t : ℕ) (before after values stored : List ℕ) where
   -- the request o is carried out: the node becomes `next`, so many bytes are written, and this is set
-  pub record Carries (o : Plain.Outcome) (next : Node) (written : ℕ) (set : Option Setting) : Type 0 where
+  pub record Carries (o : Plain.Outcome) (next : Node) (written : ℕ) (set : List Setting) : Type 0 where
     pub records : List Record
     pub reply : Reply
-    pub is : o ≡ carried next records reply
+    pub is : o ≡ carried next set records reply
     pub puts : Puts before 0 (encodeAll (records ++ (final c reply ∷ []))) after written
-    pub sets : settingIn (records ++ (final c reply ∷ [])) ≡ set
 
   -- the request o is refused, and nothing is altered
   pub record Refuses (o : Plain.Outcome) (e : Plain.Outcome) : Type 0 where
@@ -45,12 +43,12 @@ module _ (w : Table) (n : Node) (c t : ℕ) (before after values stored : List �
 
   -- the request o is answered, and alters nothing
   pub record Sends (o : Plain.Outcome) (written : ℕ) : Type 0 where
-    pub carries : Carries o n written none
+    pub carries : Carries o n written []
     pub unstored : stored ≡ values
 
   -- client c's active modules become those of a mask, of which none is past the last
   pub record Activates (o : Plain.Outcome) (mask written : ℕ) : Type 0 where
-    pub carries : Carries o (withClient n c (activated (bit mask) (n .clients c))) written none
+    pub carries : Carries o (withClient n c (activated (bit mask) (n .clients c))) written []
     pub unstored : stored ≡ values
     pub low : pastLast mask (length (w .modules)) ≡ false
 
@@ -61,7 +59,7 @@ module _ (w : Table) (n : Node) (c t : ℕ) (before after values stored : List �
     pub there : getElem? (parameters w) p ≡ some parameter
     pub fits : isStored (parameter .it .datainfo) text ≡ true
     pub long : size ≡ length text
-    pub carries : Carries o (withValue n p (record { text = text; time = t })) written (some (p, text))
+    pub carries : let s : List Setting = record { parameter = p; text = text; time = t } ∷ [] in Carries o (withSettings n s) written s
     pub area : stored ≡ withStored values p text
 
   -- the code's outcome r stands for the plain node's outcome o. Two may stand for one: what alters nothing may be told with the mask that is there
@@ -89,11 +87,11 @@ abbrev pub ComesWith : ℕ → List ℕ → List ℕ → ℕ → ℕ → Outcome
 ComesWith mask table before c t r after q = (n : Node) (values : List ℕ) → ((i : ℕ) → isActive (n .clients c) i ≡ bit mask i)
     → OutcomeIs (tableOf table) n c t before after values values r (outcome (tableOf table) n c t q)
 
--- A line is answered at the time t as the plain node has it, o: on the table's bytes, from the settings, the values area and the outbox as
+-- A line is answered as the plain node has it, o, which sets ss: on the table's bytes, from the settings, the values area and the outbox as
 -- they were.
-pub record Answers (table : List ℕ) (s : Settings) (values before : List ℕ) (t : ℕ) (r : Answered) (stored after : List ℕ) (o : Node × List Record) : Type 0 where
+pub record Answers (table : List ℕ) (s : Settings) (values before : List ℕ) (r : Answered) (stored after : List ℕ) (o : Node × List Record) (ss : List Setting) : Type 0 where
   pub node : view table (r .state) stored ≡ o .0
   pub fit : isUnfit (tableOf table) (r .state) stored ≡ false
   pub puts : Puts before 0 (encodeAll (o .1)) after (r .written)
-  pub area : stored ≡ areaWith values (settingIn (o .1))
-  pub settings : r .state .settings ≡ settingsWith s t (settingIn (o .1))
+  pub area : stored ≡ areaWith values ss
+  pub settings : r .state .settings ≡ settingsWith s ss

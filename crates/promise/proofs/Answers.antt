@@ -1,29 +1,26 @@
 -- What is answered keeps the promise: a refusal, and an accepted call. Assumes nothing.
 use Prim.Native.Nat.{ℕ, zero, suc, _≤_}
 use native.Mathlib.Omega.{arith}
-use borrow.Author.Tests.{eq-eqb, ne-eqb}
 use mathlib.Core.Bool.{Bool, false, cond}
 use mathlib.Core.List.{List, []}
 use mathlib.Core.Logic.{_≢_}
-use mathlib.Core.Option.{none}
 use mathlib.Core.Path.{_≡_, refl, sym, ap, subst, _∙_}
 use lib.ListN.{length}
 use lib.Seq.{sets}
 use Rattle.table.specs.Layout.{tableOf}
 use Rattle.outbox.specs.Outbox.{Record, encodeAll}
 use Rattle.plain.specs.Node.{Node}
-use Rattle.plain.specs.Calls.{Event, Call, Answer, Effect, callNumber, effect, settle, stepIf}
+use Rattle.plain.specs.Calls.{Call, Answer, Effect, callNumber, effect, settle, stepIf, settled, settingsIf}
 use Rattle.plain.specs.History.{step}
 use Rattle.plain.proofs.Numbers.{accepted-call}
 use Rattle.sound.proofs.Histories.{calls-keep-sound}
 use Rattle.state.specs.declared.State.{State}
-use Rattle.state.specs.View.{view, outboxAfter, written}
+use Rattle.state.specs.View.{view, areaWith, settingsWith, outboxAfter, written}
 use Rattle.state.specs.Fit.{isUnfit}
 use Rattle.state.proofs.Becomes.{Sized}
 use Rattle.state.proofs.Stands.{fit-is-sound}
-use Rattle.outcome.specs.Setting.{areaWith, settingsWith}
 use Rattle.promise.specs.declared.Done.{Done}
-use Rattle.promise.specs.Promise.{stepFrom, setBy, setting, timeOf, Kept}
+use Rattle.promise.specs.Promise.{stepFrom, settingsFrom, Kept}
 use Rattle.promise.specs.Leaves.{Leaves}
 
 nothing-written : _≡_ {A = ℕ} 0 (written [])
@@ -33,14 +30,6 @@ nothing-written = refl
 nothing-sent : (outbox : List ℕ) → outbox ≡ outboxAfter outbox []
 unfolding outboxAfter encodeAll
 nothing-sent outbox = refl
-
-nothing-set : (e : Event) (k u : ℕ) (rs : List Record) → k ≢ 0 → none ≡ setting e (record { number = k; used = u; records = rs })
-unfolding setting
-nothing-set e k u rs z = rw (ne-eqb k 0 z) refl
-
-is-set : (e : Event) (u : ℕ) (rs : List Record) → setBy e rs ≡ setting e (record { number = 0; used = u; records = rs })
-unfolding setting
-is-set e u rs = refl
 
 module _ (table : List ℕ) (s : State) (values : List ℕ) (e : Call) where
   abbrev number : ℕ
@@ -58,6 +47,15 @@ module _ (table : List ℕ) (s : State) (values : List ℕ) (e : Call) where
   unfolding stepIf settle
   accepted-step h = rw h refl
 
+  refused-sets : (k : ℕ) → number ≡ k → k ≢ 0 → [] ≡ settingsFrom table s values e
+  unfolding settingsIf settled
+  refused-sets zero h z = absurd (z refl)
+  refused-sets (suc k) h z = rw h refl
+
+  accepted-sets : number ≡ 0 → does .settings ≡ settingsFrom table s values e
+  unfolding settingsIf settled
+  accepted-sets h = rw h refl
+
   pub refuses : (outbox : List ℕ) (k : ℕ) → number ≡ k → k ≢ 0
       → Kept table e s values outbox (record { number = k; used = 0; written = 0; state = s }) values outbox
   refuses outbox k h z =
@@ -68,8 +66,8 @@ module _ (table : List ℕ) (s : State) (values : List ℕ) (e : Call) where
         writes = nothing-written ∙ ap (λ (x : Node × Answer). written (x .1 .records)) (sym q);
         sends = nothing-sent outbox ∙ ap (λ (x : Node × Answer). outboxAfter outbox (x .1 .records)) (sym q);
         short = omega arith;
-        area = unfold areaWith in ap (areaWith values) (nothing-set (e .event) k 0 [] z ∙ ap (λ (x : Node × Answer). setting (e .event) (x .1)) (sym q));
-        settings = unfold settingsWith in ap (settingsWith (s .settings) (timeOf (e .event))) (nothing-set (e .event) k 0 [] z ∙ ap (λ (x : Node × Answer). setting (e .event) (x .1)) (sym q));
+        area = unfold areaWith in ap (areaWith values) (refused-sets k h z);
+        settings = unfold settingsWith in ap (settingsWith (s .settings)) (refused-sets k h z);
         node = ap (λ (x : Node × Answer). x .0) (sym q);
         fit = λ y. absurd (z y);
         refused = λ y. refl;
@@ -95,8 +93,8 @@ module _ (table : List ℕ) (s : State) (values : List ℕ) (e : Call) where
         writes = l .writes ∙ ap (λ (x : Node × Answer). written (x .1 .records)) q;
         sends = l .sends ∙ ap (λ (x : Node × Answer). outboxAfter outbox (x .1 .records)) q;
         short = short;
-        area = l .area ∙ ap (areaWith values) (is-set (e .event) (does .used) (does .records) ∙ ap (λ (x : Node × Answer). setting (e .event) (x .1)) q);
-        settings = l .settings ∙ ap (settingsWith (s .settings) (timeOf (e .event))) (is-set (e .event) (does .used) (does .records) ∙ ap (λ (x : Node × Answer). setting (e .event) (x .1)) q);
+        area = l .area ∙ ap (areaWith values) (accepted-sets h);
+        settings = l .settings ∙ ap (settingsWith (s .settings)) (accepted-sets h);
         node = l .node ∙ ap (λ (x : Node × Answer). x .0) q;
         fit = λ y. l .fit;
         refused = λ y. absurd (y (l .number));

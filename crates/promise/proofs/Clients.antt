@@ -4,7 +4,6 @@ use native.Mathlib.Omega.{arith}
 use native.Mathlib.Nat.{add-zero}
 use mathlib.Core.Bool.{Bool, true, false, cond, _||_, true≢false}
 use mathlib.Core.List.{List, [], _∷_}
-use mathlib.Core.Option.{none}
 use mathlib.Core.Path.{_≡_, refl, sym, ap, _∙_}
 use lib.Dec.{eqb}
 use lib.ListN.{length, take}
@@ -14,18 +13,16 @@ use Rattle.table.specs.Table.{Table}
 use Rattle.table.specs.Search.{parameters}
 use Rattle.outbox.specs.Outbox.{encodeAll}
 use Rattle.plain.specs.Node.{Client, closed, Node, withClient, fresh, receive, clientNumbers}
-use Rattle.plain.specs.Calls.{Event, Open, Close, Piece, Effect, effect, pieceEffect, ended, beforeFeed, hasFeed, usedOf}
+use Rattle.plain.specs.Calls.{Event, Open, Close, Piece, Effect, effect, pieceEffect, ended, endedSets, beforeFeed, hasFeed, usedOf}
 use Rattle.state.specs.declared.Clients.{Clients}
 use Rattle.state.specs.declared.State.{State}
-use Rattle.state.specs.View.{isSet, clientAt, view, outboxAfter, written}
+use Rattle.state.specs.View.{isSet, clientAt, view, areaWith, settingsWith, outboxAfter, written}
 use Rattle.state.specs.Fit.{clientUnfit, settingsUnfit, isUnfit}
 use Rattle.state.proofs.Becomes.{Becomes, Always, Joinable}
 use Rattle.state.proofs.Flags.{neither}
 use Rattle.state.proofs.Kept.{still-fit}
 use Rattle.state.proofs.Views.{client-view}
-use Rattle.outcome.specs.Setting.{settingIn, areaWith, settingsWith}
 use Rattle.promise.specs.declared.Done.{Done}
-use Rattle.promise.specs.Promise.{setBy, timeOf}
 use Rattle.promise.specs.Leaves.{Leaves}
 
 -- ## Fitness
@@ -106,18 +103,18 @@ module _ (table : List ℕ) (s : State) (values : List ℕ) (fit : isUnfit (tabl
   -- client c becomes x, and nothing is sent
   quiet : (e : Event) (x : Client) (u : ℕ) (condition : ℕ → Type 0) → Becomes (s .clients) c x condition r
       → condition (length (tableOf table .modules))
-      → effect (tableOf table) (view table s values) e ≡ record { next = withClient (view table s values) c x; used = u; records = [] }
-      → setBy e [] ≡ none → (outbox : List ℕ)
+      → effect (tableOf table) (view table s values) e ≡ record { next = withClient (view table s values) c x; settings = []; used = u; records = [] }
+      → (outbox : List ℕ)
       → Leaves table s values e outbox (record { number = 0; used = u; written = 0; state = next }) values outbox
   unfolding written outboxAfter encodeAll areaWith settingsWith
-  quiet e x u condition b h f g outbox =
+  quiet e x u condition b h f outbox =
       record {
         number = refl;
         used = ap (λ (y : Effect). y .used) (sym f);
         writes = ap (λ (y : Effect). written (y .records)) (sym f);
         sends = ap (λ (y : Effect). outboxAfter outbox (y .records)) (sym f);
-        area = ap (areaWith values) (sym g ∙ ap (λ (y : Effect). setBy e (y .records)) (sym f));
-        settings = ap (settingsWith (s .settings) (timeOf e)) (sym g ∙ ap (λ (y : Effect). setBy e (y .records)) (sym f));
+        area = ap (λ (y : Effect). areaWith values (y .settings)) (sym f);
+        settings = ap (λ (y : Effect). settingsWith (s .settings) (y .settings)) (sym f);
         node = client-view table s values b ∙ ap (λ (y : Effect). y .next) (sym f);
         fit = with-clients (tableOf table) s values r fit
             (still-fit (length (tableOf table .modules)) b h (fit-parts (tableOf table) s values fit .1));
@@ -125,22 +122,21 @@ module _ (table : List ℕ) (s : State) (values : List ℕ) (fit : isUnfit (tabl
 
   pub opens : Becomes (s .clients) c fresh Always r
       → Leaves table s values (Open c t) [] (record { number = 0; used = 0; written = 0; state = next }) values []
-  unfolding effect setBy
-  opens b = quiet (Open c t) fresh 0 Always b tt refl refl []
+  unfolding effect
+  opens b = quiet (Open c t) fresh 0 Always b tt refl []
 
   pub closes : Becomes (s .clients) c closed Always r
       → Leaves table s values (Close c t) [] (record { number = 0; used = 0; written = 0; state = next }) values []
-  unfolding effect setBy
-  closes b = quiet (Close c t) closed 0 Always b tt refl refl []
+  unfolding effect
+  closes b = quiet (Close c t) closed 0 Always b tt refl []
 
   pub joins : (bs outbox : List ℕ) → isSet (s .clients .open) c ≡ true → hasFeed bs ≡ false
       → Becomes (s .clients) c (receive (clientAt (s .clients) c) (beforeFeed bs)) (Joinable (s .clients) c (beforeFeed bs)) r
       → Leaves table s values (Piece c bs t) outbox
       (record { number = 0; used = length (beforeFeed bs); written = 0; state = next }) values outbox
-  unfolding effect setBy pieceEffect usedOf ended view
+  unfolding effect pieceEffect usedOf ended endedSets view
   joins bs outbox o f b =
       quiet (Piece c bs t) (receive (clientAt (s .clients) c) (beforeFeed bs)) (length (beforeFeed bs)) (Joinable (s .clients) c (beforeFeed bs)) b
       (record { isOpen = o; noFeed = no-feed-before bs })
-      (rw f (ap (λ (k : ℕ). record { next = withClient (view table s values) c (receive (clientAt (s .clients) c) (beforeFeed bs)); used = k; records = [] }) (add-zero (length (beforeFeed bs)))))
-      (unfold settingIn in refl)
+      (rw f (ap (λ (k : ℕ). record { next = withClient (view table s values) c (receive (clientAt (s .clients) c) (beforeFeed bs)); settings = []; used = k; records = [] }) (add-zero (length (beforeFeed bs)))))
       outbox

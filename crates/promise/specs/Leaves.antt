@@ -6,11 +6,9 @@ use mathlib.Core.Path.{_≡_}
 use Rattle.table.specs.Layout.{tableOf}
 use Rattle.plain.specs.Calls.{Event, Effect, effect}
 use Rattle.state.specs.declared.State.{State}
-use Rattle.state.specs.View.{view, outboxAfter, written}
+use Rattle.state.specs.View.{view, areaWith, settingsWith, outboxAfter, written}
 use Rattle.state.specs.Fit.{isUnfit}
-use Rattle.outcome.specs.Setting.{areaWith, settingsWith}
 use Rattle.promise.specs.declared.Done.{Done}
-use Rattle.promise.specs.Promise.{setBy, timeOf}
 
 -- the plain node's effect, from the node that a state stands for
 abbrev pub effectFrom : List ℕ → State → List ℕ → Event → Effect
@@ -22,7 +20,7 @@ pub record Leaves (table : List ℕ) (s : State) (values : List ℕ) (e : Event)
   pub used : r .used ≡ effectFrom table s values e .used
   pub writes : r .written ≡ written (effectFrom table s values e .records)
   pub sends : outbox′ ≡ outboxAfter outbox (effectFrom table s values e .records)
-  pub area : values′ ≡ areaWith values (setBy e (effectFrom table s values e .records))
-  pub settings : r .state .settings ≡ settingsWith (s .settings) (timeOf e) (setBy e (effectFrom table s values e .records))
+  pub area : values′ ≡ areaWith values (effectFrom table s values e .settings)
+  pub settings : r .state .settings ≡ settingsWith (s .settings) (effectFrom table s values e .settings)
   pub node : view table (r .state) values′ ≡ effectFrom table s values e .next
   pub fit : isUnfit (tableOf table) (r .state) values′ ≡ false

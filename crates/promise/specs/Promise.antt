@@ -3,19 +3,15 @@ use Prim.Native.Nat.{ℕ, _≤_}
 use mathlib.Core.Bool.{false, cond}
 use mathlib.Core.List.{List}
 use mathlib.Core.Logic.{_≢_}
-use mathlib.Core.Option.{Option, none, some}
 use mathlib.Core.Path.{_≡_}
 use lib.Dec.{eqb}
 use lib.ListN.{length, replicate}
-use Rattle.fit.specs.Fit.{storedForm}
 use Rattle.table.specs.Layout.{tableOf}
-use Rattle.outbox.specs.Outbox.{Record}
-use Rattle.plain.specs.Node.{Node}
-use Rattle.plain.specs.Calls.{Event, Open, Close, Piece, Reading, Call, Answer, startNumber, started, stepIf}
+use Rattle.plain.specs.Node.{Node, Setting}
+use Rattle.plain.specs.Calls.{Call, Answer, startNumber, started, stepIf, settingsIf}
 use Rattle.state.specs.declared.State.{State}
-use Rattle.state.specs.View.{view, outboxAfter, written}
+use Rattle.state.specs.View.{view, areaWith, settingsWith, outboxAfter, written}
 use Rattle.state.specs.Fit.{isUnfit}
-use Rattle.outcome.specs.Setting.{Setting, settingIn, areaWith, settingsWith}
 use Rattle.promise.specs.declared.Done.{Done}
 
 -- ## After a start
@@ -24,23 +20,9 @@ use Rattle.promise.specs.declared.Done.{Done}
 abbrev pub stepFrom : List ℕ → State → List ℕ → Call → Node × Answer
 stepFrom table s values e = stepIf table (isUnfit (tableOf table) s values) (view table s values) e
 
--- what an accepted event sets that wrote these records: a line that changes a parameter, or a reading
-unfoldable pub setBy : Event → List Record → Option Setting
-setBy (Open c t) rs = none
-setBy (Close c t) rs = none
-setBy (Piece c bs t) rs = settingIn rs
-setBy (Reading p bs t) rs = some (p, storedForm bs)
-
--- a refused one sets nothing
-unfoldable pub setting : Event → Answer → Option Setting
-setting e a = cond (eqb (a .number) 0) (setBy e (a .records)) none
-
--- the time of an event
-unfoldable pub timeOf : Event → ℕ
-timeOf (Open c t) = t
-timeOf (Close c t) = t
-timeOf (Piece c bs t) = t
-timeOf (Reading p bs t) = t
+-- what that step sets
+abbrev pub settingsFrom : List ℕ → State → List ℕ → Call → List Setting
+settingsFrom table s values e = settingsIf table (isUnfit (tableOf table) s values) (view table s values) e
 
 -- What the call e promises: handed the state s, the values area and the outbox, it answers r, and leaves values′ and outbox′. Of the next
 -- state two things are left free: the bytes of a line's place past the line, and what stands for "yes" in a flag.
@@ -51,8 +33,8 @@ pub record Kept (table : List ℕ) (e : Call) (s : State) (values outbox : List 
   pub sends : outbox′ ≡ outboxAfter outbox (stepFrom table s values e .1 .records)
   -- "No accepted call writes more than 32,019 bytes."
   pub short : r .written ≤ 32019
-  pub area : values′ ≡ areaWith values (setting (e .event) (stepFrom table s values e .1))
-  pub settings : r .state .settings ≡ settingsWith (s .settings) (timeOf (e .event)) (setting (e .event) (stepFrom table s values e .1))
+  pub area : values′ ≡ areaWith values (settingsFrom table s values e)
+  pub settings : r .state .settings ≡ settingsWith (s .settings) (settingsFrom table s values e)
   pub node : view table (r .state) values′ ≡ stepFrom table s values e .0
   pub fit : r .number ≡ 0 → isUnfit (tableOf table) (r .state) values′ ≡ false
   pub refused : r .number ≢ 0 → r .state ≡ s

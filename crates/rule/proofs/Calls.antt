@@ -32,22 +32,22 @@ use Rattle.rule.proofs.Outcomes.{outcome-holds}
 
 abbrev pub replyTo : Parts → Outcome → Reply
 replyTo p (refused x) = error (p .action) (p .specifier) x
-replyTo p (carried m rs r) = r
+replyTo p (carried m ss rs r) = r
 
 -- the records before the reply
 abbrev pub before : Outcome → List Record
 before (refused x) = []
-before (carried m rs r) = rs
+before (carried m ss rs r) = rs
 
 abbrev pub nodeAfter : Node → Outcome → Node
 nodeAfter n (refused x) = n
-nodeAfter n (carried m rs r) = m
+nodeAfter n (carried m ss rs r) = m
 
 pub concluded : (w : Table) (n : Node) (c now : ℕ) (p : Parts) (o : Outcome)
     → conclude w n c now p o ≡ (nodeAfter n o, before o ++ (final c (replyTo p o) ∷ []))
 unfolding conclude
 concluded w n c now p (refused x) = refl
-concluded w n c now p (carried m rs r) = refl
+concluded w n c now p (carried m ss rs r) = refl
 
 -- there is no final reply before the reply
 pub quiet : (w : Table) (n : Node) (c now : ℕ) (r : Request) → NoFinal (before (outcome w n c now r))

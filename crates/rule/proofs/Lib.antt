@@ -5,3 +5,4 @@ pub mod Replies
 pub mod Rule
 pub mod Lines
 pub mod Good
+pub mod Settings

@@ -185,7 +185,7 @@ activated-line f closed = refl
 activated-line f (connected l a) = refl
 
 touched : (n : Node) (c : ℕ) (f : ℕ → Bool) (rs : List Record) (r : Reply)
-    → Leaves n c (carried (withClient n c (activated f (n .clients c))) rs r)
+    → Leaves n c (carried (withClient n c (activated f (n .clients c))) [] rs r)
 touched n c f rs r =
     record {
       line = ap lineOf (put-same (n .clients) c _) ∙ activated-line f (n .clients c);

@@ -56,7 +56,7 @@ abbrev pub doneOf : Placed Command → ℕ → Report
 doneOf p now = record { moduleName = p .moduleName; accessible = p .it .name; value = bytes "null"; time = now }
 
 abbrev pub ordering : Node → ℕ → ℕ → ℕ × Placed Command → List ℕ → Outcome
-ordering n c now k v = carried n (orderCommand c (k .0) (argumentForm (k .1 .it .argument) v) ∷ []) (done (doneOf (k .1) now))
+ordering n c now k v = carried n [] (orderCommand c (k .0) (argumentForm (k .1 .it .argument) v) ∷ []) (done (doneOf (k .1) now))
 
 -- a change that was asked for and is let in: of parameter k, to the text v
 pub record LetIn (w : Table) (k : ℕ × Placed Parameter) (v : List ℕ) : Type 0 where
@@ -66,7 +66,7 @@ pub record LetIn (w : Table) (k : ℕ × Placed Parameter) (v : List ℕ) : Type
 
 module _ (P : Request → Outcome → Type 0) (w : Table) (n : Node) (c now : ℕ)
     (bad : (r : Request) (x : Class) → P r (refused x))
-    (simply : (r : Request) (s : Reply) → Simple s → P r (carried n [] s))
+    (simply : (r : Request) (s : Reply) → Simple s → P r (carried n [] [] s))
     (reading : (k : ℕ × Placed Parameter) → getElem? (parameters w) (k .0) ≡ some (k .1)
     → P (read (k .1 .moduleName) (k .1 .it .name)) (reads w n c now k))
     (activating : (m : Option (List ℕ)) → P (activate m) (activates w n c now (inScopeOf w m) m))

@@ -74,7 +74,7 @@ module _ {A : Type 0} where
 
 abbrev NoError : Outcome → Type 0
 NoError (refused x) = Unit {0}
-NoError (carried m rs r) = kindOf r ≡ an-error → ⊥
+NoError (carried m ss rs r) = kindOf r ≡ an-error → ⊥
 
 no-error : (w : Table) (n : Node) (c now : ℕ) (r : Request) → NoError (outcome w n c now r)
 unfolding activates deactivates reads sets
@@ -102,7 +102,7 @@ altered n m rs c p (refused x) r i h e f g =
       values = ap (λ (y : Node). y .values) e;
       clients = ap (λ (y : Node). y .clients) e;
     }
-altered n m rs c p (carried y l q) r i h e f g = absurd (h (ap kindOf (sym g) ∙ i))
+altered n m rs c p (carried y ss l q) r i h e f g = absurd (h (ap kindOf (sym g) ∙ i))
 
 altered-line : {w : Table} {n m : Node} {rs : List Record} {c : ℕ} {r : Reply} {e : Event} → Line-of w n m rs c r e → kindOf r ≡ an-error
     → AltersNothing n m rs c r

@@ -18,9 +18,9 @@ use Rattle.table.specs.Table.{Parameter, Command, parameter, Module, Table}
 use Rattle.table.specs.Layout.{tableOf}
 use Rattle.table.specs.Search.{Placed, parameters, commands, findParameter, findCommand}
 use Rattle.outbox.specs.Outbox.{Record, final, update, orderChange, orderCommand}
-use Rattle.plain.specs.Node.{Value, Node, put, withClient, isOpen, isActive, lineOf, receive, emptied, reportOf, clientNumbers, updatesTo, updatesOf}
+use Rattle.plain.specs.Node.{Value, Node, put, withClient, setValues, isOpen, isActive, lineOf, receive, emptied, reportOf, clientNumbers, updatesTo, updatesOf}
 use Rattle.plain.specs.Answer.{argumentVerdict, argumentForm}
-use Rattle.plain.specs.Calls.{Event, Piece, Reading, Lent, Call, Answer, beforeFeed, hasFeed, usedOf}
+use Rattle.plain.specs.Calls.{Event, Piece, Reading, Lent, Call, Answer, beforeFeed, hasFeed, usedOf, settingsIf}
 use Rattle.plain.specs.History.{step}
 use Rattle.rule.specs.Records.{updatesFor, repliesFor, feedsUsed, inScopeOf, isThere, reportsOf, activeAfter}
 
@@ -113,6 +113,10 @@ pub data BySetting : Event → Answer → Type 0 where
 abbrev pub ValuesAlterBySettings : Type 0
 ValuesAlterBySettings = (table : List ℕ) (n : Node) (e : Call)
     → (step table n e .0 .values ≡ n .values) ⊎ BySetting (e .event) (step table n e .1)
+
+-- What a call sets, one after another, is all that alters a value or its time.
+abbrev pub SettingsAreAll : Type 0
+SettingsAreAll = (table : List ℕ) (n : Node) (e : Call) → step table n e .0 .values ≡ setValues (n .values) (settingsIf table false n e)
 
 -- `activate` that is replied to by `active` sends its client an update for each parameter of the modules in scope, in table order, and
 -- nobody else any.

@@ -1,6 +1,6 @@
 ghost use mathlib.Core.Bool.{true};
 ghost use mathlib.Core.Path.{_≡_};
-ghost use Rattle.rule.specs.Theorems.{UpdatesGoToActiveClients, ChangesAreSentToAll, GoodChangesAreMade, ReadingsAreSentToAll, ValuesAlterBySettings, ActivationsSendAll, GoodActivationsAreMade, ActivationsAreOnesOwn, ParametersBelong, OneReplyForEachLine, PiecesAreUsed, ReadsAreTrue, GoodReadsAreAnswered, CommandsAreOrdered, GoodCommandsAreOrdered, ErrorsAlterNothing, RefusalsAlterNothing};
+ghost use Rattle.rule.specs.Theorems.{UpdatesGoToActiveClients, ChangesAreSentToAll, GoodChangesAreMade, ReadingsAreSentToAll, ValuesAlterBySettings, SettingsAreAll, ActivationsSendAll, GoodActivationsAreMade, ActivationsAreOnesOwn, ParametersBelong, OneReplyForEachLine, PiecesAreUsed, ReadsAreTrue, GoodReadsAreAnswered, CommandsAreOrdered, GoodCommandsAreOrdered, ErrorsAlterNothing, RefusalsAlterNothing};
 
 // Each function here promises a theorem about the definitions. Nothing is run.
 
@@ -35,6 +35,13 @@ pub fn readings_are_sent_to_all() -> bool
 // Nothing else alters a value.
 pub fn values_alter_by_settings() -> bool
     ensures { λ r. ⌜ (r ≡ true) × ValuesAlterBySettings ⌝ }
+{
+    true
+}
+
+// What a call sets is all that alters a value.
+pub fn settings_are_all() -> bool
+    ensures { λ r. ⌜ (r ≡ true) × SettingsAreAll ⌝ }
 {
     true
 }

@@ -15,7 +15,7 @@ use Rattle.message.specs.Request.{Request, identify, describe, ping, activate, 
 use Rattle.message.specs.Error.{Class, NoSuchModule, NoSuchParameter, NoSuchCommand, ReadOnly}
 use Rattle.message.specs.Reply.{Report, Reply, active, inactive, changed}
 use Rattle.outbox.specs.Outbox.{Record, orderChange}
-use Rattle.plain.specs.Node.{Client, closed, connected, Value, Node, put, withClient, withValue, isOpen, isActive, activated, reportOf, clientNumbers, updatesTo, updatesOf}
+use Rattle.plain.specs.Node.{Client, closed, connected, Value, Node, put, withClient, Setting, settingValue, withSettings, isOpen, isActive, activated, reportOf, clientNumbers, updatesTo, updatesOf}
 use Rattle.plain.specs.Answer.{Outcome, refused, carried, found, letIn, argumentVerdict, activates, deactivates, inScope, reads, sets, changes, does, outcome, conclude, answerParts}
 
 -- a client, and a node, with other unfinished lines
@@ -28,12 +28,12 @@ weave n s = record { clients = λ d. relined (n .clients d) (s d); values = n .v
 
 abbrev woven : (ℕ → Line) → Outcome → Outcome
 woven s (refused e) = refused e
-woven s (carried m rs r) = carried (weave m s) rs r
+woven s (carried m ss rs r) = carried (weave m s) ss rs r
 
 -- the same clients are open as at the node n
 abbrev Kept : Node → Outcome → Type 0
 Kept n (refused e) = Unit {0}
-Kept n (carried m rs r) = (d : ℕ) → isOpen (m .clients d) ≡ isOpen (n .clients d)
+Kept n (carried m ss rs r) = (d : ℕ) → isOpen (m .clients d) ≡ isOpen (n .clients d)
 
 -- what is claimed of each way to an outcome
 abbrev Through : (Node → Outcome) → Type 0
@@ -93,10 +93,10 @@ module _ (w : Table) (c now : ℕ) where
 
   -- a change of the client's active modules
   through-active : (f : (ℕ → Bool) → ℕ → Bool) (rs : (ℕ → Value) → List Record) (r : Reply)
-      → Through (λ n. carried (withClient n c (activated (f (isActive (n .clients c))) (n .clients c))) (rs (n .values)) r)
+      → Through (λ n. carried (withClient n c (activated (f (isActive (n .clients c))) (n .clients c))) [] (rs (n .values)) r)
   unfolding isActive activated isOpen
   through-active f rs r n s = (
-    ap (λ m. carried m (rs (n .values)) r)
+    ap (λ m. carried m [] (rs (n .values)) r)
         (ap (withClient (weave n s) c) (same (n .clients c) (s c))
         ∙ weave-put n s c (activated (f (isActive (n .clients c))) (n .clients c)) (s c)
         ∙ ap (weave (withClient n c (activated (f (isActive (n .clients c))) (n .clients c)))) (put-same s c)),
@@ -114,9 +114,10 @@ module _ (w : Table) (c now : ℕ) where
   through-sets : (k : ℕ × Placed Parameter) (v : List ℕ) → Through (λ n. sets w n c now k v)
   unfolding sets
   through-sets k v n s =
-      let x : Value = record { text = v; time = now } in (
+      let y : Setting = record { parameter = k .0; text = v; time = now } in
+      let x = settingValue y in (
         ap
-            (λ l. carried (withValue (weave n s) (k .0) x) (orderChange c (k .0) v ∷ l) (changed (reportOf (k .1) x)))
+            (λ l. carried (withSettings (weave n s) (y ∷ [])) (y ∷ []) (orderChange c (k .0) v ∷ l) (changed (reportOf (k .1) x)))
             (updates-woven (n .clients) s (k .1 .home) (reportOf (k .1) x) clientNumbers),
         λ d. refl,
       )
@@ -161,7 +162,7 @@ module _ (w : Table) (c now : ℕ) where
     where
       go : (o : Outcome) → conclude w (weave n s) c now p (woven s o) ≡ (weave (conclude w n c now p o .0) s, conclude w n c now p o .1)
       go (refused e) = refl
-      go (carried m rs r) = refl
+      go (carried m ss rs r) = refl
 
   pub answered-open : (p : Parts) (n : Node) (d : ℕ) → isOpen (answerParts w n c now p .0 .clients d) ≡ isOpen (n .clients d)
   unfolding answerParts conclude
@@ -169,4 +170,4 @@ module _ (w : Table) (c now : ℕ) where
     where
       go : (o : Outcome) → Kept n o → isOpen (conclude w n c now p o .0 .clients d) ≡ isOpen (n .clients d)
       go (refused e) h = refl
-      go (carried m rs r) h = h d
+      go (carried m ss rs r) h = h d

@@ -26,7 +26,7 @@ use Rattle.table.specs.Search.{Placed, parameters, commands, first, findModule,
 use Rattle.report.specs.Report.{report}
 use Rattle.report.specs.Judge.{lowest}
 use Rattle.report.proofs.Faults.{no-fault, lowest-none}
-use Rattle.plain.specs.Node.{closed, Value, Node, withClient, withValue, fresh, lineOf, receive, emptied, reportOf, clientNumbers, updatesTo}
+use Rattle.plain.specs.Node.{closed, Value, Node, withClient, withValue, Setting, fresh, lineOf, receive, emptied, reportOf, clientNumbers, updatesTo}
 use Rattle.plain.specs.Answer.{Outcome, refused, carried, found, letIn, argumentVerdict, argumentForm, activates, deactivates, inScope, reads, sets, changes, does, outcome, conclude, answerParts, answer}
 use Rattle.plain.specs.Calls.{Event, Open, Close, Piece, Reading, Call, readingVerdict, ownFaults, callNumber, beforeFeed, hasFeed, ended, Effect, pieceEffect, readingEffect, effect, settle, stepIf}
 use Rattle.plain.specs.History.{step}
@@ -47,7 +47,7 @@ pub record Kept (w : Table) (n : Node) (rs : List Record) : Type 0 where
 -- what is left and written where a request comes to this; an error is for `concluded`
 abbrev pub Comes : Table → ℕ → Outcome → Type 0
 Comes w c (refused e) = Unit {0}
-Comes w c (carried m rs r) = Kept w m (rs ++ (final c r ∷ []))
+Comes w c (carried m ss rs r) = Kept w m (rs ++ (final c r ∷ []))
 
 -- ## Lines, on an accepted table, at a sound node
 
@@ -78,16 +78,16 @@ module _ (w : Table) (a : Accepted w) (n : Node) (s : Sound w n) where
 
   -- requests of client c at the time t
   module _ (c : ℕ) (low : c ≤ 7) (t : ℕ) (h : t ≤ latest) where
-    comes : (m : Node) (rs : List Record) (r : Reply) (j k : ℕ) → Sound w m → Written rs j → Says r k → j + (k + 6) ≤ 32019
-        → Comes w c (carried m rs r)
-    comes m rs r j k u v x i =
+    comes : (m : Node) (ss : List Setting) (rs : List Record) (r : Reply) (j k : ℕ) → Sound w m → Written rs j → Says r k → j + (k + 6) ≤ 32019
+        → Comes w c (carried m ss rs r)
+    comes m ss rs r j k u v x i =
         record {
           sound = u;
           written = written-within 32019 i (written-append rs (final c r ∷ []) j (k + 6) v (written-final c r k x));
         }
 
-    only : (r : Reply) (k : ℕ) → Says r k → k ≤ 32013 → Comes w c (carried n [] r)
-    only r k x i = comes n [] r 0 k s written-none x (omega arith)
+    only : (r : Reply) (k : ℕ) → Says r k → k ≤ 32013 → Comes w c (carried n [] [] r)
+    only r k x i = comes n [] [] r 0 k s written-none x (omega arith)
 
     comes-found : {A : Type 0} (e : Class) (o : Option A) (f : A → Outcome) → ((x : A) → o ≡ some x → Comes w c (f x))
         → Comes w c (found e o f)
@@ -115,14 +115,14 @@ module _ (w : Table) (a : Accepted w) (n : Node) (s : Sound w n) where
     comes-activates wanted m e =
         let there : (j : ℕ) (p : Placed Parameter) → getElem? (parameters w) j ≡ some p → Fine (reportOf p (n .values (0 + j))) =
         λ j p q. rw zero-add (fine j p q (n .values j) (s .values j p q)) in
-        comes _ _ (active m) (length (parameters w) * 420) 70
+        comes _ [] _ (active m) (length (parameters w) * 420) 70
         (with-client w n c _ low (more-active w (n .clients c) wanted (s .clients c)) s)
         (written-of c wanted (n .values) 0 (parameters w) there) (says-active m e) (omega (arith, a .few))
 
     pub comes-deactivates : (wanted : ℕ → Bool) (m : Option (List ℕ)) → Named m → Comes w c (deactivates w n c t wanted m)
     unfolding deactivates
     comes-deactivates wanted m e =
-        comes _ [] (inactive m) 0 72
+        comes _ [] [] (inactive m) 0 72
         (with-client w n c _ low (less-active w (n .clients c) wanted (s .clients c)) s) written-none (says-inactive m e) (omega arith)
 
     comes-inScope : (f : (ℕ → Bool) → Option (List ℕ) → Outcome)
@@ -151,7 +151,7 @@ module _ (w : Table) (a : Accepted w) (n : Node) (s : Sound w n) where
         let order = orderChange c (k .0) (storedForm v) in
         let updates = updatesTo (n .clients) (k .1 .home) r clientNumbers in
         let told = written-one order 262 tt (omega (arith, stored-short (k .1 .it .datainfo) v f)) in
-        comes (withValue n (k .0) x) (order ∷ updates) (changed r) 3622 415
+        comes (withValue n (k .0) x) (record { parameter = k .0; text = storedForm v; time = t } ∷ []) (order ∷ updates) (changed r) 3622 415
         (new-node (k .0) (k .1) e v f t h)
         (written-append (order ∷ []) updates 262 3360 told (new-updates (k .0) (k .1) e v f t h))
         (says-changed r (fine (k .0) (k .1) e x (new-value (k .0) (k .1) e v f t h)))
@@ -168,10 +168,10 @@ module _ (w : Table) (a : Accepted w) (n : Node) (s : Sound w n) where
     comes-does v k e =
         let x = argumentForm (k .1 .it .argument) v in
         let r : Report = record { moduleName = k .1 .moduleName; accessible = k .1 .it .name; value = bytes "null"; time = t } in
-        comes-letIn (argumentVerdict (k .1 .it .argument) v) (carried n (orderCommand c (k .0) x ∷ []) (done r)) λ f.
+        comes-letIn (argumentVerdict (k .1 .it .argument) v) (carried n [] (orderCommand c (k .0) x ∷ []) (done r)) λ f.
         let told = written-one (orderCommand c (k .0) x) 262 tt (omega (arith, argument-short (k .1 .it .argument) v f)) in
         let names = each-at GoodCommand (commands w) (a .allCommands) (k .0) (k .1) e in
-        comes n (orderCommand c (k .0) x ∷ []) (done r) 262 415 s told
+        comes n [] (orderCommand c (k .0) x ∷ []) (done r) 262 415 s told
         (says-done r (record { names = names; small = omega arith; inTime = h })) (omega arith)
 
     comes-outcome : (r : Request) → Asked r → Comes w c (outcome w n c t r)
@@ -190,9 +190,9 @@ module _ (w : Table) (a : Accepted w) (n : Node) (s : Sound w n) where
         → Kept w (conclude w n c t p o .0) (conclude w n c t p o .1)
     unfolding conclude
     concluded p q (refused e) i =
-        comes n [] (error (p .action) (p .specifier) e) 0 2120 s written-none
+        comes n [] [] (error (p .action) (p .specifier) e) 0 2120 s written-none
         (says-error (p .action) (p .specifier) e (q .0 .0) (q .1 .0) (q .0 .1) (q .1 .1)) (omega arith)
-    concluded p q (carried m rs r) i = i
+    concluded p q (carried m ss rs r) i = i
 
     answered-parts : (p : Parts) → ShortWord (p .action) × ShortWord (p .specifier)
         → Kept w (answerParts w n c t p .0) (answerParts w n c t p .1)

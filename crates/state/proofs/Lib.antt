@@ -11,3 +11,4 @@ pub mod Kept
 pub mod Settled
 pub mod Stands
 pub mod Views
+pub mod Sets

@@ -2,7 +2,7 @@
 -- answers with"). Assumes nothing.
 use Prim.Native.Nat.{ℕ, _*_, _/_, _%_, _^_}
 use mathlib.Core.Bool.{Bool, cond, not}
-use mathlib.Core.List.{List, []}
+use mathlib.Core.List.{List, [], _∷_}
 use mathlib.Core.Option.{Option, none, some}
 use lib.Dec.{eqb}
 use lib.ListN.{length, getD, set, take, drop, getElem?}
@@ -14,7 +14,7 @@ use Rattle.table.specs.declared.layout.Part.{Part}
 use Rattle.table.specs.Layout.{tableOf}
 use Rattle.table.specs.Search.{Placed, parameters}
 use Rattle.outbox.specs.Outbox.{Record, encodeAll}
-use Rattle.plain.specs.Node.{Client, closed, connected, Value, Node}
+use Rattle.plain.specs.Node.{Client, closed, connected, Value, Node, Setting}
 use Rattle.state.specs.declared.Clients.{Clients}
 use Rattle.state.specs.declared.Settings.{Settings}
 use Rattle.state.specs.declared.State.{State}
@@ -76,6 +76,16 @@ withStored values p text = sets values (placeOf p) text
 -- "A stored value carries the time of the event that set it.": lengths and times after parameter p was set to a value of so many bytes
 abbrev pub withLength : Settings → ℕ → ℕ → ℕ → Settings
 withLength s p size time = record { length = set (s .length) p size; time = set (s .time) p time }
+
+-- the values area, where what is set is stored, one setting after another, and nothing else is written
+unfoldable pub areaWith : List ℕ → List Setting → List ℕ
+areaWith values [] = values
+areaWith values (x ∷ xs) = areaWith (withStored values (x .parameter) (x .text)) xs
+
+-- lengths and times, where what is set gets its time
+unfoldable pub settingsWith : Settings → List Setting → Settings
+settingsWith s [] = s
+settingsWith s (x ∷ xs) = settingsWith (withLength s (x .parameter) (length (x .text)) (x .time)) xs
 
 -- "An accepted call leaves outbox bytes past its written length untouched.": the outbox after a call that writes these records, and the
 -- written length

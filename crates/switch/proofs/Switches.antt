@@ -38,7 +38,6 @@ use Rattle.state.specs.Fit.{pastLast}
 use Rattle.state.proofs.Becomes.{Sized}
 use Rattle.state.proofs.Masks.{no-bit, past-last, not-past}
 use Rattle.state.proofs.Stands.{fit-is-sound}
-use Rattle.outcome.specs.Setting.{settingIn}
 use Rattle.outcome.specs.Outcome.{Activates, Refuses}
 use Rattle.outcome.specs.Ready.{Ready}
 
@@ -91,18 +90,6 @@ unfolding isActive
 held-low w closed h j l = refl
 held-low w (connected m a) h j l = h .1 j l
 
--- updates, then a reply, hold no setting
-unset : (c : ℕ) (wanted : ℕ → Bool) (f : ℕ → Value) (k : ℕ) (ps : List (Placed Parameter)) (r : Reply)
-    → settingIn (updatesOf c wanted f k ps ++ (final c r ∷ [])) ≡ none
-unfolding updatesOf settingIn
-unset c wanted f k [] r = refl
-unset c wanted f k (p ∷ ps) r = go (wanted (p .home)) (unset c wanted f (suc k) ps r)
-  where
-    go : (b : Bool) → settingIn (updatesOf c wanted f (suc k) ps ++ (final c r ∷ [])) ≡ none
-        → settingIn ((cond b (update c (reportOf p (f k)) ∷ []) [] ++ updatesOf c wanted f (suc k) ps) ++ (final c r ∷ [])) ≡ none
-    go true h = refl
-    go false h = h
-
 -- ## Outcomes
 
 -- no module has the name
@@ -137,17 +124,15 @@ module _ (w : Table) (n : Node) (c t : ℕ) (before after values : List ℕ) whe
       (f : ℕ → Bool) (rs : List Record) (r : Reply) (mask written : ℕ)
       → ((i : ℕ) → bit mask i ≡ f i) → ((i : ℕ) → length (w .modules) ≤ i → f i ≡ false)
       → Puts before 0 (encodeAll (rs ++ (final c r ∷ []))) after written
-      → settingIn (rs ++ (final c r ∷ [])) ≡ none
-      → Activates w n c t before after values values (carried (withClient n c (activated f (n .clients c))) rs r) mask written
-  switched f rs r mask written h k p q =
+      → Activates w n c t before after values values (carried (withClient n c (activated f (n .clients c))) [] rs r) mask written
+  switched f rs r mask written h k p =
       record {
         carries =
             record {
               records = rs;
               reply = r;
-              is = ap (λ (g : ℕ → Bool). carried (withClient n c (activated g (n .clients c))) rs r) (sym (fun-ext h));
+              is = ap (λ (g : ℕ → Bool). carried (withClient n c (activated g (n .clients c))) [] rs r) (sym (fun-ext h));
               puts = p;
-              sets = q;
             };
         unstored = refl;
         low = past-last mask (length (w .modules)) λ j l. h j ∙ k j l;
@@ -156,13 +141,12 @@ module _ (w : Table) (n : Node) (c t : ℕ) (before after values : List ℕ) whe
   pub all-inactive :
       (written : ℕ) → Puts before 0 (encode (final c (inactive none))) after written
       → Activates w n c t before after values values (outcome w n c t (deactivate none)) 0 written
-  unfolding outcome inScope deactivates settingIn
+  unfolding outcome inScope deactivates
   all-inactive written p =
       switched (λ i. isActive (n .clients c) i && not true) [] (inactive none) 0 written
       (λ i. no-bit i ∙ sym (and-none (isActive (n .clients c) i)))
       (λ i l. and-none (isActive (n .clients c) i))
       (puts-after [] (final c (inactive none)) before before 0 (puts-none before) after written p)
-      refl
 
   pub one-inactive :
       (name : List ℕ) (i : ℕ) (m : Module) → findModule w name ≡ some (i, m)
@@ -170,14 +154,13 @@ module _ (w : Table) (n : Node) (c t : ℕ) (before after values : List ℕ) whe
       → (next : ℕ) → ((j : ℕ) → bit next j ≡ bit mask j && not (eqb j i))
       → (written : ℕ) → Puts before 0 (encode (final c (inactive (some name)))) after written
       → Activates w n c t before after values values (outcome w n c t (deactivate (some name))) next written
-  unfolding outcome inScope found deactivates settingIn
+  unfolding outcome inScope found deactivates
   one-inactive name i m e mask low h next k written p =
       rw e
       (switched (λ j. isActive (n .clients c) j && not (eqb j i)) [] (inactive (some name)) next written
       (λ j. k j ∙ ap (λ (b : Bool). b && not (eqb j i)) (sym (h j)))
       (λ j l. ap (λ (b : Bool). b && not (eqb j i)) (h j ∙ not-past mask (length (w .modules)) low j l))
-      (puts-after [] (final c (inactive (some name))) before before 0 (puts-none before) after written p)
-      refl)
+      (puts-after [] (final c (inactive (some name))) before before 0 (puts-none before) after written p))
 
   -- the modules of a scope too
   module _ (s : Sound w n) (mask : ℕ) (h : (j : ℕ) → isActive (n .clients c) j ≡ bit mask j) (mid : List ℕ) (p written : ℕ) where
@@ -194,7 +177,6 @@ module _ (w : Table) (n : Node) (c t : ℕ) (before after values : List ℕ) whe
         (λ j. k j ∙ ap (λ (b : Bool). b || (ltb j (length (w .modules)) && wanted j)) (sym (h j)))
         (λ j l. rw (held-low w (n .clients c) (s .clients c) j l, le-ltb j (length (w .modules)) l))
         (puts-after (updatesOf c wanted (n .values) 0 (parameters w)) (final c (active m)) before mid p x after written y)
-        (unset c wanted (n .values) 0 (parameters w) (active m))
 
     all-active :
         (next : ℕ) → ((j : ℕ) → bit next j ≡ bit mask j || ltb j (length (w .modules)))

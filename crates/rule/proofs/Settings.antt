@@ -1,0 +1,75 @@
+-- What a call sets is all that alters a value. Assumes nothing.
+use Prim.Native.Nat.{ℕ, zero, suc}
+use mathlib.Core.Bool.{Bool, true, false}
+use mathlib.Core.List.{List, []}
+use mathlib.Core.Option.{Option, none, some}
+use mathlib.Core.Path.{_≡_, refl}
+use lib.ListN.{getElem?}
+use Rattle.table.specs.Table.{Parameter, Table}
+use Rattle.table.specs.Layout.{tableOf}
+use Rattle.table.specs.Search.{Placed, parameters}
+use Rattle.message.specs.Line.{Parts}
+use Rattle.message.specs.Request.{Request, request}
+use Rattle.plain.specs.Node.{Node, setValues}
+use Rattle.plain.specs.Answer.{Outcome, refused, carried, settingsOf, activates, deactivates, reads, sets, outcome, conclude, answerParts, partsSet, answer, answerSets}
+use Rattle.plain.specs.Calls.{Event, Open, Close, Piece, Reading, ended, endedSets, readingEffect, pieceEffect, effect, callNumber, settle, stepIf, settled, settingsIf}
+use Rattle.plain.specs.History.{step}
+use Rattle.rule.specs.Theorems.{SettingsAreAll}
+use Rattle.rule.proofs.Calls.{nodeAfter}
+use Rattle.rule.proofs.Outcomes.{outcome-holds}
+
+-- of a request, from the node n on
+abbrev All : Node → Outcome → Type 0
+All n o = nodeAfter n o .values ≡ setValues (n .values) (settingsOf o)
+
+outcome-all : (w : Table) (n : Node) (c now : ℕ) (q : Request) → All n (outcome w n c now q)
+unfolding settingsOf activates deactivates reads sets
+outcome-all w n c now q =
+    outcome-holds
+    (λ r o. All n o)
+    w
+    n
+    c
+    now
+    (λ r x. refl)
+    (λ r s h. refl)
+    (λ k h. refl)
+    (λ m. refl)
+    (λ m. refl)
+    (λ k v h. refl)
+    (λ k v h f. refl)
+    q
+
+parts-all : (w : Table) (n : Node) (c now : ℕ) (p : Parts) → answerParts w n c now p .0 .values ≡ setValues (n .values) (partsSet w n c now p)
+unfolding answerParts partsSet conclude settingsOf
+parts-all w n c now p = go (outcome w n c now (request p)) (outcome-all w n c now (request p))
+  where
+    go : (o : Outcome) → All n o → conclude w n c now p o .0 .values ≡ setValues (n .values) (settingsOf o)
+    go (refused e) h = refl
+    go (carried m ss rs r) h = h
+
+ended-all : (w : Table) (n : Node) (c t : ℕ) (b : Bool) → ended w n c t b .0 .values ≡ setValues (n .values) (endedSets w n c t b)
+unfolding ended endedSets answer answerSets
+ended-all w n c t false = refl
+ended-all w n c t true = parts-all w _ c t _
+
+reading-all : (n : Node) (k : ℕ) (o : Option (Placed Parameter)) (bs : List ℕ) (t : ℕ)
+    → readingEffect n k o bs t .next .values ≡ setValues (n .values) (readingEffect n k o bs t .settings)
+unfolding readingEffect
+reading-all n k none bs t = refl
+reading-all n k (some p) bs t = refl
+
+effect-all : (w : Table) (n : Node) (e : Event) → effect w n e .next .values ≡ setValues (n .values) (effect w n e .settings)
+unfolding effect pieceEffect
+effect-all w n (Open c t) = refl
+effect-all w n (Close c t) = refl
+effect-all w n (Piece c bs t) = ended-all w _ c t _
+effect-all w n (Reading p bs t) = reading-all n p (getElem? (parameters w) p) bs t
+
+pub settings-are-all : SettingsAreAll
+unfolding step stepIf settle settingsIf settled
+settings-are-all table n e = go (callNumber table false n e)
+  where
+    go : (j : ℕ) → settle j n (effect (tableOf table) n (e .event)) .0 .values ≡ setValues (n .values) (settled j (effect (tableOf table) n (e .event)))
+    go zero = effect-all (tableOf table) n (e .event)
+    go (suc j) = refl
