@@ -12,7 +12,7 @@ use Rattle.plain.specs.Answer.{answerParts, answer, partsSet, answerSets}
 use Rattle.plain.specs.Calls.{Event, Piece, beforeFeed, hasFeed}
 use Rattle.state.specs.declared.Clients.{Clients}
 use Rattle.state.specs.declared.State.{State}
-use Rattle.state.specs.View.{lineBytes, clientAt, view}
+use Rattle.state.specs.View.{lineBytes, clientAt, view, nextClients}
 use Rattle.state.specs.Changed.{withJoined}
 use Rattle.state.proofs.Becomes.{Becomes, Always, Joinable, Sized}
 use Rattle.state.proofs.Joins.{joined-becomes}
@@ -24,6 +24,7 @@ use Rattle.promise.specs.Leaves.{Leaves}
 use Rattle.promise.proofs.Clients.{joins, take-before, no-feed, a-feed, no-feed-before, before-long}
 use Rattle.promise.proofs.Feeds.{held-answer, feeds}
 use Rattle.promise.proofs.Held.{line-short, lines-fit, overlong-empty, joined-ready}
+use Rattle.promise.specs.Answer.{doneWith}
 
 -- ## The line that is held
 
@@ -43,15 +44,15 @@ module _ (table : List ℕ) (s : State) (values out : List ℕ) (c t : ℕ) (g :
 
   pub held-answered : (r : Clients) → Becomes (s .clients) c (emptied (clientAt (s .clients) c)) Always r → {a : Answered} {values′ out′ : List ℕ}
       → Answers table (s .settings) values out a values′ out′
-      (answerParts (tableOf table) (view table (record { clients = r; settings = s .settings }) values) c t (partsOf (content (whole line))))
-      (partsSet (tableOf table) (view table (record { clients = r; settings = s .settings }) values) c t (partsOf (content (whole line))))
+      (answerParts (tableOf table) (view table (nextClients s r) values) c t (partsOf (content (whole line))))
+      (partsSet (tableOf table) (view table (nextClients s r) values) c t (partsOf (content (whole line))))
       → Answers table (s .settings) values out a values′ out′ (answer (tableOf table) (view table s values) c t) (answerSets (tableOf table) (view table s values) c t)
   unfolding answer answerSets
   held-answered r b {a} {values′} {out′} x =
       let P : Node → List ℕ → Type 0 =
       λ m l. Answers table (s .settings) values out a values′ out′ (answerParts (tableOf table) m c t (partsOf l)) (partsSet (tableOf table) m c t (partsOf l)) in
       held-answer table s values out c t r P (g .isOpen) (overlong-empty table s values out c g) b
-      (subst (λ (l : List ℕ). P (view table (record { clients = r; settings = s .settings }) values) (content (whole l))) held-line x)
+      (subst (λ (l : List ℕ). P (view table (nextClients s r) values) (content (whole l))) held-line x)
 
 -- ## The bytes before a line feed
 
@@ -76,20 +77,20 @@ module _ (table : List ℕ) (s : State) (values outbox : List ℕ) (c t : ℕ) (
         (joined-becomes (s .clients) z c (g .lent .low) (lines-fit table s values outbox c g z) (take n bs) b)
 
     pub piece-joins : n ≡ length bs
-        → Leaves table s values piece outbox (record { number = 0; used = n; written = 0; state = record { clients = r; settings = s .settings } }) values outbox
+        → Leaves table s values piece outbox (doneWith n 0 (nextClients s r)) values outbox
     piece-joins e =
-        subst (λ (k : ℕ). Leaves table s values piece outbox (record { number = 0; used = k; written = 0; state = record { clients = r; settings = s .settings } }) values outbox) (sym first)
+        subst (λ (k : ℕ). Leaves table s values piece outbox (doneWith k 0 (nextClients s r)) values outbox) (sym first)
         (joins table s values (g .fit) c t r bs outbox (g .isOpen) (no-feed bs (sym first ∙ e)) before)
 
-    pub piece-held : Ready table (record { clients = r; settings = s .settings }) values outbox c
+    pub piece-held : Ready table (nextClients s r) values outbox c
     piece-held =
         joined-ready table s values outbox c g (beforeFeed bs) (Joinable (s .clients) c (beforeFeed bs)) r before
         (record { isOpen = g .isOpen; noFeed = no-feed-before bs })
 
     pub piece-feeds : (n ≡ length bs → ⊥) → {u : ℕ} → u ≡ n + 1 → (a : Answered) {values′ outbox′ : List ℕ}
-        → Answers table (s .settings) values outbox a values′ outbox′ (answer (tableOf table) (view table (record { clients = r; settings = s .settings }) values) c t)
-        (answerSets (tableOf table) (view table (record { clients = r; settings = s .settings }) values) c t)
-        → Leaves table s values piece outbox (record { number = 0; used = u; written = a .written; state = a .state }) values′ outbox′
+        → Answers table (s .settings) values outbox a values′ outbox′ (answer (tableOf table) (view table (nextClients s r) values) c t)
+        (answerSets (tableOf table) (view table (nextClients s r) values) c t)
+        → Leaves table s values piece outbox (doneWith u (a .written) (a .state)) values′ outbox′
     piece-feeds e v a {values′} {outbox′} x =
-        subst (λ (k : ℕ). Leaves table s values piece outbox (record { number = 0; used = k; written = a .written; state = a .state }) values′ outbox′) (sym (v ∙ ap (λ (k : ℕ). k + 1) first))
+        subst (λ (k : ℕ). Leaves table s values piece outbox (doneWith k (a .written) (a .state)) values′ outbox′) (sym (v ∙ ap (λ (k : ℕ). k + 1) first))
         (feeds table s values outbox c t r bs (Joinable (s .clients) c (beforeFeed bs)) (a-feed bs (let h = before-long bs in omega (arith, first))) before a values′ outbox′ x)

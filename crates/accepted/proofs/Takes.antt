@@ -34,7 +34,7 @@ use Rattle.sound.proofs.Values.{stored, stored-short}
 use Rattle.sound.proofs.Records.{Fine, name-short, written-to}
 use Rattle.state.specs.declared.Settings.{Settings}
 use Rattle.state.specs.declared.State.{State}
-use Rattle.state.specs.View.{clientAt, view, withStored, withLength, areaWith, settingsWith, outboxAfter, written}
+use Rattle.state.specs.View.{clientAt, view, withStored, withLength, areaWith, settingsWith, outboxAfter, written, nextSettings}
 use Rattle.state.specs.Fit.{clientUnfit, settingsUnfit, isUnfit}
 use Rattle.state.proofs.Forms.{stands, fits-text, form-room}
 use Rattle.state.proofs.Settled.{Sized}
@@ -44,6 +44,7 @@ use Rattle.promise.proofs.Numbers.{Good, good, number-is}
 use Rattle.promise.proofs.Answers.{accepts}
 use Rattle.promise.proofs.Clients.{fit-parts}
 use Rattle.accepted.specs.Fitting.{Fitting}
+use Rattle.promise.specs.Answer.{doneWith}
 
 module _ (table : List ℕ) (s : State) (values outbox : List ℕ) (k t : ℕ) (bs : List ℕ) (q : ParameterAt) (e : Cursor) (g : Fitting table s values outbox k t bs q e) where
   abbrev w : Table
@@ -152,7 +153,7 @@ module _ (table : List ℕ) (s : State) (values outbox : List ℕ) (k t : ℕ) (
         next-is = i ∙ ap (λ (m : ℕ). withLength (s .settings) k m t) size-is
 
         abbrev next : State
-        next = record { clients = s .clients; settings = settings }
+        next = nextSettings s settings
 
         puts : Puts outbox 0 (encodeAll (updates (storedForm bs))) outbox′ n
         puts = rw sent-is at p
@@ -174,13 +175,13 @@ module _ (table : List ℕ) (s : State) (values outbox : List ℕ) (k t : ℕ) (
         unfolding isUnfit areaWith settingsWith
         still-fit = rw (next-is, area-is) (rw (is-set .fit, fit .1) refl)
 
-        pub is-taken : Kept table taken s values outbox (record { number = 0; used = 0; written = n; state = next }) after outbox′
+        pub is-taken : Kept table taken s values outbox (doneWith 0 n next) after outbox′
         unfolding written outboxAfter areaWith settingsWith
         is-taken =
             let d = sym does in
             let u = written-to (clientAt (s .clients)) (e .modules - 1) (told (storedForm bs)) (fine (storedForm bs) small) clientNumbers .short in
             let end = puts .ends in
-            accepts table s values taken outbox (record { number = 0; used = 0; written = n; state = next }) after outbox′ is-number (omega arith)
+            accepts table s values taken outbox (doneWith 0 n next) after outbox′ is-number (omega arith)
             (record {
               number = refl;
               used = ap (λ (y : Effect). y .used) d;

@@ -36,6 +36,7 @@ use Rattle.outcome.specs.Outcome.{Comes}
 use Rattle.outcome.specs.declared.Outcome.the-variants.{Refused, Sent}
 use Rattle.access.proofs.Finding.{ParameterKnown}
 use Rattle.access.proofs.Executed.{past-module}
+use Rattle.plain.specs.Node.{withClients}
 
 module _ (s : List ℕ) (st : State) (values out : List ℕ) (c t : ℕ) (m a : List ℕ) where
   pub read-no-module : findModule (tableOf s) m ≡ none → Comes s st values out c t (Refused K.NoSuchModule) values out (read m a)
@@ -54,7 +55,7 @@ module _ (s : List ℕ) (st : State) (values out : List ℕ) (c : ℕ) (g : Read
 
   -- a sound node that holds the same values; its clients don't matter here
   abbrev quiet : Node.Node
-  quiet = record { clients = λ i. Node.closed; values = view s st values .values }
+  quiet = withClients (view s st values) (λ i. Node.closed)
 
   fit : settingsUnfit (st .settings) values 0 (parameters (tableOf s)) ≡ false
   unfolding isUnfit

@@ -15,7 +15,7 @@ use Rattle.table.specs.Layout.{readTable, orEmpty, tableOf}
 use Rattle.table.specs.Search.{placedFrom, parameters}
 use Rattle.report.specs.Judge.{lowest, tableNumber}
 use Rattle.report.proofs.Faults.{lowest-first}
-use Rattle.plain.specs.Node.{Client, closed, initially, begin}
+use Rattle.plain.specs.Node.{Client, closed, initially, begin, showing, withClients, noneOpen}
 use Rattle.plain.specs.Calls.{startNumber, started}
 use Rattle.state.specs.declared.Clients.{Clients}
 use Rattle.state.specs.declared.State.{State}
@@ -26,6 +26,7 @@ use Rattle.promise.specs.declared.Done.{Done}
 use Rattle.promise.specs.Promise.{blank, Begins}
 use Rattle.promise.proofs.Blank.{zeros, blank-size, blank-fit}
 use Rattle.node.proofs.Refused.{Quiet}
+use Rattle.promise.specs.Answer.{quietDone}
 
 -- ## The times of a blank state
 
@@ -52,7 +53,7 @@ unread-view : (table : List ℕ) → readTable table ≡ none → (s : State) (v
     → view table s values ≡ begin (tableOf table) t
 unfolding view begin tableOf orEmpty parameters placedFrom valueAt initially
 unread-view table e s values t h =
-    rw e (ap (λ (f : ℕ → Client). record { clients = f; values = λ p. record { text = []; time = 0 } }) (fun-ext h))
+    rw e (ap (λ (f : ℕ → Client). withClients (noneOpen (λ p. showing [] 0)) f) (fun-ext h))
 
 blank-view : (table values : List ℕ) (t : ℕ) → ((p : ℕ) → p < length (parameters (tableOf table)) → getD (blank t .settings .time) p 0 ≡ t)
     → view table (blank t) values ≡ begin (tableOf table) t
@@ -101,7 +102,7 @@ module _ (table values : List ℕ) (t : ℕ) where
 
   -- the state that is answered is blank
   on : {r : Done} {s z : State} {k : ℕ} → Quiet r k s → s ≡ z → Quiet r k z
-  on {k = k} q e = q ∙ ap (λ (x : State). record { number = k; used = 0; written = 0; state = x }) e
+  on {k = k} q e = q ∙ ap (λ (x : State). quietDone k x) e
 
   module _ {k : ℕ} (says : k ≡ tableNumber table) where
     pub start-table : {r : Done} {s : State} → k ≢ 0 → Quiet r k s → s ≡ blank 0 → Begins table values t r

@@ -14,7 +14,7 @@ use Rattle.plain.specs.Node.{isOpen}
 use Rattle.plain.specs.Calls.{Open, Close, Call, withArea, sends, isSmall, fault11, ownFaults}
 use Rattle.state.specs.declared.Clients.{Clients}
 use Rattle.state.specs.declared.State.{State}
-use Rattle.state.specs.View.{isSet, view}
+use Rattle.state.specs.View.{isSet, view, nextClients}
 use Rattle.state.specs.Fit.{isUnfit}
 use Rattle.state.specs.Changed.{withOpened, withClosed}
 use Rattle.state.proofs.Becomes.{Sized}
@@ -27,6 +27,7 @@ use Rattle.promise.proofs.Answers.{accepts}
 use Rattle.promise.proofs.Clients.{opens, closes}
 use Rattle.promise.proofs.Held.{open-is}
 use Rattle.node.proofs.Refused.{Quiet, Numbered, refused-lent, refused-first, refused-second, not-refused}
+use Rattle.promise.specs.Answer.{quietDone}
 
 -- whether a client of the view is open
 pub open-in-view : (table : List ℕ) (s : State) (values : List ℕ) (c : ℕ) → isOpen (view table s values .clients c) ≡ isSet (s .clients .open) c
@@ -50,7 +51,7 @@ module _ (table : List ℕ) (s : State) (values : List ℕ) (c t : ℕ) where
   Answers e r = Kept table e s values [] r values []
 
   abbrev next : Clients → State
-  next q = record { clients = q; settings = s .settings }
+  next q = nextClients s q
 
   abbrev viewed : Bool
   viewed = isOpen (view table s values .clients c)
@@ -93,7 +94,7 @@ module _ (table : List ℕ) (s : State) (values : List ℕ) (c t : ℕ) where
         pub open-good : {x : Clients} → b ≡ false → Sized (s .clients) → x ≡ withOpened (s .clients) c → Quiet r 0 (next x) → Answers opening r
         open-good {x} y z d q =
             subst (Answers opening) (sym q)
-            (accepts table s values opening [] (record { number = 0; used = 0; written = 0; state = next x }) values []
+            (accepts table s values opening [] (quietDone 0 (next x)) values []
             (not-refused table s values [] opening numbered-open lent ok (not-high h) (ap (fault 13) (is-open judged y)))
             (omega arith)
             (opens table s values (fit lent ok) c t x (opened-becomes (s .clients) z c (omega arith) d)))
@@ -101,7 +102,7 @@ module _ (table : List ℕ) (s : State) (values : List ℕ) (c t : ℕ) where
         pub close-good : {x : Clients} → not b ≡ false → Sized (s .clients) → x ≡ withClosed (s .clients) c → Quiet r 0 (next x) → Answers closing r
         close-good {x} y z d q =
             subst (Answers closing) (sym q)
-            (accepts table s values closing [] (record { number = 0; used = 0; written = 0; state = next x }) values []
+            (accepts table s values closing [] (quietDone 0 (next x)) values []
             (not-refused table s values [] closing numbered-close lent ok (not-high h) (ap (λ (z : Bool). fault 12 (not z)) (is-open judged (not-false b y))))
             (omega arith)
             (closes table s values (fit lent ok) c t x (closed-becomes (s .clients) z c (omega arith) d)))

@@ -15,10 +15,11 @@ use Rattle.state.specs.Fit.{isUnfit}
 use Rattle.promise.specs.declared.Done.{Done}
 use Rattle.promise.specs.Promise.{Kept}
 use Rattle.promise.proofs.Answers.{refuses}
+use Rattle.promise.specs.Answer.{quietDone}
 
 -- an answer that uses 0 bytes and writes 0
 abbrev pub Quiet : Done → ℕ → State → Type 0
-Quiet r k s = r ≡ record { number = k; used = 0; written = 0; state = s }
+Quiet r k s = r ≡ quietDone k s
 
 module _ (table : List ℕ) (s : State) (values outbox : List ℕ) (e : Call) where
   abbrev number : ℕ

@@ -4,11 +4,12 @@ use fitness::is_unfit;
 use promise::Done;
 use state::State;
 ghost use mathlib.Core.Path.{_≡_};
+ghost use Rattle.promise.specs.Answer.{quietDone};
 ghost use Rattle.promise.specs.Lent.{lentNumber};
 
 // An answer that uses 0 bytes and writes 0.
 pub(crate) fn quiet(number: u8, state: State) -> Done
-    ensures { λ r. ⌜ r ≡ record { number = number; used = 0; written = 0; state = state } ⌝ }
+    ensures { λ r. ⌜ r ≡ quietDone number state ⌝ }
 {
     Done {
         number,

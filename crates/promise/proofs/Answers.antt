@@ -10,7 +10,7 @@ use lib.Seq.{sets}
 use Rattle.table.specs.Layout.{tableOf}
 use Rattle.outbox.specs.Outbox.{Record, encodeAll}
 use Rattle.plain.specs.Node.{Node}
-use Rattle.plain.specs.Calls.{Call, Answer, Effect, callNumber, effect, settle, stepIf, settled, settingsIf}
+use Rattle.plain.specs.Calls.{Call, Answer, Effect, callNumber, effect, settle, stepIf, settled, settingsIf, answerOf, refusalOf}
 use Rattle.plain.specs.History.{step}
 use Rattle.plain.proofs.Numbers.{accepted-call}
 use Rattle.sound.proofs.Histories.{calls-keep-sound}
@@ -22,6 +22,7 @@ use Rattle.state.proofs.Stands.{fit-is-sound}
 use Rattle.promise.specs.declared.Done.{Done}
 use Rattle.promise.specs.Promise.{stepFrom, settingsFrom, Kept}
 use Rattle.promise.specs.Leaves.{Leaves}
+use Rattle.promise.specs.Answer.{quietDone}
 
 nothing-written : _≡_ {A = ℕ} 0 (written [])
 unfolding written encodeAll
@@ -38,12 +39,12 @@ module _ (table : List ℕ) (s : State) (values : List ℕ) (e : Call) where
   abbrev does : Effect
   does = effect (tableOf table) (view table s values) (e .event)
 
-  refused-step : (k : ℕ) → number ≡ k → k ≢ 0 → stepFrom table s values e ≡ (view table s values, record { number = k; used = 0; records = [] })
+  refused-step : (k : ℕ) → number ≡ k → k ≢ 0 → stepFrom table s values e ≡ (view table s values, refusalOf k)
   unfolding stepIf settle
   refused-step zero h z = absurd (z refl)
   refused-step (suc k) h z = rw h refl
 
-  accepted-step : number ≡ 0 → stepFrom table s values e ≡ (does .next, record { number = 0; used = does .used; records = does .records })
+  accepted-step : number ≡ 0 → stepFrom table s values e ≡ (does .next, answerOf does)
   unfolding stepIf settle
   accepted-step h = rw h refl
 
@@ -57,7 +58,7 @@ module _ (table : List ℕ) (s : State) (values : List ℕ) (e : Call) where
   accepted-sets h = rw h refl
 
   pub refuses : (outbox : List ℕ) (k : ℕ) → number ≡ k → k ≢ 0
-      → Kept table e s values outbox (record { number = k; used = 0; written = 0; state = s }) values outbox
+      → Kept table e s values outbox (quietDone k s) values outbox
   refuses outbox k h z =
       let q = refused-step k h z in
       record {
@@ -79,7 +80,7 @@ module _ (table : List ℕ) (s : State) (values : List ℕ) (e : Call) where
   short-written z h =
       let f = accepted-call table (isUnfit (tableOf table) s values) e (view table s values) .0 h .0 in
       let k = calls-keep-sound table (f .accepted) (view table s values) (fit-is-sound table s values z (f .accepted) (f .fit)) e in
-      let q : step table (view table s values) e ≡ (does .next, record { number = 0; used = does .used; records = does .records }) =
+      let q : step table (view table s values) e ≡ (does .next, answerOf does) =
       ap (λ (b : Bool). stepIf table b (view table s values) e) (sym (f .fit)) ∙ accepted-step h in
       subst (λ (x : Node × Answer). written (x .1 .records) ≤ 32019) q (k .short)
 

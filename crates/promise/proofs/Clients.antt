@@ -16,7 +16,7 @@ use Rattle.plain.specs.Node.{Client, closed, Node, withClient, fresh, receive, 
 use Rattle.plain.specs.Calls.{Event, Open, Close, Piece, Effect, effect, pieceEffect, ended, endedSets, beforeFeed, hasFeed, usedOf}
 use Rattle.state.specs.declared.Clients.{Clients}
 use Rattle.state.specs.declared.State.{State}
-use Rattle.state.specs.View.{isSet, clientAt, view, areaWith, settingsWith, outboxAfter, written}
+use Rattle.state.specs.View.{isSet, clientAt, view, areaWith, settingsWith, outboxAfter, written, nextClients}
 use Rattle.state.specs.Fit.{clientUnfit, settingsUnfit, isUnfit}
 use Rattle.state.proofs.Becomes.{Becomes, Always, Joinable}
 use Rattle.state.proofs.Flags.{neither}
@@ -24,6 +24,7 @@ use Rattle.state.proofs.Kept.{still-fit}
 use Rattle.state.proofs.Views.{client-view}
 use Rattle.promise.specs.declared.Done.{Done}
 use Rattle.promise.specs.Leaves.{Leaves}
+use Rattle.promise.specs.Answer.{quietDone, doneWith}
 
 -- ## Fitness
 
@@ -34,7 +35,7 @@ module _ (w : Table) (s : State) (values : List ℕ) where
   fit-parts e = neither _ _ e
 
   pub with-clients : (r : Clients) → isUnfit w s values ≡ false → any (clientUnfit (length (w .modules)) r) clientNumbers ≡ false
-      → isUnfit w (record { clients = r; settings = s .settings }) values ≡ false
+      → isUnfit w (nextClients s r) values ≡ false
   unfolding isUnfit
   with-clients r e f = rw (fit-parts e .0, f) refl
 
@@ -98,14 +99,14 @@ a-feed bs e = go (hasFeed bs) (before-all bs)
 
 module _ (table : List ℕ) (s : State) (values : List ℕ) (fit : isUnfit (tableOf table) s values ≡ false) (c t : ℕ) (r : Clients) where
   abbrev next : State
-  next = record { clients = r; settings = s .settings }
+  next = nextClients s r
 
   -- client c becomes x, and nothing is sent
   quiet : (e : Event) (x : Client) (u : ℕ) (condition : ℕ → Type 0) → Becomes (s .clients) c x condition r
       → condition (length (tableOf table .modules))
       → effect (tableOf table) (view table s values) e ≡ record { next = withClient (view table s values) c x; settings = []; used = u; records = [] }
       → (outbox : List ℕ)
-      → Leaves table s values e outbox (record { number = 0; used = u; written = 0; state = next }) values outbox
+      → Leaves table s values e outbox (doneWith u 0 next) values outbox
   unfolding written outboxAfter encodeAll areaWith settingsWith
   quiet e x u condition b h f outbox =
       record {
@@ -121,19 +122,19 @@ module _ (table : List ℕ) (s : State) (values : List ℕ) (fit : isUnfit (tabl
       }
 
   pub opens : Becomes (s .clients) c fresh Always r
-      → Leaves table s values (Open c t) [] (record { number = 0; used = 0; written = 0; state = next }) values []
+      → Leaves table s values (Open c t) [] (quietDone 0 next) values []
   unfolding effect
   opens b = quiet (Open c t) fresh 0 Always b tt refl []
 
   pub closes : Becomes (s .clients) c closed Always r
-      → Leaves table s values (Close c t) [] (record { number = 0; used = 0; written = 0; state = next }) values []
+      → Leaves table s values (Close c t) [] (quietDone 0 next) values []
   unfolding effect
   closes b = quiet (Close c t) closed 0 Always b tt refl []
 
   pub joins : (bs outbox : List ℕ) → isSet (s .clients .open) c ≡ true → hasFeed bs ≡ false
       → Becomes (s .clients) c (receive (clientAt (s .clients) c) (beforeFeed bs)) (Joinable (s .clients) c (beforeFeed bs)) r
       → Leaves table s values (Piece c bs t) outbox
-      (record { number = 0; used = length (beforeFeed bs); written = 0; state = next }) values outbox
+      (doneWith (length (beforeFeed bs)) 0 next) values outbox
   unfolding effect pieceEffect usedOf ended endedSets view
   joins bs outbox o f b =
       quiet (Piece c bs t) (receive (clientAt (s .clients) c) (beforeFeed bs)) (length (beforeFeed bs)) (Joinable (s .clients) c (beforeFeed bs)) b

@@ -17,7 +17,7 @@ use Rattle.plain.specs.Answer.{answer, answerSets}
 use Rattle.plain.specs.Calls.{Piece, Effect, effect, pieceEffect, ended, endedSets, beforeFeed, hasFeed, usedOf}
 use Rattle.state.specs.declared.Clients.{Clients}
 use Rattle.state.specs.declared.State.{State}
-use Rattle.state.specs.View.{isSet, lineBytes, lineAt, clientAt, view, areaWith, settingsWith, outboxAfter, written}
+use Rattle.state.specs.View.{isSet, lineBytes, lineAt, clientAt, view, areaWith, settingsWith, outboxAfter, written, nextClients}
 use Rattle.state.specs.Fit.{clientUnfit, isUnfit}
 use Rattle.state.proofs.Becomes.{Becomes, Always, Joinable}
 use Rattle.state.proofs.Views.{client-view}
@@ -25,6 +25,7 @@ use Rattle.outcome.specs.declared.Answered.{Answered}
 use Rattle.outcome.specs.Outcome.{Answers}
 use Rattle.promise.specs.declared.Done.{Done}
 use Rattle.promise.specs.Leaves.{Leaves}
+use Rattle.promise.specs.Answer.{doneWith}
 
 -- a client inside an overlong line keeps no bytes of it, and an overlong line says what an empty one does
 held-content : (s : Clients) (c : ℕ) → isSet (s .open) c ≡ true → (isSet (s .overlong) c ≡ true → getD (s .length) c 0 ≡ 0)
@@ -42,7 +43,7 @@ module _ (table : List ℕ) (s : State) (values outbox : List ℕ) (c t : ℕ) (
   pub held-answer : (P : Node → List ℕ → Type 0) → isSet (s .clients .open) c ≡ true
       → (isSet (s .clients .overlong) c ≡ true → getD (s .clients .length) c 0 ≡ 0)
       → Becomes (s .clients) c (emptied (clientAt (s .clients) c)) Always r
-      → P (view table (record { clients = r; settings = s .settings }) values) (content (whole (lineBytes (s .clients) c)))
+      → P (view table (nextClients s r) values) (content (whole (lineBytes (s .clients) c)))
       → P (withClient (view table s values) c (emptied (view table s values .clients c))) (content (lineOf (view table s values .clients c)))
   unfolding view
   held-answer P o h b x = subst₂ P (client-view table s values b) (sym (held-content (s .clients) c o h)) x
@@ -62,10 +63,10 @@ module _ (table : List ℕ) (s : State) (values outbox : List ℕ) (c t : ℕ) (
   pub feeds : (bs : List ℕ) (condition : ℕ → Type 0) → hasFeed bs ≡ true
       → Becomes (s .clients) c (receive (clientAt (s .clients) c) (beforeFeed bs)) condition r
       → (a : Answered) (values′ outbox′ : List ℕ)
-      → Answers table (s .settings) values outbox a values′ outbox′ (answer (tableOf table) (view table (record { clients = r; settings = s .settings }) values) c t)
-      (answerSets (tableOf table) (view table (record { clients = r; settings = s .settings }) values) c t)
+      → Answers table (s .settings) values outbox a values′ outbox′ (answer (tableOf table) (view table (nextClients s r) values) c t)
+      (answerSets (tableOf table) (view table (nextClients s r) values) c t)
       → Leaves table s values (Piece c bs t) outbox
-      (record { number = 0; used = length (beforeFeed bs) + 1; written = a .written; state = a .state }) values′ outbox′
+      (doneWith (length (beforeFeed bs) + 1) (a .written) (a .state)) values′ outbox′
   unfolding outboxAfter written view
   feeds bs condition f b a values′ outbox′ x =
       let n = view table s values in

@@ -13,7 +13,7 @@ use Rattle.plain.specs.Node.{Client, closed, connected, put, isOpen, receive, e
 use Rattle.state.specs.declared.Clients.{Clients}
 use Rattle.state.specs.declared.State.{State}
 use Rattle.message.specs.Line.{Line}
-use Rattle.state.specs.View.{isSet, bit, lineAt, clientAt}
+use Rattle.state.specs.View.{isSet, bit, lineAt, clientAt, nextClients}
 use Rattle.state.specs.Fit.{clientUnfit, isUnfit}
 use Rattle.state.proofs.Becomes.{Becomes, Always, Sized, LinesFit}
 use Rattle.state.proofs.Cells.{fit-at}
@@ -79,7 +79,7 @@ module _ (table : List ℕ) (s : State) (values out : List ℕ) (c : ℕ) (g : R
 
   -- client c becomes another that is open
   becomes-ready : (x : Client) (condition : ℕ → Type 0) (r : Clients) → Becomes (s .clients) c x condition r → condition modules → isOpen x ≡ true
-      → Ready table (record { clients = r; settings = s .settings }) values out c
+      → Ready table (nextClients s r) values out c
   becomes-ready x condition r b h o =
       record {
         lent = g .lent;
@@ -89,10 +89,10 @@ module _ (table : List ℕ) (s : State) (values out : List ℕ) (c : ℕ) (g : R
       }
 
   pub joined-ready : (bs : List ℕ) (condition : ℕ → Type 0) (r : Clients) → Becomes (s .clients) c (receive (clientAt (s .clients) c) bs) condition r
-      → condition modules → Ready table (record { clients = r; settings = s .settings }) values out c
+      → condition modules → Ready table (nextClients s r) values out c
   joined-ready bs condition r b h =
       becomes-ready (receive (clientAt (s .clients) c) bs) condition r b h (receive-open (clientAt (s .clients) c) bs ∙ client-open)
 
   pub emptied-ready : (r : Clients) → Becomes (s .clients) c (emptied (clientAt (s .clients) c)) Always r
-      → Ready table (record { clients = r; settings = s .settings }) values out c
+      → Ready table (nextClients s r) values out c
   emptied-ready r b = becomes-ready (emptied (clientAt (s .clients) c)) Always r b tt (emptied-open (clientAt (s .clients) c) ∙ client-open)

@@ -1,3 +1,4 @@
+pub mod Answer
 pub mod Leaves
 pub mod Lent
 pub mod Promise

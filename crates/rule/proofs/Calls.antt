@@ -19,7 +19,7 @@ use Rattle.message.specs.Line.{Parts, content, partsOf}
 use Rattle.message.specs.Request.{Request}
 use Rattle.message.specs.Reply.{Reply, error}
 use Rattle.outbox.specs.Outbox.{Record, final}
-use Rattle.plain.specs.Node.{Client, closed, fresh, Node, put, withClient, withValue, isOpen, lineOf, receive, emptied, reportOf, clientNumbers, updatesTo}
+use Rattle.plain.specs.Node.{Client, closed, fresh, Node, put, withClient, withValue, isOpen, lineOf, receive, emptied, reportOf, clientNumbers, updatesTo, showing, withClients}
 use Rattle.plain.specs.Answer.{Outcome, refused, carried, outcome, activates, deactivates, reads, sets, conclude, answerParts, answer}
 use Rattle.plain.specs.Calls.{Event, Open, Close, Piece, Reading, Call, ownFaults, callNumber, readingVerdict, beforeFeed, hasFeed, ended, pieceEffect, readingEffect, effect, settle, stepIf}
 use Rattle.plain.specs.History.{step}
@@ -93,8 +93,8 @@ pub data Did (w : Table) (n : Node) : Event → Node → List Record → Type 0 
   received : {c : ℕ} {bs : List ℕ} {t : ℕ} → hasFeed bs ≡ false → Did w n (Piece c bs t) (withClient n c (receive (n .clients c) (beforeFeed bs))) []
   read : {k : ℕ} {bs : List ℕ} {t : ℕ} (p : Placed Parameter) → getElem? (parameters w) k ≡ some p
       → verdict (p .it .datainfo) bs ≡ fits
-      → Did w n (Reading k bs t) (withValue n k (record { text = storedForm bs; time = t }))
-      (updatesTo (n .clients) (p .home) (reportOf p (record { text = storedForm bs; time = t })) clientNumbers)
+      → Did w n (Reading k bs t) (withValue n k (showing (storedForm bs) t))
+      (updatesTo (n .clients) (p .home) (reportOf p (showing (storedForm bs) t)) clientNumbers)
   line : {c : ℕ} {bs : List ℕ} {t : ℕ} {m : Node} {rs : List Record} → hasFeed bs ≡ true → Answered w n c bs t m rs
       → Did w n (Piece c bs t) m rs
 
@@ -104,12 +104,8 @@ unfolding answer
 answer-is w n c x t e =
     ap₂
     (λ (m : Node) (y : Client). answerParts w m c t (partsOf (content (lineOf y))))
-    (λ i.
-    record {
-      clients =
-          (put-put (n .clients) c x (emptied (put (n .clients) c x c)) ∙ ap (put (n .clients) c) (ap emptied (put-same (n .clients) c x) ∙ e)) i;
-      values = n .values;
-    })
+    (ap (withClients n)
+    (put-put (n .clients) c x (emptied (put (n .clients) c x c)) ∙ ap (put (n .clients) c) (ap emptied (put-same (n .clients) c x) ∙ e)))
     (put-same (n .clients) c x)
 
 answered : (w : Table) (n : Node) (c : ℕ) (bs : List ℕ) (t : ℕ) → isOpen (n .clients c) ≡ true

@@ -15,7 +15,7 @@ use Rattle.message.specs.Line.{Parts, content, partsOf}
 use Rattle.message.specs.Request.{request}
 use Rattle.message.specs.Reply.{Report, Reply}
 use Rattle.outbox.specs.Outbox.{Record, final}
-use Rattle.plain.specs.Node.{Node, withClient, lineOf, emptied, reportOf, clientNumbers, updatesTo}
+use Rattle.plain.specs.Node.{Node, withClient, lineOf, emptied, reportOf, clientNumbers, updatesTo, showing}
 use Rattle.plain.specs.Answer.{Outcome, outcome, conclude, answerParts, answer}
 use Rattle.plain.specs.Calls.{Event, Open, Close, Piece, Reading, callNumber, beforeFeed, hasFeed, usedOf, ended, pieceEffect, readingEffect, effect, settle, stepIf}
 use Rattle.plain.specs.History.{step}
@@ -75,7 +75,7 @@ reading-replies : (n : Node) (k : ℕ) (o : Option (Placed Parameter)) (bs : Lis
 unfolding readingEffect repliesFor
 reading-replies n k none bs t d = refl
 reading-replies n k (some p) bs t d =
-    let r : Report = reportOf p (record { text = storedForm bs; time = t }) in
+    let r : Report = reportOf p (showing (storedForm bs) t) in
     ap
     length
     (no-final-replies

@@ -18,7 +18,7 @@ use Rattle.message.specs.Request.{Request, change}
 use Rattle.message.specs.Error.{Class}
 use Rattle.message.specs.Reply.{Report, Reply, identification, describing, pong, active, inactive, reply, changed, done, error}
 use Rattle.outbox.specs.Outbox.{Record, final, update, orderChange, orderCommand}
-use Rattle.plain.specs.Node.{Client, closed, fresh, Value, Node, put, withClient, withValue, isOpen, isActive, receive, emptied, activated, reportOf, clientNumbers, updatesTo, updatesOf}
+use Rattle.plain.specs.Node.{Client, closed, fresh, Value, Node, put, withClient, withValue, isOpen, isActive, receive, emptied, activated, reportOf, clientNumbers, updatesTo, updatesOf, showing}
 use Rattle.plain.specs.Answer.{Outcome, refused, carried, outcome, activates, deactivates, reads, sets}
 use Rattle.plain.specs.Calls.{Event, Open, Close, Piece, Reading, Answer, beforeFeed}
 use Rattle.plain.specs.History.{step}
@@ -130,7 +130,7 @@ set-sent w n m k p v rs t e u =
 reading-sets : {w : Table} {n m : Node} {rs : List Record} {k : ℕ} {bs : List ℕ} {t : ℕ} → Did w n (Reading k bs t) m rs
     → ReadingSets w n m k bs t rs
 reading-sets {w} {n} {k = k} {bs} {t} (read p q f) =
-    let v : Value = record { text = storedForm bs; time = t } in
+    let v : Value = showing (storedForm bs) t in
     record {
       p = p;
       fitting = f;
@@ -147,14 +147,14 @@ record Changing (w : Table) (n : Node) (c now : ℕ) (q : Request) (o : Outcome)
   v : List ℕ
   asked : q ≡ change (k .1 .moduleName) (k .1 .it .name) v
   let-in : LetIn w k v
-  tells : r ≡ reportOf (k .1) (record { text = storedForm v; time = now })
+  tells : r ≡ reportOf (k .1) (showing (storedForm v) now)
   is : o ≡ sets w n c now k (storedForm v)
 
 changed-is : (x y : Report) → changed x ≡ changed y → x ≡ y
 changed-is x y e = cc
 
 sets-reply : (w : Table) (n : Node) (c now : ℕ) (p : Parts) (k : ℕ × Placed Parameter) (v : List ℕ)
-    → replyTo p (sets w n c now k v) ≡ changed (reportOf (k .1) (record { text = v; time = now }))
+    → replyTo p (sets w n c now k v) ≡ changed (reportOf (k .1) (showing v now))
 unfolding sets
 sets-reply w n c now p k v = refl
 
@@ -180,7 +180,7 @@ changing w n c now p q =
     q
   where
     set-tells : (k : ℕ × Placed Parameter) (v : List ℕ) (r : Report) → changed r ≡ replyTo p (sets w n c now k (storedForm v))
-        → r ≡ reportOf (k .1) (record { text = storedForm v; time = now })
+        → r ≡ reportOf (k .1) (showing (storedForm v) now)
     set-tells k v r e = changed-is r _ (e ∙ sets-reply w n c now p k (storedForm v))
 
 no-updates : (d : ℕ) (rs : List Record) (c : ℕ) (r : Reply) → updatesFor d (rs ++ (final c r ∷ [])) ≡ updatesFor d rs
@@ -191,7 +191,7 @@ no-updates d rs c r = updates-append d rs (final c r ∷ []) ∙ append-nil (upd
 module _ (w : Table) (n m : Node) (c t : ℕ) (k : ℕ × Placed Parameter) (v : List ℕ) (rs : List Record)
     (there : getElem? (parameters w) (k .0) ≡ some (k .1)) where
   abbrev value : Value
-  value = record { text = v; time = t }
+  value = showing v t
 
   abbrev updates : List Record
   updates = updatesTo (idle n c .clients) (k .1 .home) (reportOf (k .1) value) clientNumbers
@@ -267,7 +267,7 @@ alters w n c now p q =
     (λ k h. inl refl)
     (λ m. inl refl)
     (λ m. inl refl)
-    (λ k v h. inr (reportOf (k .1) (record { text = storedForm v; time = now }), sets-reply w n c now p k (storedForm v)))
+    (λ k v h. inr (reportOf (k .1) (showing (storedForm v) now), sets-reply w n c now p k (storedForm v)))
     (λ k v h f. inl refl)
     q
 
@@ -541,7 +541,7 @@ to-actives w n c now q o =
     (λ k v h d r l.
     ⊎-elim
     (λ e. absurd (not-update d r (orderChange c (k .0) (storedForm v)) refl e))
-    (λ m. set-active w n (k .0) (k .1) (record { text = storedForm v; time = now }) (h .there) d r m)
+    (λ m. set-active w n (k .0) (k .1) (showing (storedForm v) now) (h .there) d r m)
     (List·Memᴰ·cases-cons l))
     (λ k v h f d r l. absurd (not-update d r _ refl (List·Memᴰ·eq-of-singleton l)))
     q
@@ -563,7 +563,7 @@ did-active opened d r k = absurd (List·Memᴰ·not-nil k)
 did-active shut d r k = absurd (List·Memᴰ·not-nil k)
 did-active (received f) d r k = absurd (List·Memᴰ·not-nil k)
 did-active {w} {n} (read {k = i} {bs = bs} {t = t} p q f) d r k =
-    set-active w n i p (record { text = storedForm bs; time = t }) q d r k
+    set-active w n i p (showing (storedForm bs) t) q d r k
 did-active {w} {n} (line {c = c} {bs = bs} {t = t} {m = m} {rs = rs} f h) d r k = line-active w n m c bs t rs h d r k
 
 pub updates-go-to-active-clients : UpdatesGoToActiveClients

@@ -16,7 +16,7 @@ use Rattle.table.specs.Layout.{tableOf}
 use Rattle.table.specs.Search.{parameters}
 use Rattle.report.specs.Judge.{fault, lowest, tableNumber}
 use Rattle.outbox.specs.Outbox.{Record}
-use Rattle.plain.specs.Node.{Client, closed, connected, Node, put, withClient, isOpen, receive}
+use Rattle.plain.specs.Node.{Client, closed, connected, Node, put, withClient, isOpen, receive, withClients}
 use Rattle.plain.specs.Answer.{answer}
 use Rattle.plain.specs.Calls.{Event, Open, Close, Piece, Reading, Call, fault10, readingVerdict, ownFaults, callNumber, beforeFeed, hasFeed, ended, pieceEffect, effect, settle, stepIf}
 use Rattle.plain.specs.History.{step, Mark, feeds, opens, closes, reads, Item, byte, mark, markOf, itemOf, consIf, own, marks, pieceItems, itemsOf, kept, InTime, Roomy, standing}
@@ -189,7 +189,7 @@ module _ (w : Table) (c t : ℕ) where
   piece-run : (bs : List ℕ) (n : Node)
       → ended w (withClient n c (receive (n .clients c) (beforeFeed bs))) c t (hasFeed bs) ≡ run w n (pieceItems c t bs)
   unfolding beforeFeed hasFeed pieceItems ended receive
-  piece-run [] n = λ i. (record { clients = put-same (n .clients) c i; values = n .values }, [])
+  piece-run [] n = λ i. (withClients n (put-same (n .clients) c i), [])
   piece-run (b ∷ bs) n = go (eqb b 10) (piece-run bs (after w n (byte c b) .0))
     where
       go : (q : Bool)
@@ -198,13 +198,13 @@ module _ (w : Table) (c t : ℕ) where
           → ended w (withClient n c (receive (n .clients c) (cond q [] (b ∷ beforeFeed bs)))) c t (cond q true (hasFeed bs))
           ≡ run w n (cond q (mark (feeds c t) ∷ []) (byte c b ∷ pieceItems c t bs))
       go true h =
-          ap (λ f. answer w (record { clients = f; values = n .values }) c t) (put-same (n .clients) c)
+          ap (λ f. answer w (withClients n f) c t) (put-same (n .clients) c)
           ∙ λ i. (answer w n c t .0, sym (append-nil (answer w n c t .1)) i)
       go false h =
           let f = n .clients in
           let x = receive (f c) (b ∷ []) in
           ap
-          (λ g. ended w (record { clients = g; values = n .values }) c t (hasFeed bs))
+          (λ g. ended w (withClients n g) c t (hasFeed bs))
           (ap (put f c) (receive-more (f c) b (beforeFeed bs))
           ∙ sym (put-put f c x (receive x (beforeFeed bs)))
           ∙ ap (λ y. put (put f c x) c (receive y (beforeFeed bs))) (sym (put-at f c x)))

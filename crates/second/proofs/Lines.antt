@@ -15,7 +15,7 @@ use Rattle.message.specs.Request.{Request, identify, describe, ping, activate, 
 use Rattle.message.specs.Error.{Class, NoSuchModule, NoSuchParameter, NoSuchCommand, ReadOnly}
 use Rattle.message.specs.Reply.{Report, Reply, active, inactive, changed}
 use Rattle.outbox.specs.Outbox.{Record, orderChange}
-use Rattle.plain.specs.Node.{Client, closed, connected, Value, Node, put, withClient, Setting, settingValue, withSettings, isOpen, isActive, activated, reportOf, clientNumbers, updatesTo, updatesOf}
+use Rattle.plain.specs.Node.{Client, closed, connected, Value, Node, put, withClient, Setting, settingValue, withSettings, isOpen, isActive, activated, reportOf, clientNumbers, updatesTo, updatesOf, withClients}
 use Rattle.plain.specs.Answer.{Outcome, refused, carried, found, letIn, argumentVerdict, activates, deactivates, inScope, reads, sets, changes, does, outcome, conclude, answerParts}
 
 -- a client, and a node, with other unfinished lines
@@ -24,7 +24,7 @@ relined closed l = closed
 relined (connected k a) l = connected l a
 
 abbrev pub weave : Node → (ℕ → Line) → Node
-weave n s = record { clients = λ d. relined (n .clients d) (s d); values = n .values }
+weave n s = withClients n (λ d. relined (n .clients d) (s d))
 
 abbrev woven : (ℕ → Line) → Outcome → Outcome
 woven s (refused e) = refused e
@@ -58,7 +58,7 @@ put-same f c = fun-ext (put-cases (λ d x. x ≡ f d) f c (f c) refl (λ d e. re
 pub weave-put : (n : Node) (s : ℕ → Line) (c : ℕ) (x : Client) (l : Line)
     → withClient (weave n s) c (relined x l) ≡ weave (withClient n c x) (put s c l)
 unfolding put
-weave-put n s c x l = λ i. record { clients = fun-ext (λ d. go d (eqb d c)) i; values = n .values }
+weave-put n s c x l = λ i. withClients n (fun-ext (λ d. go d (eqb d c)) i)
   where
     go : (d : ℕ) (q : Bool) → cond q (relined x l) (relined (n .clients d) (s d)) ≡ relined (cond q x (n .clients d)) (cond q l (s d))
     go d true = refl

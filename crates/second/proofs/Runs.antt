@@ -12,7 +12,7 @@ use Rattle.table.specs.Search.{Placed, parameters}
 use Rattle.fit.specs.Fit.{storedForm}
 use Rattle.message.specs.Line.{Line, whole, with-byte, content, partsOf}
 use Rattle.outbox.specs.Outbox.{Record}
-use Rattle.plain.specs.Node.{Client, closed, connected, Value, Node, put, withClient, withValue, fresh, isOpen, lineOf, receive, emptied, reportOf, clientNumbers}
+use Rattle.plain.specs.Node.{Client, closed, connected, Value, Node, put, withClient, withValue, fresh, isOpen, lineOf, receive, emptied, reportOf, clientNumbers, showing, withClients}
 use Rattle.plain.specs.Answer.{answerParts, answer}
 use Rattle.plain.specs.Calls.{Effect, readingEffect}
 use Rattle.plain.specs.History.{Mark, feeds, opens, closes, reads, Item, byte, mark, markOf, itemOf, consIf, own, marks, standing}
@@ -80,7 +80,7 @@ module _ (w : Table) where
   weave-line : (n : Node) (s : ℕ → Line) (c : ℕ) (l : Line) → withClient (weave n s) c (relined (n .clients c) l) ≡ weave n (put s c l)
   weave-line n s c l =
       weave-put n s c (n .clients c) l
-      ∙ ap (λ f. weave (record { clients = f; values = n .values }) (put s c l)) (put-same (n .clients) c)
+      ∙ ap (λ f. weave (withClients n f) (put s c l)) (put-same (n .clients) c)
 
   after-byte : (n : Node) (s : ℕ → Line) (c b : ℕ) → after (weave n s) (byte c b) .0 ≡ weave n (put s c (with-byte (s c) b))
   unfolding receive
@@ -109,7 +109,7 @@ module _ (w : Table) where
           ≡ (weave (readingEffect n p o bs t .next) s, readingEffect n p o bs t .records)
       go none = refl
       go (some q) =
-          let x : Value = record { text = storedForm bs; time = t } in
+          let x : Value = showing (storedForm bs) t in
           λ i. (weave (withValue n p x) s, updates-woven (n .clients) s (q .home) (reportOf q x) clientNumbers i)
 
   -- the lines that are seen
@@ -170,7 +170,7 @@ module _ (w : Table) where
 
       by : (z : List Item) → run n z ≡ runBy n (lines (λ d. lineOf (n .clients d)) z) (marks z)
       by z =
-          ap (λ m. run m z) (λ i. record { clients = fun-ext (λ d. same (n .clients d)) i; values = n .values })
+          ap (λ m. run m z) (λ i. withClients n (fun-ext (λ d. same (n .clients d)) i))
           ∙ run-by z n (λ d. lineOf (n .clients d))
 
   -- Who is open after these items.

@@ -26,7 +26,7 @@ use Rattle.table.specs.Search.{Placed, parameters, commands, first, findModule,
 use Rattle.report.specs.Report.{report}
 use Rattle.report.specs.Judge.{lowest}
 use Rattle.report.proofs.Faults.{no-fault, lowest-none}
-use Rattle.plain.specs.Node.{closed, Value, Node, withClient, withValue, Setting, fresh, lineOf, receive, emptied, reportOf, clientNumbers, updatesTo}
+use Rattle.plain.specs.Node.{closed, Value, Node, withClient, withValue, Setting, fresh, lineOf, receive, emptied, reportOf, clientNumbers, updatesTo, showing}
 use Rattle.plain.specs.Answer.{Outcome, refused, carried, found, letIn, argumentVerdict, argumentForm, activates, deactivates, inScope, reads, sets, changes, does, outcome, conclude, answerParts, answer}
 use Rattle.plain.specs.Calls.{Event, Open, Close, Piece, Reading, Call, readingVerdict, ownFaults, callNumber, beforeFeed, hasFeed, ended, Effect, pieceEffect, readingEffect, effect, settle, stepIf}
 use Rattle.plain.specs.History.{step}
@@ -65,7 +65,7 @@ module _ (w : Table) (a : Accepted w) (n : Node) (s : Sound w n) where
   module _ (k : ℕ) (p : Placed Parameter) (e : getElem? (parameters w) k ≡ some p) (bs : List ℕ)
       (f : isFit (verdict (p .it .datainfo) bs) ≡ true) (t : ℕ) (h : t ≤ latest) where
     abbrev new : Value
-    new = record { text = storedForm bs; time = t }
+    new = showing (storedForm bs) t
 
     new-value : ValueHeld (p .it) new
     new-value = (stored (p .it .datainfo) bs f, h)
@@ -146,7 +146,7 @@ module _ (w : Table) (a : Accepted w) (n : Node) (s : Sound w n) where
     comes-changes v k e =
         either (Comes w c) (k .1 .it .readonly) (λ q. tt) λ q.
         comes-letIn (verdict (k .1 .it .datainfo) v) (sets w n c t k (storedForm v)) λ f.
-        let x : Value = record { text = storedForm v; time = t } in
+        let x : Value = showing (storedForm v) t in
         let r = reportOf (k .1) x in
         let order = orderChange c (k .0) (storedForm v) in
         let updates = updatesTo (n .clients) (k .1 .home) r clientNumbers in

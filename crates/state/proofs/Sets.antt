@@ -17,7 +17,7 @@ use Rattle.sound.proofs.Lists.{there-low}
 use Rattle.sound.proofs.Values.{short-stored}
 use Rattle.state.specs.declared.Settings.{Settings}
 use Rattle.state.specs.declared.State.{State}
-use Rattle.state.specs.View.{view, withStored, withLength, areaWith, settingsWith}
+use Rattle.state.specs.View.{view, withStored, withLength, areaWith, settingsWith, nextSettings}
 use Rattle.state.specs.Fit.{settingsUnfit}
 use Rattle.state.proofs.Settled.{Sized, some-stored, stored-fit}
 use Rattle.state.proofs.Views.{value-view}
@@ -35,7 +35,7 @@ AllSettable w (x ∷ xs) = Settable w x × AllSettable w xs
 
 -- what settings leave
 pub record AllSet (table : List ℕ) (s : State) (values : List ℕ) (xs : List Setting) : Type 0 where
-  pub node : view table (record { clients = s .clients; settings = settingsWith (s .settings) xs }) (areaWith values xs) ≡ withSettings (view table s values) xs
+  pub node : view table (nextSettings s (settingsWith (s .settings) xs)) (areaWith values xs) ≡ withSettings (view table s values) xs
   pub fit : settingsUnfit (settingsWith (s .settings) xs) (areaWith values xs) 0 (parameters (tableOf table)) ≡ false
 
 module _ (table : List ℕ) (few : length (parameters (tableOf table)) ≤ 64) where
@@ -50,7 +50,7 @@ module _ (table : List ℕ) (few : length (parameters (tableOf table)) ≤ 64) w
       let low : k < 64 = omega (arith, there-low ps k (h .0 .it) (h .0 .there)) in
       let long = some-stored d (x .text) (h .0 .fits) in
       let short = short-stored d (x .text) (h .0 .fits) in
-      let next : State = record { clients = s .clients; settings = withLength (s .settings) k (length (x .text)) (x .time) } in
+      let next : State = nextSettings s (withLength (s .settings) k (length (x .text)) (x .time)) in
       let node = value-view table s z values room k low (x .text) long short (x .time) fit (h .0 .it) (h .0 .there) in
       let r = all-set xs next (withStored values k (x .text))
       (record { size = length-set (s .settings .length) k (length (x .text)) ∙ z .size; time = length-set (s .settings .time) k (x .time) ∙ z .time })

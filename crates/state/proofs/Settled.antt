@@ -23,7 +23,7 @@ use Rattle.table.specs.Search.{Placed}
 use Rattle.table.specs.declared.layout.Part.{Part}
 use Rattle.table.specs.At.{bytesOf}
 use Rattle.table.proofs.Accessibles.{in-some}
-use Rattle.plain.specs.Node.{put}
+use Rattle.plain.specs.Node.{put, showing}
 use Rattle.state.specs.declared.Settings.{Settings}
 use Rattle.state.specs.View.{storedText, shown, shownBytes, valueAt, withStored, withLength}
 use Rattle.state.specs.Fit.{settingUnfit, settingsUnfit}
@@ -125,7 +125,7 @@ module _ (s : Settings) (z : Sized s) (values : List ℕ) (room : 16384 ≤ leng
       rw (lengths .others p n) (rw add-zero at e)
 
   -- the value that is shown, and the others
-  own-value : (table : List ℕ) (x : Placed Parameter) → valueAt table (withLength s k (length text) time) (withStored values k text) k (some x) ≡ record { text = text; time = time }
+  own-value : (table : List ℕ) (x : Placed Parameter) → valueAt table (withLength s k (length text) time) (withStored values k text) k (some x) ≡ showing text time
   unfolding valueAt shown
   own-value table x = rw (lengths .own, ne-eqb (length text) 0 (λ e. omega arith), own-text, times .own)
 
@@ -137,7 +137,7 @@ module _ (s : Settings) (z : Sized s) (values : List ℕ) (room : 16384 ≤ leng
     -- the values of the plain node that the state stands for
     pub stored-view : (table : List ℕ) (p : ℕ)
         → valueAt table (withLength s k (length text) time) (withStored values k text) p (getElem? ps p)
-        ≡ put (λ q. valueAt table s values q (getElem? ps q)) k (record { text = text; time = time }) p
+        ≡ put (λ q. valueAt table s values q (getElem? ps q)) k (showing text time) p
     unfolding put valueAt
     stored-view table p = go (eqb p k) (eqb-true p k) (eqb-false p k)
       where
@@ -147,7 +147,7 @@ module _ (s : Settings) (z : Sized s) (values : List ℕ) (room : 16384 ≤ leng
 
         go : (t : Bool) → (t ≡ true → p ≡ k) → (t ≡ false → p ≡ k → ⊥)
             → valueAt table (withLength s k (length text) time) (withStored values k text) p (getElem? ps p)
-            ≡ cond t (record { text = text; time = time }) (valueAt table s values p (getElem? ps p))
+            ≡ cond t (showing text time) (valueAt table s values p (getElem? ps p))
         go true a b = rw (a refl, at) (own-value table x)
         go false a b = other (b refl) (getElem? ps p) refl
 

@@ -9,30 +9,30 @@ use Rattle.table.specs.Table.{Parameter, Table}
 use Rattle.table.specs.Layout.{readTable, orEmpty, tableOf}
 use Rattle.table.specs.Search.{Placed, parameters}
 use Rattle.table.proofs.Places.{initial-lies}
-use Rattle.plain.specs.Node.{Client, closed, Value, withClient, withValue, initially, begin}
+use Rattle.plain.specs.Node.{Client, closed, Value, withClient, withValue, initially, begin, showing, withClients, withValues, noneOpen}
 use Rattle.sound.proofs.Lists.{there-low}
 use Rattle.state.specs.declared.Clients.{Clients}
 use Rattle.state.specs.declared.Settings.{Settings}
 use Rattle.state.specs.declared.State.{State}
-use Rattle.state.specs.View.{shown, valueAt, clientAt, view, withStored, withLength}
+use Rattle.state.specs.View.{shown, valueAt, clientAt, view, withStored, withLength, nextClients, nextSettings}
 use Rattle.state.specs.Fit.{settingsUnfit}
 use Rattle.state.proofs.Becomes.{Becomes}
 use Rattle.state.proofs.Settled.{Sized, stored-view}
 
 -- one client becomes another
 pub client-view : (table : List ℕ) (s : State) (values : List ℕ) {r : Clients} {c : ℕ} {x : Client} {condition : ℕ → Type 0} → Becomes (s .clients) c x condition r
-    → view table (record { clients = r; settings = s .settings }) values ≡ withClient (view table s values) c x
+    → view table (nextClients s r) values ≡ withClient (view table s values) c x
 unfolding view
-client-view table s values b = ap (λ (f : ℕ → Client). record { clients = f; values = view table s values .values }) (fun-ext (b .is))
+client-view table s values b = ap (λ (f : ℕ → Client). withClients (view table s values) f) (fun-ext (b .is))
 
 -- a value is stored
 module _ (table : List ℕ) (s : State) (z : Sized (s .settings)) (values : List ℕ) (room : 16384 ≤ length values) (k : ℕ) (h : k < 64) (text : List ℕ) (some-bytes : 0 < length text) (short : length text ≤ 256) (time : ℕ) where
   pub value-view : settingsUnfit (s .settings) values 0 (parameters (tableOf table)) ≡ false → (x : Placed Parameter) → getElem? (parameters (tableOf table)) k ≡ some x
-      → view table (record { clients = s .clients; settings = withLength (s .settings) k (length text) time }) (withStored values k text)
-      ≡ withValue (view table s values) k (record { text = text; time = time })
+      → view table (nextSettings s (withLength (s .settings) k (length text) time)) (withStored values k text)
+      ≡ withValue (view table s values) k (showing text time)
   unfolding view
   value-view fit x at =
-      ap (λ (f : ℕ → Value). record { clients = clientAt (s .clients); values = f })
+      ap (withValues (view table s values))
       (fun-ext (stored-view (s .settings) z values room k h text some-bytes short time (parameters (tableOf table)) fit x at table))
 
 -- a parameter that was never set shows its initial value
@@ -56,4 +56,4 @@ pub begun-view : (table : List ℕ) (w : Table) → readTable table ≡ some w �
     → view table s values ≡ begin w t
 unfolding view begin tableOf orEmpty
 begun-view table w read s values t c n m =
-    rw read (ap₂ (λ (f : ℕ → Client) (g : ℕ → Value). record { clients = f; values = g }) (fun-ext c) (fun-ext (started table w read (s .settings) values t n m)))
+    rw read (ap₂ (λ (f : ℕ → Client) (g : ℕ → Value). withClients (noneOpen g) f) (fun-ext c) (fun-ext (started table w read (s .settings) values t n m)))

@@ -14,7 +14,7 @@ use Rattle.table.specs.declared.layout.Part.{Part}
 use Rattle.table.specs.Layout.{tableOf}
 use Rattle.table.specs.Search.{Placed, parameters}
 use Rattle.outbox.specs.Outbox.{Record, encodeAll}
-use Rattle.plain.specs.Node.{Client, closed, connected, Value, Node, Setting}
+use Rattle.plain.specs.Node.{Client, closed, connected, Value, Node, Setting, showing}
 use Rattle.state.specs.declared.Clients.{Clients}
 use Rattle.state.specs.declared.Settings.{Settings}
 use Rattle.state.specs.declared.State.{State}
@@ -59,8 +59,15 @@ shownBytes table s values p initial = cond (eqb (getD (s .length) p 0) 0) (bytes
 
 -- past the last parameter nothing is looked at
 unfoldable pub valueAt : List ℕ → Settings → List ℕ → ℕ → Option (Placed Parameter) → Value
-valueAt table s values p none = record { text = []; time = 0 }
-valueAt table s values p (some x) = record { text = shown table s values p (x .it); time = getD (s .time) p 0 }
+valueAt table s values p none = showing [] 0
+valueAt table s values p (some x) = showing (shown table s values p (x .it)) (getD (s .time) p 0)
+
+-- a state with other clients; with other settings
+abbrev pub nextClients : State → Clients → State
+nextClients s r = record { clients = r; settings = s .settings }
+
+abbrev pub nextSettings : State → Settings → State
+nextSettings s r = record { clients = s .clients; settings = r }
 
 unfoldable pub view : List ℕ → State → List ℕ → Node
 view table s values =

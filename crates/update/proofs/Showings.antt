@@ -28,7 +28,7 @@ use Rattle.search.specs.Found.{ParameterNumbered}
 use Rattle.search.proofs.Finds.{Counted, counted-parameters, number-end, number-is, number-on}
 use Rattle.report.specs.Judge.{tableNumber}
 use Rattle.plain.specs.Node as Node
-use Rattle.plain.specs.Node.{Value, updatesOf}
+use Rattle.plain.specs.Node.{Value, updatesOf, showing, noneOpen}
 use Rattle.sound.specs.Theorems.{Sound}
 use Rattle.sound.proofs.Accepted.{accepted}
 use Rattle.sound.proofs.Records.{Fine, name-short, written-of}
@@ -131,11 +131,11 @@ module _ (table : List ℕ) (s : Settings) (values : List ℕ) (c : ℕ) (scope 
         there : getElem? (parameters (tableOf table)) k ≡ some it
         there = number .is
 
-        value-is : shownAt k ≡ record { text = cond (eqb (getD (s .length) k 0) 0) (it .it .initial) (storedText s values k); time = getD (s .time) k 0 }
+        value-is : shownAt k ≡ showing (cond (eqb (getD (s .length) k 0) 0) (it .it .initial) (storedText s values k)) (getD (s .time) k 0)
         unfolding valueAt shown
         value-is =
             ap (valueAt table s values k) there
-            ∙ ap (λ (l : List ℕ). record { text = cond (eqb (getD (s .length) k 0) 0) l (storedText s values k); time = getD (s .time) k 0 })
+            ∙ ap (λ (l : List ℕ). showing (cond (eqb (getD (s .length) k 0) 0) l (storedText s values k)) (getD (s .time) k 0))
             (initial-lies table (tableOf table) (was-read table a) k it there)
 
         abbrev own : Report
@@ -182,7 +182,7 @@ module _ (table : List ℕ) (s : State) (values : List ℕ) (c : ℕ) (scope : S
   fit = neither (settingsUnfit (s .settings) values 0 (parameters (tableOf table))) _ (g .fit) .0
 
   abbrev node : Node.Node
-  node = record { clients = λ i. Node.closed; values = shownAt table (s .settings) values c scope }
+  node = noneOpen (shownAt table (s .settings) values c scope)
 
   sound : Sound (tableOf table) node
   sound = record { values = value-held table (g .lent .accepted) s values fit; clients = λ i. tt; above = λ i l. refl }
