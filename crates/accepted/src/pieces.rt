@@ -33,7 +33,8 @@ fn answer_held(
     let clients = state.clients;
     let settings = state.settings;
     let lines = clients.lines;
-    let size = clients.length[c] as usize;
+    let lengths = clients.length;
+    let size = lengths[c] as usize;
     let from = 1024 * c;
     let to = from + size;
     let emptied = State {

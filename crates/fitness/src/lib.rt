@@ -22,11 +22,13 @@ fn setting_unfit(table: &[u8], values: &[u8], settings: Settings, k: usize, info
     requires { ⌜ ReadableAt (now table) info 4 × ((k < 64) × (16384 ≤ length (now values))) ⌝ }
     ensures { λ r. ⌜ TellsUnfit settings (now (values .entry)) k (datainfoAt (drop info (now (table .entry)))) r ⌝ }
 {
-    let size = settings.length[k] as usize;
+    let lengths = settings.length;
+    let times = settings.time;
+    let size = lengths[k] as usize;
     if size > 256 {
         return true;
     }
-    if settings.time[k] > 9999999999999 {
+    if times[k] > 9999999999999 {
         return true;
     }
     if size == 0 {

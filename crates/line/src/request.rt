@@ -60,7 +60,8 @@ fn deactivate_part(
     ensures { λ r. ⌜ ((t : ℕ) → ComesWith (getD (state .clients .active) client 0) (now (table .entry)) (now (out .entry)) client t r (now (out .exit)) (R.deactivate (some (part (now (line .entry)) m)))) ⌝ }
 {
     let clients = state.clients;
-    let mask = clients.active[client as usize];
+    let active = clients.active;
+    let mask = active[client as usize];
     deactivate(table, out, client, mask, bytes_of(line, m))
 }
 

@@ -19,12 +19,22 @@ pub fn opened(s: Clients, c: usize) -> Clients
     requires { ⌜ c < 8 ⌝ }
     ensures { λ r. ⌜ r ≡ withOpened s c ⌝ }
 {
-    let mut next = s;
-    next.open[c] = 1;
-    next.overlong[c] = 0;
-    next.active[c] = 0;
-    next.length[c] = 0;
-    next
+    let mut open = s.open;
+    open[c] = 1;
+    let mut overlong = s.overlong;
+    overlong[c] = 0;
+    let mut active = s.active;
+    active[c] = 0;
+    let mut length = s.length;
+    length[c] = 0;
+    let lines = s.lines;
+    Clients {
+        open,
+        overlong,
+        active,
+        length,
+        lines,
+    }
 }
 
 // "close forgets both".
@@ -32,12 +42,22 @@ pub fn closed(s: Clients, c: usize) -> Clients
     requires { ⌜ c < 8 ⌝ }
     ensures { λ r. ⌜ r ≡ withClosed s c ⌝ }
 {
-    let mut next = s;
-    next.open[c] = 0;
-    next.overlong[c] = 0;
-    next.active[c] = 0; // so no update goes to it
-    next.length[c] = 0;
-    next
+    let mut open = s.open;
+    open[c] = 0;
+    let mut overlong = s.overlong;
+    overlong[c] = 0;
+    let mut active = s.active;
+    active[c] = 0; // so no update goes to it
+    let mut length = s.length;
+    length[c] = 0;
+    let lines = s.lines;
+    Clients {
+        open,
+        overlong,
+        active,
+        length,
+        lines,
+    }
 }
 
 // "a line feed ends a line, which is carried out .., and no bytes stay".
@@ -45,10 +65,20 @@ pub fn ended(s: Clients, c: usize) -> Clients
     requires { ⌜ c < 8 ⌝ }
     ensures { λ r. ⌜ r ≡ withEnded s c ⌝ }
 {
-    let mut next = s;
-    next.overlong[c] = 0;
-    next.length[c] = 0;
-    next
+    let open = s.open;
+    let mut overlong = s.overlong;
+    overlong[c] = 0;
+    let active = s.active;
+    let mut length = s.length;
+    length[c] = 0;
+    let lines = s.lines;
+    Clients {
+        open,
+        overlong,
+        active,
+        length,
+        lines,
+    }
 }
 
 // "Activation held as .. eight module masks .., one entry changed per activate": client c's active modules become those of a mask.
@@ -56,9 +86,19 @@ pub fn with_active(s: Clients, c: usize, mask: u16) -> Clients
     requires { ⌜ c < 8 ⌝ }
     ensures { λ r. ⌜ r ≡ withActive s c mask ⌝ }
 {
-    let mut next = s;
-    next.active[c] = mask;
-    next
+    let open = s.open;
+    let overlong = s.overlong;
+    let mut active = s.active;
+    active[c] = mask;
+    let length = s.length;
+    let lines = s.lines;
+    Clients {
+        open,
+        overlong,
+        active,
+        length,
+        lines,
+    }
 }
 
 // "The bytes a piece uses join its client's"; "once over 1,024, only that" is kept.
@@ -66,28 +106,43 @@ pub fn joined(s: Clients, c: usize, bytes: &[u8]) -> Clients
     requires { ⌜ (c < 8) × (getD (s .length) c 0 ≤ 1024) ⌝ }
     ensures { λ r. ⌜ r ≡ withJoined s c (now (bytes .entry)) ⌝ }
 {
-    if s.overlong[c] != 0 {
+    let mut overlong = s.overlong;
+    if overlong[c] != 0 {
         return s;
     }
-    let mut next = s;
-    let length = s.length[c] as usize;
-    if 1024 - length < bytes.len() {
-        next.overlong[c] = 1;
-        next.length[c] = 0;
-        return next;
-    }
+    let mut length = s.length;
+    let open = s.open;
+    let active = s.active;
     let mut lines = s.lines;
-    put(&mut lines, 1024 * c + length, bytes);
-    next.lines = lines;
-    next.length[c] = (length + bytes.len()) as u16;
-    next
+    let size = length[c] as usize;
+    if 1024 - size < bytes.len() {
+        overlong[c] = 1;
+        length[c] = 0;
+        return Clients {
+            open,
+            overlong,
+            active,
+            length,
+            lines,
+        };
+    }
+    put(&mut lines, 1024 * c + size, bytes);
+    length[c] = (size + bytes.len()) as u16;
+    Clients {
+        open,
+        overlong,
+        active,
+        length,
+        lines,
+    }
 }
 
 pub fn is_open(s: Clients, c: usize) -> bool
     requires { ⌜ c < 8 ⌝ }
     ensures { λ r. ⌜ r ≡ isSet (s .open) c ⌝ }
 {
-    s.open[c] != 0
+    let open = s.open;
+    open[c] != 0
 }
 
 // Whether client c is open and has the module of number i active.
@@ -95,10 +150,12 @@ pub fn is_active(s: Clients, c: usize, i: usize) -> bool
     requires { ⌜ (c < 8) × (i < 16) ⌝ }
     ensures { λ r. ⌜ r ≡ isActive (clientAt s c) i ⌝ }
 {
-    if s.open[c] == 0 {
+    let open = s.open;
+    if open[c] == 0 {
         return false;
     }
-    has_bit(s.active[c], i)
+    let active = s.active;
+    has_bit(active[c], i)
 }
 
 fn has_feed(bytes: &[u8]) -> bool
@@ -119,10 +176,12 @@ fn keeps_dropped(s: Clients, c: usize) -> bool
     requires { ⌜ c < 8 ⌝ }
     ensures { λ r. ⌜ r ≡ isSet (s .overlong) c && isSet (s .length) c ⌝ }
 {
-    if s.overlong[c] == 0 {
+    let overlong = s.overlong;
+    if overlong[c] == 0 {
         return false;
     }
-    s.length[c] != 0
+    let length = s.length;
+    length[c] != 0
 }
 
 // Whether a closed client has bytes, an overlong line or active modules.
@@ -130,16 +189,20 @@ fn keeps_closed(s: Clients, c: usize) -> bool
     requires { ⌜ c < 8 ⌝ }
     ensures { λ r. ⌜ r ≡ not (isSet (s .open) c) && (isSet (s .length) c || isSet (s .overlong) c || isSet (s .active) c) ⌝ }
 {
-    if s.open[c] != 0 {
+    let open = s.open;
+    if open[c] != 0 {
         return false;
     }
-    if s.length[c] != 0 {
+    let length = s.length;
+    if length[c] != 0 {
         return true;
     }
-    if s.overlong[c] != 0 {
+    let overlong = s.overlong;
+    if overlong[c] != 0 {
         return true;
     }
-    s.active[c] != 0
+    let active = s.active;
+    active[c] != 0
 }
 
 // The faults of one client in the order of document 01. A line over 1,024 bytes is not looked at: it may reach past the lines.
@@ -147,7 +210,8 @@ fn client_unfit(s: Clients, modules: usize, c: usize) -> bool
     requires { ⌜ (c < 8) × (modules ≤ 16) ⌝ }
     ensures { λ r. ⌜ r ≡ clientUnfit modules s c ⌝ }
 {
-    let length = s.length[c] as usize;
+    let lengths = s.length;
+    let length = lengths[c] as usize;
     if 1024 < length {
         return true;
     }
@@ -160,7 +224,8 @@ fn client_unfit(s: Clients, modules: usize, c: usize) -> bool
     if keeps_dropped(s, c) {
         return true;
     }
-    if is_past(s.active[c], modules) {
+    let active = s.active;
+    if is_past(active[c], modules) {
         return true;
     }
     keeps_closed(s, c)

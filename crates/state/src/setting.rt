@@ -30,7 +30,8 @@ pub fn shown<'a>(
     requires { ⌜ (Inside (now table) initial) × ((k < 64) × ((getD (s .length) k 0 ≤ 256) × (16384 ≤ length (now values)))) ⌝ }
     ensures { λ r. ⌜ now r ≡ shownBytes (now (table .entry)) s (now (values .entry)) k initial ⌝ }
 {
-    let size = s.length[k] as usize;
+    let lengths = s.length;
+    let size = lengths[k] as usize;
     if size == 0 {
         let from = initial.from;
         let to = initial.to;

@@ -37,7 +37,8 @@ pub fn activate_all<'a>(
     ensures { λ r. ⌜ ((t : ℕ) → Comes (now (table .entry)) state (now (values .entry)) (now (out .entry)) client t r (now (values .entry)) (now (out .exit)) (Request.activate none)) ⌝ }
 {
     let clients = state.clients;
-    let mask = clients.active[client as usize];
+    let active = clients.active;
+    let mask = active[client as usize];
     let all = with_bits(mask, module_count(table));
     let told = put_updates_of(table, values, out, state, client, Scope::All);
     let end = put_final_switched(out, told, client, Switched::Active);
@@ -60,7 +61,8 @@ pub fn activate<'a>(
         return Outcome::Refused(Class::NoSuchModule);
     };
     let clients = state.clients;
-    let mask = clients.active[client as usize];
+    let active = clients.active;
+    let mask = active[client as usize];
     let more = with_bit(mask, i);
     let told = put_updates_of(table, values, out, state, client, Scope::Module(i));
     let end = put_final_switched_name(out, told, client, Switched::Active, module);

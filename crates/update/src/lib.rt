@@ -114,7 +114,8 @@ fn put_shown<'a>(
     let name = bytes_of(table, own_name);
     let initial = p.initial;
     let value = shown(table, values, settings, k, initial);
-    put_update(out, at, client, module, name, value, settings.time[k])
+    let times = settings.time;
+    put_update(out, at, client, module, name, value, times[k])
 }
 
 // "an update for each parameter of those modules, table order", to one client, from the front of the outbox on

@@ -7,8 +7,8 @@ use Rattle.fitness.proofs.setting_unfit.Tie as tie
 mul-size : tie.Need-mul-size
 mul-size c = search needs
 
-element-copy-out-size : tie.Need-element-copy-out-size
-element-copy-out-size c = search needs
+array-read-size : tie.Need-array-read-size
+array-read-size c = search needs
 
 cast-size : tie.Need-cast-size
 cast-size c = search needs
@@ -19,8 +19,8 @@ returns c = search too-long
 mul-if2 : tie.Need-mul-if2
 mul-if2 c = search needs
 
-element-copy-out-if2 : tie.Need-element-copy-out-if2
-element-copy-out-if2 c = search needs
+array-read-if2 : tie.Need-array-read-if2
+array-read-if2 c = search needs
 
 returns-2 : tie.Need-returns-2
 returns-2 c = search too-late
@@ -54,11 +54,11 @@ setting-unfit-spec =
     tie.close
     (tie.spec
     mul-size
-    element-copy-out-size
+    array-read-size
     cast-size
     returns
     mul-if2
-    element-copy-out-if2
+    array-read-if2
     returns-2
     returns-3
     mul-at

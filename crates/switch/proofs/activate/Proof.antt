@@ -29,8 +29,8 @@ returns c =
 mul-mask : tie.Need-mul-mask
 mul-mask c = search needs
 
-element-copy-out-mask : tie.Need-element-copy-out-mask
-element-copy-out-mask c = search needs
+array-read-mask : tie.Need-array-read-mask
+array-read-mask c = search needs
 
 with-bit-requires : tie.Need-with-bit-requires
 with-bit-requires c κs =
@@ -75,7 +75,7 @@ activate-spec =
     enum-told
     returns
     mul-mask
-    element-copy-out-mask
+    array-read-mask
     with-bit-requires
     put-updates-of-requires
     put-final-switched-name-requires

@@ -13,8 +13,8 @@ use Rattle.switch.proofs.activate_all.Tie as tie
 mul-mask : tie.Need-mul-mask
 mul-mask c = search needs
 
-element-copy-out-mask : tie.Need-element-copy-out-mask
-element-copy-out-mask c = search needs
+array-read-mask : tie.Need-array-read-mask
+array-read-mask c = search needs
 
 module-count-requires : tie.Need-module-count-requires
 module-count-requires c κs = search accepted-readable
@@ -47,7 +47,7 @@ activate-all-spec =
     tie.close
     (tie.spec
     mul-mask
-    element-copy-out-mask
+    array-read-mask
     module-count-requires
     with-bits-requires
     put-updates-of-requires

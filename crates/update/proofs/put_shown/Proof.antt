@@ -25,8 +25,8 @@ shown-requires c κs = search needs
 mul-put-update : tie.Need-mul-put-update
 mul-put-update c = search needs
 
-element-copy-out-put-update : tie.Need-element-copy-out-put-update
-element-copy-out-put-update c = search needs
+array-read-put-update : tie.Need-array-read-put-update
+array-read-put-update c = search needs
 
 put-update-requires : tie.Need-put-update-requires
 put-update-requires c κs = search shown-room
@@ -48,7 +48,7 @@ put-shown-spec =
     bytes-of-requires-2
     shown-requires
     mul-put-update
-    element-copy-out-put-update
+    array-read-put-update
     put-update-requires
     same-length
     returns-2)

@@ -6,8 +6,8 @@ use Rattle.line.proofs.request.deactivate_part.Tie as tie
 mul-mask : tie.Need-mul-mask
 mul-mask c = search needs
 
-element-copy-out-mask : tie.Need-element-copy-out-mask
-element-copy-out-mask c = search needs
+array-read-mask : tie.Need-array-read-mask
+array-read-mask c = search needs
 
 bytes-of-requires : tie.Need-bytes-of-requires
 bytes-of-requires c κs = search needs
@@ -26,7 +26,7 @@ deactivate-part-spec =
     tie.close
     (tie.spec
     mul-mask
-    element-copy-out-mask
+    array-read-mask
     bytes-of-requires
     deactivate-requires
     same-length

@@ -10,8 +10,8 @@ use Rattle.state.proofs.client.client_unfit.Tie as tie
 mul-length : tie.Need-mul-length
 mul-length c = search needs
 
-element-copy-out-length : tie.Need-element-copy-out-length
-element-copy-out-length c = search needs
+array-read-length : tie.Need-array-read-length
+array-read-length c = search needs
 
 cast-length : tie.Need-cast-length
 cast-length c = search needs
@@ -34,7 +34,7 @@ part-has-feed-start c = search needs
 part-has-feed-end : tie.Need-part-has-feed-end
 part-has-feed-end c =
     let at = c .before .before .before .before in
-    let e : length (at .args .t1 .lines) ≡ 8192 = search needs in
+    let e : length (at .args .s .lines) ≡ 8192 = search needs in
     omega arith
 
 has-feed-requires : tie.Need-has-feed-requires
@@ -52,8 +52,8 @@ returns-3 c = search unfit-dropped
 mul-is-past : tie.Need-mul-is-past
 mul-is-past c = search needs
 
-element-copy-out-is-past : tie.Need-element-copy-out-is-past
-element-copy-out-is-past c = search needs
+array-read-is-past : tie.Need-array-read-is-past
+array-read-is-past c = search needs
 
 is-past-requires : tie.Need-is-past-requires
 is-past-requires c κs = search needs
@@ -72,7 +72,7 @@ client-unfit-spec =
     tie.close
     (tie.spec
     mul-length
-    element-copy-out-length
+    array-read-length
     cast-length
     returns
     mul-from
@@ -85,7 +85,7 @@ client-unfit-spec =
     keeps-dropped-requires
     returns-3
     mul-is-past
-    element-copy-out-is-past
+    array-read-is-past
     is-past-requires
     returns-4
     keeps-closed-requires

@@ -4,8 +4,8 @@ use borrow.Author.Needs.{needs}
 use Rattle.state.proofs.client.is_active.Statement.{statement}
 use Rattle.state.proofs.client.is_active.Tie as tie
 
-element-copy-out-if1 : tie.Need-element-copy-out-if1
-element-copy-out-if1 c = search needs
+array-read-if1 : tie.Need-array-read-if1
+array-read-if1 c = search needs
 
 returns : tie.Need-returns
 returns c = search closed-inactive
@@ -13,8 +13,8 @@ returns c = search closed-inactive
 mul-has-bit : tie.Need-mul-has-bit
 mul-has-bit c = search needs
 
-element-copy-out-has-bit : tie.Need-element-copy-out-has-bit
-element-copy-out-has-bit c = search needs
+array-read-has-bit : tie.Need-array-read-has-bit
+array-read-has-bit c = search needs
 
 has-bit-requires : tie.Need-has-bit-requires
 has-bit-requires c κs = search needs
@@ -26,9 +26,9 @@ pub is-active-spec : {M : Type 1} → statement M
 is-active-spec =
     tie.close
     (tie.spec
-    element-copy-out-if1
+    array-read-if1
     returns
     mul-has-bit
-    element-copy-out-has-bit
+    array-read-has-bit
     has-bit-requires
     returns-2)

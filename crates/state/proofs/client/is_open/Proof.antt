@@ -5,12 +5,12 @@ use borrow.Author.Needs.{needs}
 use Rattle.state.proofs.client.is_open.Statement.{statement}
 use Rattle.state.proofs.client.is_open.Tie as tie
 
-element-copy-out-result : tie.Need-element-copy-out-result
-element-copy-out-result c = search needs
+array-read-result : tie.Need-array-read-result
+array-read-result c = search needs
 
 returns : tie.Need-returns
 unfolding isSet
 returns c = refl
 
 pub is-open-spec : {M : Type 1} → statement M
-is-open-spec = tie.close (tie.spec element-copy-out-result returns)
+is-open-spec = tie.close (tie.spec array-read-result returns)

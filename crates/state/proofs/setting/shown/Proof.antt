@@ -7,8 +7,8 @@ use Rattle.state.proofs.setting.shown.Tie as tie
 mul-size : tie.Need-mul-size
 mul-size c = search needs
 
-element-copy-out-size : tie.Need-element-copy-out-size
-element-copy-out-size c = search needs
+array-read-size : tie.Need-array-read-size
+array-read-size c = search needs
 
 cast-size : tie.Need-cast-size
 cast-size c = search needs
@@ -48,7 +48,7 @@ shown-spec =
     tie.close
     (tie.spec
     mul-size
-    element-copy-out-size
+    array-read-size
     cast-size
     sub-result
     part-result-start
