@@ -16,7 +16,7 @@ use Rattle.table.specs.Judged.{numberBelow6}
 use Rattle.report.specs.Report.{report}
 use Rattle.report.specs.Judge.{lowest, treeNumber, numberOf, tableNumber}
 use Rattle.report.proofs.Faults.{lowest-first, lowest-both}
-use Rattle.describe.specs.Emitted.{capped}
+use Rattle.emit.specs.Emitted.{capped}
 
 -- the numbers in their order: those below 6 come first
 tree-number : (t : Table) → treeNumber t ≡ lowest (numberBelow6 (some t) ∷ cond (ltb 32000 (length (report t))) 6 0 ∷ [])

@@ -29,12 +29,13 @@ use Rattle.table.proofs.Enough.{before, accessibles-stop, accessibles-more, mod
 use Rattle.table.proofs.Modules.{withAccessibles, module-is}
 use Rattle.table.proofs.Whole.{opened, unread, readable-whole, members-headless}
 use Rattle.report.specs.Report.{argumentMember, accessibleMember, accessibleMembers, noteMember, moduleMembers, reportValue, report}
-use Rattle.describe.specs.Emitted.{capped, Emits, told, Says}
+use Rattle.emit.specs.Emitted.{capped, Emits, comma, told, Says}
 use Rattle.describe.specs.Room.{RoomFor}
-use Rattle.describe.specs.Texts.{datainfoText, comma, readonlyText, argumentText, accessibleText, accessiblesText, noteText, moduleText, modulesText, textsText}
-use Rattle.describe.proofs.Pieces.{both, after, nothing}
-use Rattle.describe.proofs.Says.{says-nothing, says-text, mapped, retold, told-same, rest-told, Leads, parts-none, parts-more}
-use Rattle.describe.proofs.Lists.{listed, listed-first, listed-member, list-step}
+use Rattle.infos.specs.Texts.{datainfoText}
+use Rattle.describe.specs.Texts.{readonlyText, argumentText, accessibleText, accessiblesText, noteText, moduleText, modulesText, textsText}
+use Rattle.emit.proofs.Pieces.{both, after, nothing}
+use Rattle.emit.proofs.Says.{says-nothing, says-text, mapped, retold, told-same, rest-told, Leads, parts-none, parts-more}
+use Rattle.emit.proofs.Listed.{listed, listed-first, listed-member, list-step}
 
 -- ## Pieces
 

@@ -1,3 +1,2 @@
-pub mod Emitted
 pub mod Texts
 pub mod Room

@@ -1,10 +1,10 @@
 // The structure report of a table that can be read.
-use crate::info::emit_datainfo;
-use crate::write::emit;
-use crate::write::emit_comma;
-use crate::write::emit_key;
-use crate::write::emit_string;
 use ascii::Next;
+use emit::emit;
+use emit::emit_comma;
+use emit::emit_key;
+use emit::emit_string;
+use infos::emit_datainfo;
 use table::layout::Accessible;
 use table::layout::CommandAt;
 use table::layout::Heading;
@@ -32,7 +32,7 @@ ghost use Rattle.table.specs.Table.{parameter, command};
 ghost use Rattle.table.specs.Layout.{argumentAt, moduleAt, Readable, tableOf};
 ghost use Rattle.table.specs.At.{bytesOf, Inside, accessibleAt, accessiblesFrom, modulesFrom, parameterOf, commandOf};
 ghost use Rattle.report.specs.Report.{report};
-ghost use Rattle.describe.specs.Emitted.{capped, Emits, told, Says};
+ghost use Rattle.emit.specs.Emitted.{capped, Emits, told, Says};
 ghost use Rattle.describe.specs.Texts.{readonlyText, argumentText, accessibleText, accessiblesText, noteText, moduleText, modulesText, textsText};
 ghost use Rattle.describe.specs.Room.{RoomFor};
 

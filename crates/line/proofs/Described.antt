@@ -11,7 +11,7 @@ use Rattle.ascii.proofs.Puts.{puts-length, puts-both}
 use Rattle.table.specs.Layout.{tableOf}
 use Rattle.report.specs.Report.{report}
 use Rattle.report.proofs.Faults.{accepted-readable}
-use Rattle.describe.specs.Emitted.{capped}
+use Rattle.emit.specs.Emitted.{capped}
 use Rattle.describe.specs.Room.{RoomFor}
 use Rattle.message.specs.Reply.{describing}
 use Rattle.message.specs.Request as R

@@ -8,9 +8,9 @@ use lib.ListN.{length}
 use Rattle.ascii.proofs.Bytes.{ended-within}
 use Rattle.table.specs.At.{accessiblesFrom}
 use Rattle.table.proofs.Modules.{accessibles-less}
-use Rattle.describe.specs.Emitted.{told}
+use Rattle.emit.specs.Emitted.{told}
 use Rattle.describe.specs.Texts.{accessiblesText}
-use Rattle.describe.proofs.Says.{Leads}
+use Rattle.emit.proofs.Says.{Leads}
 use Rattle.describe.proofs.structure.emit_accessibles.Statement.{statement}
 use Rattle.describe.proofs.structure.emit_accessibles.Tie as tie
 

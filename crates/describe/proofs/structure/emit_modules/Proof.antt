@@ -8,9 +8,9 @@ use lib.ListN.{length}
 use Rattle.ascii.proofs.Bytes.{ended-within}
 use Rattle.table.specs.At.{modulesFrom}
 use Rattle.table.proofs.Modules.{modules-less}
-use Rattle.describe.specs.Emitted.{told}
+use Rattle.emit.specs.Emitted.{told}
 use Rattle.describe.specs.Texts.{modulesText}
-use Rattle.describe.proofs.Says.{Leads}
+use Rattle.emit.proofs.Says.{Leads}
 use Rattle.describe.proofs.structure.emit_modules.Statement.{statement}
 use Rattle.describe.proofs.structure.emit_modules.Tie as tie
 

@@ -1,5 +1,5 @@
 -- `describe::structure::emit_text` meets its contract. Assumes nothing.
-use Rattle.describe.proofs.Pieces.{both}
+use Rattle.emit.proofs.Pieces.{both}
 use borrow.Author.Needs.{needs}
 use Rattle.describe.proofs.structure.emit_text.Statement.{statement}
 use Rattle.describe.proofs.structure.emit_text.Tie as tie
