@@ -6,8 +6,6 @@ use mathlib.Core.Bool.{true, false}
 use mathlib.Core.List.{List, [], _∷_}
 use mathlib.Core.Option.{some}
 use mathlib.Core.Path.{_≡_, refl, sym, ap, _∙_}
-use borrow.Author.Tests.{ltb-false}
-use lib.Dec.{ltb}
 use lib.ListN.{length, take, drop, getElem?}
 use Rattle.ascii.specs.Bytes.{any, isSome}
 use Rattle.ascii.specs.Writer.{Puts}
@@ -22,11 +20,10 @@ use Rattle.table.specs.declared.layout.ParameterAt.{ParameterAt}
 use Rattle.message.specs.Reply.{Report}
 use Rattle.message.specs.Said.{reportOf}
 use Rattle.outbox.specs.Outbox.{Record, encodeAll}
-use Rattle.report.specs.Judge.{lowest}
 use Rattle.search.specs.declared.cursor.Cursor.{Cursor}
 use Rattle.search.specs.Left.{placed}
 use Rattle.plain.specs.Node.{Setting, withSettings, clientNumbers, updatesTo}
-use Rattle.plain.specs.Calls.{Reading, Call, withOutbox, Effect, sends, isSmall, ownFaults, callNumber, readingVerdict, readingEffect, effect}
+use Rattle.plain.specs.Calls.{Reading, Effect, readingEffect, effect}
 use Rattle.sound.proofs.Lists.{each-at}
 use Rattle.sound.proofs.Accepted.{GoodParameter, accepted}
 use Rattle.sound.proofs.Homes.{parameter-home}
@@ -39,22 +36,14 @@ use Rattle.state.specs.Fit.{clientUnfit, settingsUnfit, isUnfit}
 use Rattle.state.proofs.Forms.{stands, fits-text, form-room}
 use Rattle.state.proofs.Settled.{Sized}
 use Rattle.state.proofs.Sets.{AllSet, all-set}
-use Rattle.promise.specs.Promise.{Kept}
-use Rattle.promise.proofs.Numbers.{Good, good, number-is}
-use Rattle.promise.proofs.Answers.{accepts}
-use Rattle.promise.proofs.Clients.{fit-parts}
-use Rattle.accepted.specs.Fitting.{Fitting}
 use Rattle.promise.specs.Answer.{doneWith}
+use Rattle.promise.specs.Leaves.{Leaves}
+use Rattle.promise.proofs.Clients.{fit-parts}
+use Rattle.accepted.specs.Fitting.{readingRoom, Fitting, Taken}
 
 module _ (table : List ℕ) (s : State) (values outbox : List ℕ) (k t : ℕ) (bs : List ℕ) (q : ParameterAt) (e : Cursor) (g : Fitting table s values outbox k t bs q e) where
   abbrev w : Table
   w = tableOf table
-
-  abbrev lent-good : Good table s values (ltb (length outbox) 32768) t
-  lent-good = good table s values (ltb (length outbox) 32768) t (g .lent)
-
-  abbrev taken : Call
-  taken = withOutbox (Reading k bs t) (length values) (length outbox)
 
   -- the parameter that is read
   abbrev it : Placed Parameter
@@ -73,13 +62,13 @@ module _ (table : List ℕ) (s : State) (values outbox : List ℕ) (k t : ℕ) (
   fine : (v : List ℕ) → length v ≤ 256 → Fine (told v)
   unfolding parameterOf
   fine v n =
-      let names = each-at GoodParameter (parameters w) (accepted table (lent-good .accepted) .allParameters) k it there .0 in
-      record { names = names; small = n; inTime = lent-good .time }
+      let names = each-at GoodParameter (parameters w) (accepted table (g .accepted) .allParameters) k it there .0 in
+      record { names = names; small = n; inTime = g .inTime }
 
   pub read-room : (isSome (text bs) ≡ true) × (256 * k + length (storedForm bs) ≤ length values)
   read-room =
       let low = g .low in
-      let area = lent-good .area in
+      let area = g .area in
       (fits-text (g .found .held .datainfo) bs (g .fits), form-room (g .found .held .datainfo) bs values (256 * k) (g .fits) (omega arith))
 
   module _ (after : List ℕ) (r : ℕ) (x : Puts values (256 * k) (storedForm bs) after r) where
@@ -119,11 +108,7 @@ module _ (table : List ℕ) (s : State) (values outbox : List ℕ) (k t : ℕ) (
     is-stored = stored (g .found .held .datainfo) bs (g .fits)
 
     fit : (settingsUnfit (s .settings) values 0 (parameters w) ≡ false) × (any (clientUnfit (length (w .modules)) (s .clients)) clientNumbers ≡ false)
-    fit = fit-parts w s values (lent-good .fit)
-
-    is-number : callNumber table (isUnfit w s values) (view table s values) taken ≡ 0
-    unfolding sends isSmall ownFaults lowest readingVerdict parameterOf
-    is-number = number-is table s values (Reading k bs t) (length outbox) t _ refl ∙ rw (g .lent, there, g .fits)
+    fit = fit-parts w s values (g .fit)
 
     -- the names, as they are read from the table
     module _ (m a : List ℕ) (named-module : m ≡ bytesOf table (e .name)) (named : a ≡ bytesOf table (q .name)) where
@@ -137,8 +122,8 @@ module _ (table : List ℕ) (s : State) (values outbox : List ℕ) (k t : ℕ) (
       updates-room =
           let f = fine (storedForm bs) small in
           let u = written-to (clientAt (s .clients)) (e .modules - 1) (told (storedForm bs)) f clientNumbers .short in
-          let o = ltb-false (length outbox) 32768 (lent-good .outbox) in
-          let few = accepted table (lent-good .accepted) .fewModules in
+          let room = g .room in
+          let few = accepted table (g .accepted) .fewModules in
           let home = parameter-home w k it there in (
             omega arith,
             (
@@ -164,8 +149,8 @@ module _ (table : List ℕ) (s : State) (values outbox : List ℕ) (k t : ℕ) (
 
         is-set : AllSet table s values sets
         is-set =
-            all-set table (accepted table (lent-good .accepted) .few) sets s values z (lent-good .area) (fit .0)
-            (record { it = it; there = there; fits = is-stored; inTime = lent-good .time }, tt)
+            all-set table (accepted table (g .accepted) .few) sets s values z (g .area) (fit .0)
+            (record { it = it; there = there; fits = is-stored; inTime = g .inTime }, tt)
 
         node-is : view table next after ≡ withSettings (view table s values) sets
         unfolding areaWith settingsWith
@@ -175,14 +160,11 @@ module _ (table : List ℕ) (s : State) (values outbox : List ℕ) (k t : ℕ) (
         unfolding isUnfit areaWith settingsWith
         still-fit = rw (next-is, area-is) (rw (is-set .fit, fit .1) refl)
 
-        pub is-taken : Kept table taken s values outbox (doneWith 0 n next) after outbox′
+        is-left : Leaves table s values (Reading k bs t) outbox (doneWith 0 n next) after outbox′
         unfolding written outboxAfter areaWith settingsWith
-        is-taken =
+        is-left =
             let d = sym does in
-            let u = written-to (clientAt (s .clients)) (e .modules - 1) (told (storedForm bs)) (fine (storedForm bs) small) clientNumbers .short in
-            let end = puts .ends in
-            accepts table s values taken outbox (doneWith 0 n next) after outbox′ is-number (omega arith)
-            (record {
+            record {
               number = refl;
               used = ap (λ (y : Effect). y .used) d;
               writes = puts .ends ∙ zero-add _ ∙ ap (λ (y : Effect). written (y .records)) d;
@@ -191,4 +173,10 @@ module _ (table : List ℕ) (s : State) (values outbox : List ℕ) (k t : ℕ) (
               settings = next-is ∙ ap (λ (y : Effect). settingsWith (s .settings) (y .settings)) d;
               node = node-is ∙ ap (λ (y : Effect). y .next) d;
               fit = still-fit;
-            })
+            }
+
+        pub is-taken : Taken table s values outbox k t bs (doneWith 0 n next) after outbox′
+        is-taken =
+            let u = written-to (clientAt (s .clients)) (e .modules - 1) (told (storedForm bs)) (fine (storedForm bs) small) clientNumbers .short in
+            let end = puts .ends in
+            record { leaves = is-left; short = omega arith }

@@ -7,12 +7,10 @@ use state::setting::stored;
 use table::layout::ParameterAt;
 use update::bytes_of;
 use update::put_updates_to;
-ghost use lib.ListN.{length};
-ghost use Rattle.plain.specs.Calls.{Reading, withOutbox};
-ghost use Rattle.promise.specs.Promise.{Kept};
-ghost use Rattle.accepted.specs.Fitting.{Fitting};
+ghost use Rattle.accepted.specs.Fitting.{Fitting, Taken};
 
-// "An accepted reading stores the value ..": of parameter k, of which p has the positions; `home` is the cursor after it, in its module.
+// "An accepted reading stores the value ..": of parameter k, of which p has the positions; `home` is the cursor after it, in its module. The
+// updates are written to the front of the outbox, or of the part of one, that it is lent.
 pub fn take_reading(
     table: &[u8],
     values: &mut [u8],
@@ -25,7 +23,7 @@ pub fn take_reading(
     home: Cursor,
 ) -> Done
     requires { ⌜ Fitting (now table) state (now values) (now outbox) k time (now bytes) p home ⌝ }
-    ensures { λ r. ⌜ Kept (now (table .entry)) (withOutbox (Reading k (now (bytes .entry)) time) (length (now (values .entry))) (length (now (outbox .entry)))) state (now (values .entry)) (now (outbox .entry)) r (now (values .exit)) (now (outbox .exit)) ⌝ }
+    ensures { λ r. ⌜ Taken (now (table .entry)) state (now (values .entry)) (now (outbox .entry)) k time (now (bytes .entry)) r (now (values .exit)) (now (outbox .exit)) ⌝ }
 {
     let clients = state.clients;
     let at = 256 * k;

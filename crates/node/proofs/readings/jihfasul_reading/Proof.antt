@@ -3,7 +3,7 @@ use mathlib.Core.Path.{refl}
 use denote.Enum.Declared.{tagOf}
 use borrow.Author.Needs.{needs}
 use Rattle.fit.proofs.Verdict.{the-type}
-use Rattle.node.proofs.Reading.{not-first, read-lent, read-table, read-past, read-none, read-info, read-unfit, read-fits}
+use Rattle.node.proofs.Reading.{not-first, read-lent, read-table, read-past, read-none, read-info, read-unfit, read-fits, read-taken}
 use Rattle.node.proofs.readings.jihfasul_reading.Statement.{statement}
 use Rattle.node.proofs.readings.jihfasul_reading.Tie as tie
 
@@ -65,7 +65,7 @@ returns-4 c =
 
 take-reading-requires : tie.Need-take-reading-requires
 take-reading-requires c κs =
-    read-fits _ (c .before .before .before .before .before .before .before .before .before .before .before .before .before .before .before .before .before .args .state) _ _ _ _ _ _ (c .before .before .before .before .before .before .before .before .before .before .before .lent-number .ensures) (c .before .before .before .before .before .before .before .before .before .before .if1 .left) _ (c .before .before .before .before .before .before .before .before .parameter-by-number .ensures) _ _ (c .before .before .before .before .before .before .p .given .1) _ (c .before .before .before .before .verdict .ensures) (c .before .before .before .before .before .before .before .before .before .if2 .left) (c .before .before .enum-told2 .given .1)
+    read-fits _ (c .before .before .before .before .before .before .before .before .before .before .before .before .before .before .before .before .before .args .state) _ _ _ _ _ _ (c .before .before .before .before .before .before .before .before .before .before .before .lent-number .ensures) (c .before .before .before .before .before .before .before .before .before .before .if1 .left) _ (c .before .before .before .before .before .before .before .before .parameter-by-number .ensures) _ _ (c .before .before .before .before .before .before .p .given .1) _ (c .before .before .before .before .verdict .ensures) (c .before .before .enum-told2 .given .1) (c .before .before .before .before .before .before .before .before .before .if2 .left)
 
 same-length-5 : tie.Need-same-length-5
 same-length-5 c = search needs
@@ -74,7 +74,7 @@ same-length-6 : tie.Need-same-length-6
 same-length-6 c = search needs
 
 returns-5 : tie.Need-returns-5
-returns-5 c = search needs
+returns-5 c = search read-taken
 
 pub jihfasul-reading-spec : {M : Type 1} → statement M
 jihfasul-reading-spec =
