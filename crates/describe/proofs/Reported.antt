@@ -17,14 +17,15 @@ use Rattle.datainfo.specs.Datainfo.{Datainfo}
 use Rattle.datainfo.specs.Layout.{datainfoIn}
 use Rattle.table.specs.Table as Table
 use Rattle.table.specs.Layout.{begins, argumentAt, accessiblesAt, moduleAt, modulesAt, Readable, tableOf}
-use Rattle.table.specs.At.{bytesOf, Inside, accessibleBegins, accessibleAt, accessiblesFrom, modulesFrom, parameterOf, commandOf, moduleOf, AccessibleIs, HeadingIs, headingAt, textsAt, TextsAt}
+use Rattle.table.specs.At.{bytesOf, Inside, accessibleBegins, accessibleAt, accessiblesFrom, modulesFrom, parameterOf, commandOf, moduleOf, AccessibleIs, HeadingIs, headingAt, HeadRead}
 use Rattle.table.specs.declared.layout.Part.{Part}
 use Rattle.table.specs.declared.layout.ParameterAt.{ParameterAt}
 use Rattle.table.specs.declared.layout.CommandAt.{CommandAt}
 use Rattle.table.specs.declared.layout.ModuleAt.{ModuleAt}
 use Rattle.table.specs.declared.layout.Accessible as A
 use Rattle.table.specs.declared.layout.Heading as H
-use Rattle.table.specs.declared.layout.Texts as T
+use Rattle.table.specs.declared.layout.HeadAt.{HeadAt}
+use Rattle.table.specs.declared.layout.Head as Head
 use Rattle.table.proofs.Enough.{before, accessibles-stop, accessibles-more, modules-stop, modules-more}
 use Rattle.table.proofs.Modules.{withAccessibles, module-is}
 use Rattle.table.proofs.Whole.{opened, unread, readable-whole, members-headless}
@@ -260,13 +261,13 @@ module _ {d0 d1 d2 d3 : List ℕ} {p0 p1 p2 p3 : ℕ} where
   unfolding report reportValue modulesText textsText compact compactMembers moreMembers quoted bytes
   report-text t x y z = report-join (bytes "{\"modules\":{") (modulesText (t .modules)) (bytes "}") (bytes ",\"equipment_id\":") (quoted (t .equipmentId)) (bytes ",\"description\":") (quoted (t .description)) (bytes "}") x y z
 
-module _ (s : List ℕ) (g : Readable s) (r : T.Texts) (h : TextsAt s r (textsAt (78 ∷ 68 ∷ []) (drop 0 s))) {d0 d3 : List ℕ} {p0 p3 : ℕ} where
-  pub report-none : r ≡ T.the-variants.Bad → Emits d0 p0 (report (tableOf s)) d3 p3
+module _ (s : List ℕ) (g : Readable s) (r : Head.Head) (h : HeadRead s r) {d0 d3 : List ℕ} {p0 p3 : ℕ} where
+  pub report-none : r ≡ Head.the-variants.Bad → Emits d0 p0 (report (tableOf s)) d3 p3
   report-none e = absurd (unread s r h (tableOf s) (readable-whole s g) e)
 
-  pub report-told : (p q : Part) → r ≡ T.the-variants.At p q → {d1 d2 : List ℕ} {p1 p2 : ℕ} → Emits d0 p0 (bytes "{\"modules\":{") d1 p1 → Says (told modulesText (modulesFrom s (q .to))) d1 p1 d2 p2 → Emits d2 p2 (textsText (bytesOf s p) (bytesOf s q)) d3 p3 → Emits d0 p0 (report (tableOf s)) d3 p3
-  report-told p q e x y z =
-      let o = opened s r h (tableOf s) (readable-whole s g) p q e in
+  pub report-told : (q : HeadAt) → r ≡ Head.the-variants.Read q → {d1 d2 : List ℕ} {p1 p2 : ℕ} → Emits d0 p0 (bytes "{\"modules\":{") d1 p1 → Says (told modulesText (modulesFrom s (q .first))) d1 p1 d2 p2 → Emits d2 p2 (textsText (bytesOf s (q .id)) (bytesOf s (q .description))) d3 p3 → Emits d0 p0 (report (tableOf s)) d3 p3
+  report-told q e x y z =
+      let o = opened s r h (tableOf s) (readable-whole s g) q e in
       report-text (tableOf s) x (y .is (ap (told modulesText) (o .modules))) (rw (o .id, o .description) z)
 
 -- a report that is measured from the start, and one that is written

@@ -7,17 +7,17 @@ use emit::emit_string;
 use infos::emit_datainfo;
 use table::layout::Accessible;
 use table::layout::CommandAt;
+use table::layout::Head;
 use table::layout::Heading;
 use table::layout::ParameterAt;
 use table::layout::Part;
-use table::layout::Texts;
 use table::layout::accessible_at;
 use table::layout::accessible_end;
+use table::layout::head_at;
 use table::layout::heading_at;
 use table::layout::is_accessible;
 use table::layout::is_module;
 use table::layout::module_end;
-use table::layout::texts_at;
 ghost use mathlib.Core.Path.{_≡_};
 ghost use mathlib.Core.Bool.{cond};
 ghost use mathlib.Core.List.{_++_};
@@ -225,12 +225,14 @@ fn emit_report(out: &mut [u8], at: usize, s: &[u8]) -> usize
     requires { ⌜ Readable (now s) ⌝ }
     ensures { λ r. ⌜ Emits (now (out .entry)) at (report (tableOf (now (s .entry)))) (now (out .exit)) r ⌝ }
 {
-    let Texts::At(id, description) = texts_at(s, 0, b'N', b'D') else {
+    let Head::Read(h) = head_at(s) else {
         return at;
     };
-    let next = description.to;
+    let id = h.id;
+    let description = h.description;
+    let first = h.first;
     let a = emit(out, at, b"{\"modules\":{");
-    let b = emit_modules(out, a, s, next);
+    let b = emit_modules(out, a, s, first);
     emit_texts(out, b, s, id, description)
 }
 

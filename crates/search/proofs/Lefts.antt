@@ -16,16 +16,17 @@ use Rattle.table.specs.Table as Table
 use Rattle.table.specs.Layout.{begins, accessiblesAt, modulesAt, Readable, tableOf}
 use Rattle.table.specs.Search.{Placed, placedFrom, parametersOf, commandsOf, parameters, commands}
 use Rattle.table.specs.declared.layout.Part.{Part}
-use Rattle.table.specs.declared.layout.Texts as T
 use Rattle.table.specs.declared.layout.ParameterAt.{ParameterAt}
 use Rattle.table.specs.declared.layout.CommandAt.{CommandAt}
 use Rattle.table.specs.declared.layout.Accessible as A
 use Rattle.table.specs.declared.layout.ModuleAt.{ModuleAt}
 use Rattle.table.specs.declared.layout.Heading as H
-use Rattle.table.specs.At.{bytesOf, textsAt, TextsAt, accessibleBegins, accessibleAt, accessiblesFrom, AccessibleIs, headingAt, moduleOf, HeadingIs, modulesFrom}
+use Rattle.table.specs.declared.layout.HeadAt.{HeadAt}
+use Rattle.table.specs.declared.layout.Head as Head
+use Rattle.table.specs.At.{bytesOf, textsAt, accessibleBegins, accessibleAt, accessiblesFrom, AccessibleIs, headingAt, moduleOf, HeadingIs, modulesFrom, HeadRead}
 use Rattle.table.proofs.Accessibles.{in-some}
 use Rattle.table.proofs.Enough.{before, accessibles-stop, accessibles-more, accessible-less, modules-stop, modules-more, heading-less}
-use Rattle.table.proofs.Modules.{withThem, withAccessibles, module-as, module-is, less}
+use Rattle.table.proofs.Modules.{withThem, withAccessibles, module-as, module-is, head-within, less}
 use Rattle.table.proofs.Whole.{Opened, opened, unread, readable-whole, never}
 use Rattle.search.specs.declared.cursor.Cursor.{Cursor}
 use Rattle.search.specs.Left.{follows, accessiblesLeft, placed, leftFrom, accessiblesOf, Fits, HomeIs, OnWay, After, FirstIs, Ended, ParameterFirst, CommandFirst, ModuleFirst, FirstCursor}
@@ -351,39 +352,38 @@ module _ (s : List ℕ) (c : Cursor) (f : follows s c ≡ false) (h : H.Heading)
 
 -- ## Before the first module
 
-module _ (s : List ℕ) (g : Readable s) (r : T.Texts) (h : TextsAt s r (textsAt (78 ∷ 68 ∷ []) (drop 0 s))) where
-  pub first-bad : r ≡ T.the-variants.Bad → {c : Cursor} → FirstCursor s c
+module _ (s : List ℕ) (g : Readable s) (r : Head.Head) (h : HeadRead s r) where
+  pub first-bad : r ≡ Head.the-variants.Bad → {c : Cursor} → FirstCursor s c
   first-bad e = absurd (unread s r h (tableOf s) (readable-whole s g) e)
 
-  module _ (p q : Part) (e : r ≡ T.the-variants.At p q) where
+  module _ (q : HeadAt) (e : r ≡ Head.the-variants.Read q) where
     abbrev start : Cursor
-    start = record { at = q .to; modules = 0; name = record { from = q .to; to = q .to } }
+    start = record { at = q .first; modules = 0; name = record { from = q .first; to = q .first } }
 
-    o : Opened s p q (tableOf s)
-    o = opened s r h (tableOf s) (readable-whole s g) p q e
+    o : Opened s q (tableOf s)
+    o = opened s r h (tableOf s) (readable-whole s g) q e
 
     all-left : {A : Type 0} (of : List Table.Accessible → List A) → of [] ≡ [] → leftFrom of s start ≡ some (placedFrom of 0 (tableOf s .modules))
     unfolding accessiblesLeft
     all-left of z = left-as of s start ∙ rw (o .modules, z)
 
     pub first-good : FirstCursor s start
-    unfolding parameters commands parametersOf commandsOf accessiblesLeft bytes
+    unfolding parameters commands parametersOf commandsOf accessiblesLeft
     first-good =
-        let x = rw e at h in
-        let w = x .description .within in
+        let w = head-within s r h q e in
         record {
           way =
               record {
                 fits = record { within = w; name = record { order = omega arith; within = w }; few = omega arith };
                 own = [];
-                rest = drop (q .to) s;
+                rest = drop (q .first) s;
                 left = o .left;
                 reads = refl;
                 follow = o .modules;
                 end = o .end;
                 home = λ z. absurd (omega arith);
               };
-          texts = rw (o .id, o .description) (x .is);
+          head = o .head;
           modules = refl;
           unnamed = (refl, refl);
           parameters = all-left parametersOf refl;

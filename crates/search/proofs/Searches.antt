@@ -12,11 +12,12 @@ use Rattle.table.specs.Table as Table
 use Rattle.table.specs.Layout.{begins, moduleAt, modulesAt, Readable, tableOf}
 use Rattle.table.specs.Search.{first, firstFrom, findModule}
 use Rattle.table.specs.declared.layout.Part.{Part}
-use Rattle.table.specs.declared.layout.Texts as T
+use Rattle.table.specs.declared.layout.HeadAt.{HeadAt}
+use Rattle.table.specs.declared.layout.Head as Head
 use Rattle.table.specs.declared.judge.Kind.the-variants.{Modules}
 use Rattle.table.specs.declared.judge.Named as N
 use Rattle.search.specs.declared.find.FoundModule as F
-use Rattle.table.specs.At.{bytesOf, textsAt, TextsAt, modulesFrom}
+use Rattle.table.specs.At.{bytesOf, modulesFrom, HeadRead}
 use Rattle.table.specs.Judged.{kindBegins, namedAt, namesFrom, howMany, NamedIs}
 use Rattle.search.specs.Found.{isCalled, FirstModule, FindsFirst, FindsModule}
 use Rattle.table.proofs.Accessibles.{in-some}
@@ -94,26 +95,26 @@ module _ (s : List ℕ) (at : ℕ) (name : List ℕ) (n i : ℕ) (ws : Lefts s a
             finds = step w ∙ ap (on w) y ∙ ap (λ (k : ℕ). firstFrom (isCalled name) k (parts w .others)) (sym (add-one n));
           }
 
-module _ (s : List ℕ) (g : Readable s) (r : T.Texts) (h : TextsAt s r (textsAt (78 ∷ 68 ∷ []) (drop 0 s))) where
-  told : r ≡ T.the-variants.Bad → ⊥
+module _ (s : List ℕ) (g : Readable s) (r : Head.Head) (h : HeadRead s r) where
+  told : r ≡ Head.the-variants.Bad → ⊥
   told e = unread s r h (tableOf s) (readable-whole s g) e
 
-  pub find-untold : (name : List ℕ) → r ≡ T.the-variants.Bad → findModule (tableOf s) name ≡ none
+  pub find-untold : (name : List ℕ) → r ≡ Head.the-variants.Bad → findModule (tableOf s) name ≡ none
   find-untold name e = absurd (told e)
 
-  pub count-untold : (n : ℕ) → r ≡ T.the-variants.Bad → n ≡ length (tableOf s .modules)
+  pub count-untold : (n : ℕ) → r ≡ Head.the-variants.Bad → n ≡ length (tableOf s .modules)
   count-untold n e = absurd (told e)
 
-  module _ (p q : Part) (e : r ≡ T.the-variants.At p q) where
-    o : Opened s p q (tableOf s)
-    o = opened s r h (tableOf s) (readable-whole s g) p q e
+  module _ (q : HeadAt) (e : r ≡ Head.the-variants.Read q) where
+    o : Opened s q (tableOf s)
+    o = opened s r h (tableOf s) (readable-whole s g) q e
 
-    pub find-modules : (name : List ℕ) (f : F.FoundModule) → ((ms : List Table.Module) (x : List ℕ) → modulesFrom s (q .to) ≡ some (ms, x) → FindsFirst s name f ms x) → FindsModule s name f
+    pub find-modules : (name : List ℕ) (f : F.FoundModule) → ((ms : List Table.Module) (x : List ℕ) → modulesFrom s (q .first) ≡ some (ms, x) → FindsFirst s name f ms x) → FindsModule s name f
     unfolding findModule
     find-modules name (F.the-variants.At n i) k =
         let x = k (tableOf s .modules) (o .left) (o .modules) in
         record { it = x .it; is = x .is; left = o .left; reads = x .reads; end = o .end; within = x .within }
     find-modules name F.the-variants.Nothing k = k (tableOf s .modules) (o .left) (o .modules)
 
-    pub count-modules : (n : ℕ) → n ≡ howMany 0 (namesFrom Modules s (q .to)) → n ≡ length (tableOf s .modules)
-    count-modules n k = modules-many s r h (tableOf s) (readable-whole s g) p q e n k
+    pub count-modules : (n : ℕ) → n ≡ howMany 0 (namesFrom Modules s (q .first)) → n ≡ length (tableOf s .modules)
+    count-modules n k = modules-many s r h (tableOf s) (readable-whole s g) q e n k

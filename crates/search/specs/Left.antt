@@ -12,9 +12,9 @@ use Rattle.ascii.specs.Numbers.{unsigned}
 use Rattle.datainfo.specs.Datainfo.{Datainfo}
 use Rattle.datainfo.specs.Layout.{datainfoAt}
 use Rattle.table.specs.Table as Table
-use Rattle.table.specs.Layout.{flag, argumentAt, modulesAt, tableOf}
+use Rattle.table.specs.Layout.{flag, argumentAt, modulesAt, headAt, tableOf}
 use Rattle.table.specs.Search.{Placed, placedFrom, parametersOf, commandsOf, parameters, commands}
-use Rattle.table.specs.At.{bytesOf, Inside, textsAt, accessibleBegins, accessiblesFrom, parameterOf, commandOf, headingAt, ModuleIs, modulesFrom}
+use Rattle.table.specs.At.{bytesOf, Inside, accessibleBegins, accessiblesFrom, parameterOf, commandOf, headingAt, ModuleIs, modulesFrom}
 use Rattle.table.specs.declared.layout.Part.{Part}
 use Rattle.table.specs.declared.layout.ModuleAt.{ModuleAt}
 use Rattle.table.specs.declared.layout.ParameterAt.{ParameterAt}
@@ -151,10 +151,10 @@ pub record ModuleFirst (s : List ℕ) (c e : Cursor) : Type 0 where
   pub after : After s c e
   pub goes : Goes accessiblesOf s c e
 
--- c is straight after the table's own texts, and all of the table is left there
+-- c is straight after the table's head, and all of the table is left there
 pub record FirstCursor (s : List ℕ) (c : Cursor) : Type 0 where
   pub way : OnWay s c
-  pub texts : textsAt (bytes "ND") s ≡ some ((tableOf s .equipmentId, tableOf s .description), drop (c .at) s)
+  pub head : headAt s ≡ some (Table.withModules (tableOf s) [], drop (c .at) s)
   pub modules : c .modules ≡ 0
   pub unnamed : (c .name .from ≡ c .at) × (c .name .to ≡ c .at)
   pub parameters : leftFrom parametersOf s c ≡ some (parameters (tableOf s))

@@ -2,14 +2,14 @@
 // step before.
 use table::layout::Accessible;
 use table::layout::CommandAt;
+use table::layout::Head;
 use table::layout::Heading;
 use table::layout::ParameterAt;
 use table::layout::Part;
-use table::layout::Texts;
 use table::layout::accessible_at;
+use table::layout::head_at;
 use table::layout::heading_at;
 use table::layout::is_accessible;
-use table::layout::texts_at;
 ghost use mathlib.Core.Path.{_≡_};
 ghost use mathlib.Core.Bool.{false};
 ghost use Prim.Native.Nat.{_≤_};
@@ -49,14 +49,14 @@ pub fn first_cursor(s: &[u8]) -> Cursor
     requires { ⌜ Readable (now s) ⌝ }
     ensures { λ r. ⌜ FirstCursor (now (s .entry)) r ⌝ }
 {
-    let Texts::At(_, description) = texts_at(s, 0, b'N', b'D') else {
+    let Head::Read(h) = head_at(s) else {
         return Cursor {
             at: 0,
             modules: 0,
             name: Part { from: 0, to: 0 },
         };
     };
-    let at = description.to;
+    let at = h.first;
     Cursor {
         at,
         modules: 0,

@@ -11,10 +11,10 @@ use table::judge::count;
 use table::judge::is_next;
 use table::judge::name_at;
 use table::layout::CommandAt;
+use table::layout::Head;
 use table::layout::ParameterAt;
 use table::layout::Part;
-use table::layout::Texts;
-use table::layout::texts_at;
+use table::layout::head_at;
 ghost use mathlib.Core.Path.{_≡_};
 ghost use mathlib.Core.Bool.{_&&_};
 ghost use mathlib.Core.List.{List};
@@ -78,10 +78,10 @@ pub fn find_module(s: &[u8], name: &[u8]) -> FoundModule
     requires { ⌜ Readable (now s) ⌝ }
     ensures { λ r. ⌜ FindsModule (now (s .entry)) (now (name .entry)) r ⌝ }
 {
-    let Texts::At(_, description) = texts_at(s, 0, b'N', b'D') else {
+    let Head::Read(h) = head_at(s) else {
         return FoundModule::Nothing;
     };
-    let first = description.to;
+    let first = h.first;
     module_from(s, first, name)
 }
 
@@ -162,9 +162,9 @@ pub fn module_count(s: &[u8]) -> usize
     requires { ⌜ Readable (now s) ⌝ }
     ensures { λ r. ⌜ r ≡ length (tableOf (now (s .entry)) .modules) ⌝ }
 {
-    let Texts::At(_, description) = texts_at(s, 0, b'N', b'D') else {
+    let Head::Read(h) = head_at(s) else {
         return 0;
     };
-    let first = description.to;
+    let first = h.first;
     count(s, first, Kind::Modules)
 }

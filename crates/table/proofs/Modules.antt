@@ -15,14 +15,16 @@ use Rattle.ascii.specs.Bytes.{_>>=_, isSome, after}
 use Rattle.ascii.specs.Reader.{Ends, rest}
 use Rattle.json.proofs.Rest.{rest-map}
 use Rattle.table.specs.Table as Table
-use Rattle.table.specs.Layout.{begins, accessiblesAt, noteAt, moduleAt, modulesAt, wholeTable, readTable}
+use Rattle.table.specs.Layout.{begins, accessiblesAt, noteAt, moduleAt, modulesAt, headAt, wholeTable, readTable}
 use Rattle.table.specs.declared.layout.Part.{Part}
 use Rattle.table.specs.declared.layout.Bytes as B
 use Rattle.table.specs.declared.layout.Texts as T
 use Rattle.table.specs.declared.layout.Note as N
 use Rattle.table.specs.declared.layout.ModuleAt.{ModuleAt}
 use Rattle.table.specs.declared.layout.Heading as H
-use Rattle.table.specs.At.{bytesOf, Sized, textsAt, TextsAt, accessibleBegins, accessibleAt, accessiblesFrom, NoteRead, NoteIs, headingAt, moduleOf, ModuleIs, HeadingIs, modulesFrom}
+use Rattle.table.specs.declared.layout.HeadAt.{HeadAt}
+use Rattle.table.specs.declared.layout.Head as Head
+use Rattle.table.specs.At.{bytesOf, Inside, Sized, textsAt, TextsAt, accessibleBegins, accessibleAt, accessiblesFrom, NoteRead, NoteIs, headingAt, moduleOf, ModuleIs, HeadingIs, modulesFrom, headOf, HeadIs, HeadRead}
 use Rattle.table.proofs.Records.{text-bad, text-is, text-inside}
 use Rattle.table.proofs.Accessibles.{goesOn, texts-then, rest-none, Got, got}
 use Rattle.table.proofs.Enough.{before, accessibles-stop, accessibles-more, accessible-less, modules-stop, modules-more, module-less}
@@ -171,43 +173,78 @@ pub module-begins : (s : List ℕ) (at : ℕ) (b : Bool) → b ≡ begins (77 �
 unfolding bytes
 module-begins s at b h = h
 
+-- ## The head of the table
+
+module _ (s : List ℕ) (t : T.Texts) (ht : TextsAt s t (textsAt (78 ∷ 68 ∷ []) (drop 0 s))) where
+  -- what the two texts are the head of
+  abbrev headed : List ℕ → List ℕ → List ℕ → Option (Table.Table × List ℕ)
+  headed id text c = some (record { equipmentId = id; description = text; modules = [] }, c)
+
+  head-as : headAt s ≡ (textsAt (78 ∷ 68 ∷ []) (drop 0 s) >>= goesOn headed)
+  unfolding headAt bytes
+  head-as = texts-then headed (78 ∷ 68 ∷ []) s
+
+  pub head-bad : t ≡ T.the-variants.Bad → headAt s ≡ none
+  head-bad e = head-as ∙ rw (rw e at ht)
+
+  pub head-good : (p q : Part) → t ≡ T.the-variants.At p q → HeadIs s (record { id = p; description = q; first = q .to })
+  unfolding headOf
+  head-good p q e =
+      let x = rw e at ht in
+      record { is = head-as ∙ rw (x .is); id = x .name; description = x .description; within = x .description .within }
+
+module _ (s : List ℕ) (r : Head.Head) (h : HeadRead s r) (q : HeadAt) (e : r ≡ Head.the-variants.Read q) where
+  pub head-id : Inside s (q .id)
+  head-id = (rw e at h) .id
+
+  pub head-description : Inside s (q .description)
+  head-description = (rw e at h) .description
+
+  pub head-within : q .first ≤ length s
+  head-within = (rw e at h) .within
+
 -- ## The whole table
 
--- what follows the table's texts
-abbrev pub afterNode : ℕ → List ℕ → List ℕ → List ℕ → Option Table.Table
-afterNode n id text c =
-    modulesAt n (length c) c >>= λ m. after (69 ∷ 78 ∷ []) (m .1) >>= λ e.
-    cond (eqb (length e) 0) (some (record { equipmentId = id; description = text; modules = m .0 })) none
+-- what follows the head
+abbrev pub afterHead : ℕ → Table.Table × List ℕ → Option Table.Table
+afterHead n h =
+    modulesAt n (length (h .1)) (h .1) >>= λ m. after (69 ∷ 78 ∷ []) (m .1) >>= λ e.
+    cond (eqb (length e) 0) (some (Table.withModules (h .0) (m .0))) none
 
-pub table-as : (s : List ℕ) → wholeTable s ≡ (textsAt (78 ∷ 68 ∷ []) (drop 0 s) >>= goesOn (afterNode (length s)))
+pub table-as : (s : List ℕ) → wholeTable s ≡ (headAt s >>= afterHead (length s))
 unfolding wholeTable bytes
-table-as s = texts-then (afterNode (length s)) (78 ∷ 68 ∷ []) s
+table-as s = refl
+
+-- the table s, of whose head the answer is r
+module _ (s : List ℕ) (r : Head.Head) (h : HeadRead s r) where
+  pub table-none : r ≡ Head.the-variants.Bad → wholeTable s ≡ none
+  table-none e = table-as s ∙ rw (rw e at h)
+
+  pub table-from : (q : HeadAt) → r ≡ Head.the-variants.Read q → wholeTable s ≡ afterHead (length s) (headOf s q, drop (q .first) s)
+  table-from q e = table-as s ∙ rw ((rw e at h) .is)
 
 pub readable-long : (s : List ℕ) → 16384 < length s → false ≡ isSome (readTable s)
 unfolding readTable
 readable-long s h = simp (lt-leb _ _ h)
 
-module _ (s : List ℕ) (short : length s ≤ 16384) (t : T.Texts) (ht : TextsAt s t (textsAt (78 ∷ 68 ∷ []) (drop 0 s))) where
+module _ (s : List ℕ) (short : length s ≤ 16384) (r : Head.Head) (h : HeadRead s r) where
   whole : readTable s ≡ wholeTable s
   unfolding readTable
   whole = simp (le-leb _ _ short)
 
-  pub readable-untold : t ≡ T.the-variants.Bad → false ≡ isSome (readTable s)
-  readable-untold e = simp (whole, table-as, rw e at ht)
+  pub readable-headless : r ≡ Head.the-variants.Bad → false ≡ isSome (readTable s)
+  readable-headless e = simp (whole, table-none s r h e)
 
-  module _ (p q : Part) (et : t ≡ T.the-variants.At p q) (m : Next) (hm : Ends s m (rest (modulesFrom s (q .to)))) where
-    begun : wholeTable s ≡ afterNode (length s) (bytesOf s p) (bytesOf s q) (drop (q .to) s)
-    begun = table-as s ∙ rw ((rw et at ht) .is)
-
+  module _ (q : HeadAt) (eh : r ≡ Head.the-variants.Read q) (m : Next) (hm : Ends s m (rest (modulesFrom s (q .first)))) where
     pub readable-unmodelled : m ≡ Bad → false ≡ isSome (readTable s)
-    readable-unmodelled e = simp (whole, begun) (ap isSome (sym (rest-none (modulesFrom s (q .to)) _ (rw e at hm))))
+    readable-unmodelled e = simp (whole, table-from s r h q eh) (ap isSome (sym (rest-none (modulesFrom s (q .first)) _ (rw e at hm))))
 
     module _ (l : ℕ) (em : m ≡ At l) (n : Next) (hn : Ends s n (after (69 ∷ 78 ∷ []) (drop l s))) where
-      ended : (g : Got (modulesFrom s (q .to)) (drop l s)) → wholeTable s ≡ (after (69 ∷ 78 ∷ []) (drop l s) >>= λ e. cond (eqb (length e) 0) (some (record { equipmentId = bytesOf s p; description = bytesOf s q; modules = g .it })) none)
-      ended g = begun ∙ rw (g .is)
+      ended : (g : Got (modulesFrom s (q .first)) (drop l s)) → wholeTable s ≡ (after (69 ∷ 78 ∷ []) (drop l s) >>= λ e. cond (eqb (length e) 0) (some (Table.withModules (headOf s q) (g .it))) none)
+      ended g = table-from s r h q eh ∙ rw (g .is)
 
-      read : Got (modulesFrom s (q .to)) (drop l s)
-      read = got (modulesFrom s (q .to)) (drop l s) ((rw em at hm) .0)
+      read : Got (modulesFrom s (q .first)) (drop l s)
+      read = got (modulesFrom s (q .first)) (drop l s) ((rw em at hm) .0)
 
       pub readable-endless : n ≡ Bad → false ≡ isSome (readTable s)
       readable-endless e = simp (whole, ended read, rw e at hn)

@@ -12,13 +12,12 @@ use lib.Seq.{take-nil, drop-drop}
 use borrow.Author.Tests.{leb-true, leb-false}
 use Rattle.ascii.specs.Text.{bytes}
 use Rattle.ascii.specs.Bytes.{_>>=_, after, part}
-use Rattle.datainfo.specs.Layout.{counted}
 use Rattle.fit.proofs.Shapes.{steps}
-use Rattle.table.specs.Table.{Parameter, Accessible, parameter, command, Module, Table}
-use Rattle.table.specs.Layout.{begins, parameterAt, commandAt, accessiblesAt, moduleAt, modulesAt, wholeTable, readTable}
+use Rattle.table.specs.Table.{Parameter, Accessible, parameter, command, Module, Table, withModules}
+use Rattle.table.specs.Layout.{begins, parameterAt, commandAt, accessiblesAt, moduleAt, modulesAt, headAt, wholeTable, readTable}
 use Rattle.table.specs.Search.{Placed, parametersOf, placedFrom, parameters}
 use Rattle.table.proofs.Accessibles.{in-some}
-use Rattle.table.proofs.Leaves.{Within, failed, left, Rest, Ending, r-after, w-counted, w-flag, w-datainfo, w-unsigned, w-argument, w-note}
+use Rattle.table.proofs.Leaves.{Within, failed, left, Rest, Ending, r-after, w-counted, w-flag, w-datainfo, w-unsigned, w-argument, w-note, w-head}
 
 -- ## Ends of the table, and what lies where it says
 
@@ -134,25 +133,18 @@ module _ {s : List ℕ} where
 end-of : {A : Type 0} {s : List ℕ} {p : A × List ℕ} → Within (End s) (some p) → End s (p .1)
 end-of (left h) = h
 
-rest-of : {s r : List ℕ} → Rest (End s) (some r) → End s r
-rest-of (left h) = h
-
 given : {A : Type 0} {s : List ℕ} {P : A → Type 0} {p : A × List ℕ} → Gives s P (some p) → P (p .0)
 given (gives a h) = a
 
 whole-fine : (s : List ℕ) (t : Table) → wholeTable s ≡ some t → ModulesFine s (t .modules)
 unfolding wholeTable
 whole-fine s t w =
-    steps (after (bytes "ND") s) _ w
-    (λ a ha na. let ea = rest-of (subst (Rest (End s)) ha (r-after ends (bytes "ND") (record { from = zero; is = refl }))) in
-    steps (counted a) _ na
-    (λ b hb nb. let eb = end-of (subst (Within (End s)) hb (w-counted ends ea)) in
-    steps (counted (b .1)) _ nb
-    (λ c hc nc. let ec = end-of (subst (Within (End s)) hc (w-counted ends eb)) in
-    steps (modulesAt (length s) (length (c .1)) (c .1)) _ nc
-    (λ d hd nd. let fine = given (subst (Gives s (ModulesFine s)) hd (g-modules (length (c .1)) ec)) in
+    steps (headAt s) _ w
+    (λ a ha na. let ea = end-of (subst (Within (End s)) ha (w-head ends (record { from = zero; is = refl }))) in
+    steps (modulesAt (length s) (length (a .1)) (a .1)) _ na
+    (λ d hd nd. let fine = given (subst (Gives s (ModulesFine s)) hd (g-modules (length (a .1)) ea)) in
     steps (after (bytes "EN") (d .1)) _ nd
-    (λ e he ne. subst (ModulesFine s) (go (eqb (length e) 0) (record { equipmentId = b .0; description = c .0; modules = d .0 }) ne) fine)))))
+    (λ e he ne. subst (ModulesFine s) (go (eqb (length e) 0) (withModules (a .0) (d .0)) ne) fine)))
   where
     go : (b : Bool) (u : Table) → cond b (some u) none ≡ some t → u .modules ≡ t .modules
     go true u e = ap (λ (x : Table). x .modules) (in-some e)

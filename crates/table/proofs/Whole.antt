@@ -16,37 +16,31 @@ use Rattle.ascii.specs.Names.{isText}
 use Rattle.ascii.specs.Reader.{Ends, rest}
 use Rattle.datainfo.specs.Rules.{goodNames, isBetween}
 use Rattle.table.specs.Table as Table
-use Rattle.table.specs.Layout.{begins, moduleAt, modulesAt, wholeTable, readTable, Readable, orEmpty, tableOf}
+use Rattle.table.specs.Layout.{begins, moduleAt, modulesAt, headAt, wholeTable, readTable, Readable, orEmpty, tableOf}
 use Rattle.table.specs.Rules.{accessibleName, accessibleCount, countsGood, namesGood, datainfosGood, initialsGood, lowest}
-use Rattle.table.specs.declared.layout.Part.{Part}
-use Rattle.table.specs.declared.layout.Texts as T
 use Rattle.table.specs.declared.layout.ModuleAt.{ModuleAt}
 use Rattle.table.specs.declared.layout.Heading as H
+use Rattle.table.specs.declared.layout.HeadAt.{HeadAt}
+use Rattle.table.specs.declared.layout.Head as Head
 use Rattle.table.specs.declared.judge.Test.the-variants.{Names, Rules, Initials}
 use Rattle.table.specs.declared.judge.Kind.the-variants.{Modules, Accessibles}
 use Rattle.table.specs.declared.judge.Members as M
-use Rattle.table.specs.At.{bytesOf, Inside, textsAt, TextsAt, accessiblesFrom, headingAt, moduleOf, HeadingIs, modulesFrom}
+use Rattle.table.specs.At.{bytesOf, accessiblesFrom, headingAt, moduleOf, HeadingIs, modulesFrom, headOf, HeadRead}
 use Rattle.table.specs.Judged.{passed, modulePasses, namesFrom, howMany, ModuleHas, MembersAre, few, numberBelow6}
 use Rattle.table.proofs.Accessibles.{Got, got, in-some, rest-none}
 use Rattle.table.proofs.Enough.{before, modules-stop, modules-more, module-less}
-use Rattle.table.proofs.Modules.{withThem, module-as, module-is, table-as, less}
+use Rattle.table.proofs.Modules.{withThem, module-as, module-is, table-none, table-from, less}
 
 -- ## A table that was read
 
--- what was read of the table t, of which the texts are p and q
-pub record Opened (s : List ℕ) (p q : Part) (t : Table.Table) : Type 0 where
-  pub id : t .equipmentId ≡ bytesOf s p
-  pub description : t .description ≡ bytesOf s q
+-- what was read of the table t, of whose head q has the positions
+pub record Opened (s : List ℕ) (q : HeadAt) (t : Table.Table) : Type 0 where
+  pub id : t .equipmentId ≡ bytesOf s (q .id)
+  pub description : t .description ≡ bytesOf s (q .description)
+  pub head : headAt s ≡ some (Table.withModules t [], drop (q .first) s)
   pub left : List ℕ
-  pub modules : modulesFrom s (q .to) ≡ some (t .modules, left)
+  pub modules : modulesFrom s (q .first) ≡ some (t .modules, left)
   pub end : after (bytes "EN") left ≡ some []
-
-module _ (s : List ℕ) (r : T.Texts) (o : Option ((List ℕ × List ℕ) × List ℕ)) (h : TextsAt s r o) (p q : Part) (e : r ≡ T.the-variants.At p q) where
-  pub name-text : Inside s p
-  name-text = (rw e at h) .name
-
-  pub description-text : Inside s q
-  description-text = (rw e at h) .description
 
 pub never : {A : Type 0} {t : A} → none ≡ some t → ⊥
 never e = let z : _≡_ {A = ℕ} 0 1 = cc in omega arith
@@ -61,62 +55,60 @@ readable-whole s e = go (leb (length s) 16384) (wholeTable s) e
     go true (some t) e = refl
     go false o e = absurd (false≢true e)
 
-module _ (s : List ℕ) (r : T.Texts) (h : TextsAt s r (textsAt (78 ∷ 68 ∷ []) (drop 0 s))) (t : Table.Table) (w : wholeTable s ≡ some t) where
-  pub unread : r ≡ T.the-variants.Bad → ⊥
-  unread e = never (sym (table-as s ∙ rw (rw e at h)) ∙ w)
+module _ (s : List ℕ) (r : Head.Head) (h : HeadRead s r) (t : Table.Table) (w : wholeTable s ≡ some t) where
+  pub unread : r ≡ Head.the-variants.Bad → ⊥
+  unread e = never (sym (table-none s r h e) ∙ w)
 
-  pub untold : (b : Bool) → r ≡ T.the-variants.Bad → false ≡ b
+  pub untold : (b : Bool) → r ≡ Head.the-variants.Bad → false ≡ b
   untold b e = absurd (unread e)
 
-  module _ (p q : Part) (e : r ≡ T.the-variants.At p q) where
-    pub opened : Opened s p q t
-    unfolding bytes
-    opened = go (modulesFrom s (q .to)) refl (sym (table-as s ∙ rw ((rw e at h) .is)) ∙ w)
+  module _ (q : HeadAt) (e : r ≡ Head.the-variants.Read q) where
+    pub opened : Opened s q t
+    unfolding bytes headOf
+    opened = go (modulesFrom s (q .first)) refl (sym (table-from s r h q e) ∙ w)
       where
-        read : List Table.Module → Table.Table
-        read ms = record { equipmentId = bytesOf s p; description = bytesOf s q; modules = ms }
-
         none-left : (l : List ℕ) → eqb (length l) 0 ≡ true → l ≡ []
         none-left [] k = refl
         none-left (b ∷ l) k = let z = eqb-true (length (b ∷ l)) 0 k in absurd (omega arith)
 
-        ends : (ms : List Table.Module) (x : List ℕ) → modulesFrom s (q .to) ≡ some (ms, x) → (l : List ℕ) → after (69 ∷ 78 ∷ []) x ≡ some l → (b : Bool) → eqb (length l) 0 ≡ b → cond b (some (read ms)) none ≡ some t → Opened s p q t
+        ends : (ms : List Table.Module) (x : List ℕ) → modulesFrom s (q .first) ≡ some (ms, x) → (l : List ℕ) → after (69 ∷ 78 ∷ []) x ≡ some l → (b : Bool) → eqb (length l) 0 ≡ b → cond b (some (Table.withModules (headOf s q) ms)) none ≡ some t → Opened s q t
         ends ms x g l a false k z = absurd (never z)
         ends ms x g l a true k z =
             let y = in-some z in
             record {
               id = sym (ap (λ (u : Table.Table). u .equipmentId) y);
               description = sym (ap (λ (u : Table.Table). u .description) y);
+              head = (rw e at h) .is ∙ ap (λ (u : Table.Table). some (Table.withModules u [], drop (q .first) s)) y;
               left = x;
               modules = rw (← y) g;
               end = a ∙ ap some (none-left l k);
             }
 
-        marked : (ms : List Table.Module) (x : List ℕ) → modulesFrom s (q .to) ≡ some (ms, x) → (o : Option (List ℕ)) → after (69 ∷ 78 ∷ []) x ≡ o → (o >>= λ l. cond (eqb (length l) 0) (some (read ms)) none) ≡ some t → Opened s p q t
+        marked : (ms : List Table.Module) (x : List ℕ) → modulesFrom s (q .first) ≡ some (ms, x) → (o : Option (List ℕ)) → after (69 ∷ 78 ∷ []) x ≡ o → (o >>= λ l. cond (eqb (length l) 0) (some (Table.withModules (headOf s q) ms)) none) ≡ some t → Opened s q t
         marked ms x g none a z = absurd (never z)
         marked ms x g (some l) a z = ends ms x g l a (eqb (length l) 0) refl z
 
-        go : (o : Option (List Table.Module × List ℕ)) → modulesFrom s (q .to) ≡ o → (o >>= λ m. after (69 ∷ 78 ∷ []) (m .1) >>= λ l. cond (eqb (length l) 0) (some (read (m .0))) none) ≡ some t → Opened s p q t
+        go : (o : Option (List Table.Module × List ℕ)) → modulesFrom s (q .first) ≡ o → (o >>= λ m. after (69 ∷ 78 ∷ []) (m .1) >>= λ l. cond (eqb (length l) 0) (some (Table.withModules (headOf s q) (m .0))) none) ≡ some t → Opened s q t
         go none g z = absurd (never z)
         go (some m) g z = marked (m .0) (m .1) g (after (69 ∷ 78 ∷ []) (m .1)) refl z
 
 -- ## Names and datainfos
 
-module _ (s : List ℕ) (r : T.Texts) (h : TextsAt s r (textsAt (78 ∷ 68 ∷ []) (drop 0 s))) (t : Table.Table) (w : wholeTable s ≡ some t) (p q : Part) (er : r ≡ T.the-variants.At p q) where
-  x : Opened s p q t
-  x = opened s r h t w p q er
+module _ (s : List ℕ) (r : Head.Head) (h : HeadRead s r) (t : Table.Table) (w : wholeTable s ≡ some t) (q : HeadAt) (er : r ≡ Head.the-variants.Read q) where
+  x : Opened s q t
+  x = opened s r h t w q er
 
-  module _ (a : Bool) (ha : a ≡ isText (bytesOf s p)) where
+  module _ (a : Bool) (ha : a ≡ isText (bytesOf s (q .id))) where
     pub id-bad : not a ≡ true → false ≡ namesGood t
     unfolding namesGood
     id-bad n = rw (x .id, ← ha, not-true a n)
 
-    module _ (na : not a ≡ false) (b : Bool) (hb : b ≡ isText (bytesOf s q)) where
+    module _ (na : not a ≡ false) (b : Bool) (hb : b ≡ isText (bytesOf s (q .description))) where
       pub description-bad : not b ≡ true → false ≡ namesGood t
       unfolding namesGood
       description-bad n = rw (x .id, x .description, ← ha, ← hb, not-false a na, not-true b n)
 
-      module _ (nb : not b ≡ false) (c : Bool) (hc : c ≡ passed goodNames (namesFrom Modules s (q .to))) where
+      module _ (nb : not b ≡ false) (c : Bool) (hc : c ≡ passed goodNames (namesFrom Modules s (q .first))) where
         unique : c ≡ goodNames (map (λ (m : Table.Module). m .name) (t .modules))
         unfolding namesFrom
         unique = hc ∙ rw (x .modules)
@@ -125,15 +117,15 @@ module _ (s : List ℕ) (r : T.Texts) (h : TextsAt s r (textsAt (78 ∷ 68 ∷ [
         unfolding namesGood
         modules-misnamed n = rw (x .id, x .description, ← ha, ← hb, not-false a na, not-false b nb, ← unique, not-true c n)
 
-        pub names-all : (d : Bool) → not c ≡ false → d ≡ passed (all (modulePasses Names)) (modulesFrom s (q .to)) → d ≡ namesGood t
+        pub names-all : (d : Bool) → not c ≡ false → d ≡ passed (all (modulePasses Names)) (modulesFrom s (q .first)) → d ≡ namesGood t
         unfolding namesGood modulePasses
         names-all d n hd = rw (x .id, x .description, ← ha, ← hb, not-false a na, not-false b nb, ← unique, not-false c n) (hd ∙ rw (x .modules))
 
-  pub datainfos-all : (d : Bool) → d ≡ passed (all (modulePasses Rules)) (modulesFrom s (q .to)) → d ≡ datainfosGood t
+  pub datainfos-all : (d : Bool) → d ≡ passed (all (modulePasses Rules)) (modulesFrom s (q .first)) → d ≡ datainfosGood t
   unfolding datainfosGood modulePasses
   datainfos-all d hd = hd ∙ rw (x .modules)
 
-  pub initials-all : (d : Bool) → d ≡ passed (all (modulePasses Initials)) (modulesFrom s (q .to)) → d ≡ initialsGood t
+  pub initials-all : (d : Bool) → d ≡ passed (all (modulePasses Initials)) (modulesFrom s (q .first)) → d ≡ initialsGood t
   unfolding initialsGood modulePasses
   initials-all d hd = hd ∙ rw (x .modules)
 
@@ -213,9 +205,9 @@ module _ (s : List ℕ) (i : ℕ) (b : Bool) (hb : b ≡ begins (bytes "MO") (dr
             go none = refl
             go (some k) = few-more n (accessibleCount (k .0)) left l
 
-module _ (s : List ℕ) (r : T.Texts) (h : TextsAt s r (textsAt (78 ∷ 68 ∷ []) (drop 0 s))) (t : Table.Table) (w : wholeTable s ≡ some t) (p q : Part) (er : r ≡ T.the-variants.At p q) (n : ℕ) (hn : n ≡ howMany 0 (namesFrom Modules s (q .to))) where
-  y : Opened s p q t
-  y = opened s r h t w p q er
+module _ (s : List ℕ) (r : Head.Head) (h : HeadRead s r) (t : Table.Table) (w : wholeTable s ≡ some t) (q : HeadAt) (er : r ≡ Head.the-variants.Read q) (n : ℕ) (hn : n ≡ howMany 0 (namesFrom Modules s (q .first))) where
+  y : Opened s q t
+  y = opened s r h t w q er
 
   pub modules-many : n ≡ length (t .modules)
   unfolding namesFrom
@@ -232,7 +224,7 @@ module _ (s : List ℕ) (r : T.Texts) (h : TextsAt s r (textsAt (78 ∷ 68 ∷ [
   unfolding countsGood isBetween
   counts-over g l = rw (← modules-many, le-leb 1 n g, lt-leb n 16 l)
 
-  pub counts-all : (d : Bool) → 1 ≤ n → n ≤ 16 → d ≡ passed (few 64) (modulesFrom s (q .to)) → d ≡ countsGood t
+  pub counts-all : (d : Bool) → 1 ≤ n → n ≤ 16 → d ≡ passed (few 64) (modulesFrom s (q .first)) → d ≡ countsGood t
   unfolding countsGood isBetween few
   counts-all d g l hd = rw (← modules-many, le-leb 1 n g, le-leb n 16 l) (hd ∙ rw (y .modules))
 

@@ -11,7 +11,7 @@ use Rattle.ascii.specs.Numbers.{unsigned}
 use Rattle.datainfo.specs.Datainfo.{Datainfo}
 use Rattle.datainfo.specs.Layout.{counted, datainfoAt}
 use Rattle.table.specs.Table as Table
-use Rattle.table.specs.Layout.{begins, flag, argumentAt, parameterAt, commandAt, accessiblesAt, noteAt, modulesAt}
+use Rattle.table.specs.Layout.{begins, flag, argumentAt, parameterAt, commandAt, accessiblesAt, noteAt, modulesAt, headAt}
 use Rattle.table.specs.declared.layout.Part.{Part}
 use Rattle.table.specs.declared.layout.Bytes as B
 use Rattle.table.specs.declared.layout.Texts as T
@@ -22,6 +22,8 @@ use Rattle.table.specs.declared.layout.Accessible as A
 use Rattle.table.specs.declared.layout.ModuleAt.{ModuleAt}
 use Rattle.table.specs.declared.layout.Note as N
 use Rattle.table.specs.declared.layout.Heading as H
+use Rattle.table.specs.declared.layout.HeadAt.{HeadAt}
+use Rattle.table.specs.declared.layout.Head as Head
 
 -- the bytes of a part
 unfoldable pub bytesOf : List ℕ → Part → List ℕ
@@ -185,3 +187,21 @@ HeadingIs s H.the-variants.Bad o = o ≡ none
 -- the modules from a position on
 abbrev pub modulesFrom : List ℕ → ℕ → Option (List Table.Module × List ℕ)
 modulesFrom s at = modulesAt (length s) (length (drop at s)) (drop at s)
+
+-- ## The head
+
+-- the table of whose head q has the positions, with no modules yet
+unfoldable pub headOf : List ℕ → HeadAt → Table.Table
+headOf s q = record { equipmentId = bytesOf s (q .id); description = bytesOf s (q .description); modules = [] }
+
+-- q has the positions of the head of s: the first module's record begins at `first`
+pub record HeadIs (s : List ℕ) (q : HeadAt) : Type 0 where
+  pub is : headAt s ≡ some (headOf s q, drop (q .first) s)
+  pub id : Inside s (q .id)
+  pub description : Inside s (q .description)
+  pub within : q .first ≤ length s
+
+-- the answer of a reader of the head of s
+abbrev pub HeadRead : List ℕ → Head.Head → Type 0
+HeadRead s (Head.the-variants.Read q) = HeadIs s q
+HeadRead s Head.the-variants.Bad = headAt s ≡ none

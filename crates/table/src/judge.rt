@@ -2,20 +2,20 @@
 // that can be read.
 use crate::layout::Accessible;
 use crate::layout::CommandAt;
+use crate::layout::Head;
 use crate::layout::Heading;
 use crate::layout::ModuleAt;
 use crate::layout::ParameterAt;
 use crate::layout::Part;
-use crate::layout::Texts;
 use crate::layout::accessible_at;
 use crate::layout::accessible_end;
 use crate::layout::accessibles_end;
+use crate::layout::head_at;
 use crate::layout::heading_at;
 use crate::layout::is_accessible;
 use crate::layout::is_module;
 use crate::layout::is_readable;
 use crate::layout::module_end;
-use crate::layout::texts_at;
 use ascii::Next;
 use ascii::names::is_name;
 use ascii::names::is_text;
@@ -420,10 +420,10 @@ fn accessibles_are_few(s: &[u8], at: usize, most: usize) -> bool
 fn counts_good(s: &[u8]) -> bool
     ensures { λ r. ⌜ ((t : Table) → wholeTable (now (s .entry)) ≡ some t → r ≡ countsGood t) ⌝ }
 {
-    let Texts::At(_, description) = texts_at(s, 0, b'N', b'D') else {
+    let Head::Read(h) = head_at(s) else {
         return false;
     };
-    let first = description.to;
+    let first = h.first;
     let n = count(s, first, Kind::Modules);
     if n < 1 {
         return false;
@@ -438,10 +438,12 @@ fn counts_good(s: &[u8]) -> bool
 fn names_good(s: &[u8]) -> bool
     ensures { λ r. ⌜ ((t : Table) → wholeTable (now (s .entry)) ≡ some t → r ≡ namesGood t) ⌝ }
 {
-    let Texts::At(id, description) = texts_at(s, 0, b'N', b'D') else {
+    let Head::Read(h) = head_at(s) else {
         return false;
     };
-    let first = description.to;
+    let id = h.id;
+    let description = h.description;
+    let first = h.first;
     if !part_is_text(s, id) {
         return false;
     }
@@ -458,10 +460,10 @@ fn names_good(s: &[u8]) -> bool
 fn datainfos_good(s: &[u8]) -> bool
     ensures { λ r. ⌜ ((t : Table) → wholeTable (now (s .entry)) ≡ some t → r ≡ datainfosGood t) ⌝ }
 {
-    let Texts::At(_, description) = texts_at(s, 0, b'N', b'D') else {
+    let Head::Read(h) = head_at(s) else {
         return false;
     };
-    let first = description.to;
+    let first = h.first;
     modules_pass(s, first, Test::Rules)
 }
 
@@ -469,10 +471,10 @@ fn datainfos_good(s: &[u8]) -> bool
 fn initials_good(s: &[u8]) -> bool
     ensures { λ r. ⌜ ((t : Table) → wholeTable (now (s .entry)) ≡ some t → r ≡ initialsGood t) ⌝ }
 {
-    let Texts::At(_, description) = texts_at(s, 0, b'N', b'D') else {
+    let Head::Read(h) = head_at(s) else {
         return false;
     };
-    let first = description.to;
+    let first = h.first;
     modules_pass(s, first, Test::Initials)
 }
 

@@ -13,7 +13,7 @@ ghost use Rattle.ascii.specs.Bytes.{after, isSome};
 ghost use Rattle.ascii.specs.Text.{bytes};
 ghost use Rattle.ascii.specs.Reader.{Ends, rest};
 ghost use Rattle.table.specs.Layout.{begins, flag, argumentAt, parameterAt, commandAt, moduleAt, readTable};
-ghost use Rattle.table.specs.At.{accessibleBegins, accessibleAt, accessiblesFrom, headingAt, modulesFrom, textsAt, Sized, TextsAt, FlagIs, AccessibleIs, NoteIs, HeadingIs};
+ghost use Rattle.table.specs.At.{accessibleBegins, accessibleAt, accessiblesFrom, headingAt, modulesFrom, textsAt, Sized, TextsAt, FlagIs, AccessibleIs, NoteIs, HeadingIs, HeadRead};
 
 // The bytes from one position up to another.
 pub struct Part {
@@ -78,6 +78,18 @@ pub enum Heading {
     Bad,
 }
 
+// What stands before the modules. `first` is where the first module's record begins.
+pub struct HeadAt {
+    pub id: Part,
+    pub description: Part,
+    pub first: usize,
+}
+
+pub enum Head {
+    Read(HeadAt),
+    Bad,
+}
+
 // A note that was read, or that there is none.
 pub enum Note {
     At(Part),
@@ -128,9 +140,9 @@ fn sized_at(s: &[u8], at: usize, k: usize) -> Bytes
     Bytes::At(Part { from, to })
 }
 
-// A record's mark a and b, and two texts: a name or an equipment id, and a description. So begin the `ND` record at 0, which is
-// followed by the modules, and each other record that has a name.
-pub fn texts_at(s: &[u8], at: usize, a: u8, b: u8) -> Texts
+// A record's mark a and b, and two texts: a name or an equipment id, and a description. So begin the `ND` record and each other
+// record that has a name.
+fn texts_at(s: &[u8], at: usize, a: u8, b: u8) -> Texts
     requires { ⌜ at ≤ length (now s) ⌝ }
     ensures { λ r. ⌜ TextsAt (now (s .entry)) r (textsAt (a ∷ b ∷ []) (drop at (now (s .entry)))) ⌝ }
 {
@@ -354,6 +366,21 @@ fn modules_end(s: &[u8], at: usize) -> Next
     Next::At(i)
 }
 
+// The table's head, which alone says where the modules begin.
+pub fn head_at(s: &[u8]) -> Head
+    ensures { λ r. ⌜ HeadRead (now (s .entry)) r ⌝ }
+{
+    let Texts::At(id, description) = texts_at(s, 0, b'N', b'D') else {
+        return Head::Bad;
+    };
+    let first = description.to;
+    Head::Read(HeadAt {
+        id,
+        description,
+        first,
+    })
+}
+
 // Whether the table's layout can be read.
 pub fn is_readable(s: &[u8]) -> bool
     ensures { λ r. ⌜ r ≡ isSome (readTable (now (s .entry))) ⌝ }
@@ -361,10 +388,10 @@ pub fn is_readable(s: &[u8]) -> bool
     if 16384 < s.len() {
         return false;
     }
-    let Texts::At(_, description) = texts_at(s, 0, b'N', b'D') else {
+    let Head::Read(h) = head_at(s) else {
         return false;
     };
-    let first = description.to;
+    let first = h.first;
     let Next::At(last) = modules_end(s, first) else {
         return false;
     };

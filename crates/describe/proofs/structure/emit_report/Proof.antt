@@ -1,17 +1,16 @@
 -- `describe::structure::emit_report` meets its contract. Assumes nothing.
 use Rattle.describe.proofs.Reported.{report-none, report-told}
 use Rattle.ascii.specs.Text.{bytes}
-use Rattle.table.proofs.Records.{texts-within}
-use Rattle.table.proofs.Whole.{name-text, description-text}
+use Rattle.table.proofs.Modules.{head-id, head-description, head-within}
 use borrow.Author.Needs.{needs}
 use Rattle.describe.proofs.structure.emit_report.Statement.{statement}
 use Rattle.describe.proofs.structure.emit_report.Tie as tie
 
-texts-at-requires : tie.Need-texts-at-requires
-texts-at-requires c κs = search needs
+head-at-requires : tie.Need-head-at-requires
+head-at-requires c κs = search needs
 
-enum-known-id : tie.Need-enum-known-id
-enum-known-id c = search needs
+enum-known-h : tie.Need-enum-known-h
+enum-known-h c = search needs
 
 enum-told : tie.Need-enum-told
 enum-told c = search needs
@@ -26,10 +25,10 @@ emit-requires : tie.Need-emit-requires
 emit-requires c κs = search needs
 
 emit-modules-requires : tie.Need-emit-modules-requires
-emit-modules-requires c κs = search texts-within
+emit-modules-requires c κs = search head-within
 
 emit-texts-requires : tie.Need-emit-texts-requires
-emit-texts-requires c κs = (search name-text, search description-text)
+emit-texts-requires c κs = (search head-id, search head-description)
 
 same-length : tie.Need-same-length
 same-length c = search needs
@@ -42,8 +41,8 @@ pub emit-report-spec : {M : Type 1} → statement M
 emit-report-spec =
     tie.close
     (tie.spec
-    texts-at-requires
-    enum-known-id
+    head-at-requires
+    enum-known-h
     enum-told
     returns
     slice-aggregate-emit

@@ -4,11 +4,11 @@ use Rattle.search.proofs.Lefts.{first-bad, first-good}
 use Rattle.search.proofs.cursor.first_cursor.Statement.{statement}
 use Rattle.search.proofs.cursor.first_cursor.Tie as tie
 
-texts-at-requires : tie.Need-texts-at-requires
-texts-at-requires c κs = search needs
+head-at-requires : tie.Need-head-at-requires
+head-at-requires c κs = search needs
 
-enum-known-description : tie.Need-enum-known-description
-enum-known-description c = search needs
+enum-known-h : tie.Need-enum-known-h
+enum-known-h c = search needs
 
 enum-told : tie.Need-enum-told
 enum-told c = search needs
@@ -23,8 +23,8 @@ pub first-cursor-spec : {M : Type 1} → statement M
 first-cursor-spec =
     tie.close
     (tie.spec
-    texts-at-requires
-    enum-known-description
+    head-at-requires
+    enum-known-h
     enum-told
     returns
     returns-2)

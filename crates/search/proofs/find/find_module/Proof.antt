@@ -1,15 +1,15 @@
 -- `search::find::find_module` meets its contract. Assumes nothing.
 use borrow.Author.Needs.{needs}
 use Rattle.search.proofs.Searches.{find-untold, find-modules}
-use Rattle.table.proofs.Records.{texts-within}
+use Rattle.table.proofs.Modules.{head-within}
 use Rattle.search.proofs.find.find_module.Statement.{statement}
 use Rattle.search.proofs.find.find_module.Tie as tie
 
-texts-at-requires : tie.Need-texts-at-requires
-texts-at-requires c κs = search needs
+head-at-requires : tie.Need-head-at-requires
+head-at-requires c κs = search needs
 
-enum-known-description : tie.Need-enum-known-description
-enum-known-description c = search needs
+enum-known-h : tie.Need-enum-known-h
+enum-known-h c = search needs
 
 enum-told : tie.Need-enum-told
 enum-told c = search needs
@@ -18,7 +18,7 @@ returns : tie.Need-returns
 returns c = search find-untold
 
 module-from-requires : tie.Need-module-from-requires
-module-from-requires c κs = search texts-within
+module-from-requires c κs = search head-within
 
 returns-2 : tie.Need-returns-2
 returns-2 c = search find-modules
@@ -27,8 +27,8 @@ pub find-module-spec : {M : Type 1} → statement M
 find-module-spec =
     tie.close
     (tie.spec
-    texts-at-requires
-    enum-known-description
+    head-at-requires
+    enum-known-h
     enum-told
     returns
     module-from-requires

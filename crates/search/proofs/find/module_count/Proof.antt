@@ -1,15 +1,15 @@
 -- `search::find::module_count` meets its contract. Assumes nothing.
 use borrow.Author.Needs.{needs}
-use Rattle.table.proofs.Records.{texts-within}
+use Rattle.table.proofs.Modules.{head-within}
 use Rattle.search.proofs.Searches.{count-untold, count-modules}
 use Rattle.search.proofs.find.module_count.Statement.{statement}
 use Rattle.search.proofs.find.module_count.Tie as tie
 
-texts-at-requires : tie.Need-texts-at-requires
-texts-at-requires c κs = search needs
+head-at-requires : tie.Need-head-at-requires
+head-at-requires c κs = search needs
 
-enum-known-description : tie.Need-enum-known-description
-enum-known-description c = search needs
+enum-known-h : tie.Need-enum-known-h
+enum-known-h c = search needs
 
 enum-told : tie.Need-enum-told
 enum-told c = search needs
@@ -18,7 +18,7 @@ returns : tie.Need-returns
 returns c = search count-untold
 
 count-requires : tie.Need-count-requires
-count-requires c κs = search texts-within
+count-requires c κs = search head-within
 
 returns-2 : tie.Need-returns-2
 returns-2 c = search count-modules
@@ -27,8 +27,8 @@ pub module-count-spec : {M : Type 1} → statement M
 module-count-spec =
     tie.close
     (tie.spec
-    texts-at-requires
-    enum-known-description
+    head-at-requires
+    enum-known-h
     enum-told
     returns
     count-requires

@@ -1,7 +1,6 @@
 -- `table::layout::is_readable` meets its contract. Assumes nothing.
 use borrow.Author.Needs.{needs}
-use Rattle.table.proofs.Modules.{readable-long, readable-untold, readable-unmodelled, readable-endless, readable-end}
-use Rattle.table.proofs.Records.{texts-within}
+use Rattle.table.proofs.Modules.{head-within, readable-long, readable-headless, readable-unmodelled, readable-endless, readable-end}
 use Rattle.ascii.proofs.Bytes.{ended-within}
 use Rattle.table.proofs.layout.is_readable.Statement.{statement}
 use Rattle.table.proofs.layout.is_readable.Tie as tie
@@ -9,20 +8,20 @@ use Rattle.table.proofs.layout.is_readable.Tie as tie
 returns : tie.Need-returns
 returns c = search readable-long
 
-texts-at-requires : tie.Need-texts-at-requires
-texts-at-requires c κs = search needs
+head-at-requires : tie.Need-head-at-requires
+head-at-requires c κs = search needs
 
-enum-known-description : tie.Need-enum-known-description
-enum-known-description c = search needs
+enum-known-h : tie.Need-enum-known-h
+enum-known-h c = search needs
 
 enum-told : tie.Need-enum-told
 enum-told c = search needs
 
 returns-2 : tie.Need-returns-2
-returns-2 c = search readable-untold
+returns-2 c = search readable-headless
 
 modules-end-requires : tie.Need-modules-end-requires
-modules-end-requires c κs = search texts-within
+modules-end-requires c κs = search head-within
 
 enum-known-last : tie.Need-enum-known-last
 enum-known-last c = search needs
@@ -53,8 +52,8 @@ is-readable-spec =
     tie.close
     (tie.spec
     returns
-    texts-at-requires
-    enum-known-description
+    head-at-requires
+    enum-known-h
     enum-told
     returns-2
     modules-end-requires

@@ -1,0 +1,23 @@
+-- `table::layout::head_at` meets its contract. Assumes nothing.
+use borrow.Author.Needs.{needs}
+use Rattle.table.proofs.Modules.{head-bad, head-good}
+use Rattle.table.proofs.layout.head_at.Statement.{statement}
+use Rattle.table.proofs.layout.head_at.Tie as tie
+
+texts-at-requires : tie.Need-texts-at-requires
+texts-at-requires c κs = search needs
+
+enum-known-id : tie.Need-enum-known-id
+enum-known-id c = search needs
+
+enum-told : tie.Need-enum-told
+enum-told c = search needs
+
+returns : tie.Need-returns
+returns c = search head-bad
+
+returns-2 : tie.Need-returns-2
+returns-2 c = search head-good
+
+pub head-at-spec : {M : Type 1} → statement M
+head-at-spec = tie.close (tie.spec texts-at-requires enum-known-id enum-told returns returns-2)
