@@ -1,26 +1,21 @@
-// Runs the five calls of a node over a script from standard input and writes what each answers. `script` says what a script is made of,
-// `say` what is written.
-mod poke;
-mod say;
-mod script;
-
+// Runs the five calls of a node over a script from standard input and writes what each answers. `script::operation` says what a script is
+// made of, `script::say` what is written.
 use libc::STDIN_FILENO;
 use node::clients::jihfasul_close;
 use node::clients::jihfasul_open;
 use node::pieces::jihfasul_piece;
 use node::readings::jihfasul_reading;
 use node::start::jihfasul_start;
-use poke::blank;
-use poke::poked;
-use poke::put_within;
 use promise::Done;
-use say::fill;
-use say::write_answer;
-use say::write_note;
-use say::write_state;
-use script::Operation;
-use script::is_call;
-use script::read_operation;
+use script::operation::Operation;
+use script::operation::read_operation;
+use script::poke::blank;
+use script::poke::poked;
+use script::poke::put_within;
+use script::say::fill;
+use script::say::write_answer;
+use script::say::write_note;
+use script::say::write_state;
 use state::State;
 
 // What is kept from operation to operation: the length of the table, and the state. `more` says whether the script may go on.
@@ -28,6 +23,13 @@ struct Kept {
     more: bool,
     table: usize,
     state: State,
+}
+
+fn is_call(code: u8) -> bool {
+    match code {
+        b'S' | b'O' | b'C' | b'P' | b'R' => true,
+        _ => false,
+    }
 }
 
 // The call that an operation names.

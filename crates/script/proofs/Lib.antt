@@ -1,0 +1,4 @@
+pub mod Within
+pub mod Head
+pub mod Changed
+pub mod Pattern

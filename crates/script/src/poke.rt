@@ -1,0 +1,131 @@
+// Changes of a kept state from outside, as a host makes that stores it and brings it back, rightly or wrongly.
+use crate::operation::Operation;
+use ascii::write::put;
+use state::Clients;
+use state::Settings;
+use state::State;
+ghost use mathlib.Core.Path.{_≡_};
+ghost use Rattle.promise.specs.Promise as Promise;
+ghost use Rattle.script.specs.Within.{within};
+ghost use Rattle.script.specs.Poke.{withNumber, withLines, withLength, withTime, pokedBy};
+
+// The state of a refused start: no client open and every number 0.
+pub fn blank() -> State
+    ensures { λ r. ⌜ r ≡ Promise.blank 0 ⌝ }
+{
+    State {
+        clients: Clients {
+            open: [0; 8],
+            overlong: [0; 8],
+            active: [0; 8],
+            length: [0; 8],
+            lines: [0; 8192],
+        },
+        settings: Settings {
+            length: [0; 64],
+            time: [0; 64],
+        },
+    }
+}
+
+// Bytes at a place of a lent area; nothing where they would go past its end.
+pub fn put_within(area: &mut [u8], place: u64, bytes: &[u8])
+    ensures { λ r. ⌜ now (area .exit) ≡ within (now (area .entry)) place (now (bytes .entry)) ⌝ }
+{
+    let most = area.len();
+    if place > most as u64 {
+        return;
+    }
+    let at = place as usize;
+    if most - at < bytes.len() {
+        return;
+    }
+    put(area, at, bytes);
+}
+
+fn with_number(s: Clients, code: u8, client: u64, value: u64) -> Clients
+    ensures { λ r. ⌜ r ≡ withNumber s code client value ⌝ }
+{
+    let mut next = s;
+    if client > 7 {
+        return s;
+    }
+    let c = client as usize;
+    match code {
+        b'o' => {
+            next.open[c] = (value % 256) as u8;
+        }
+        b'v' => {
+            next.overlong[c] = (value % 256) as u8;
+        }
+        b'a' => {
+            next.active[c] = (value % 65536) as u16;
+        }
+        b'n' => {
+            next.length[c] = (value % 65536) as u16;
+        }
+        _ => {}
+    }
+    next
+}
+
+fn with_lines(s: Clients, place: u64, bytes: &[u8]) -> Clients
+    ensures { λ r. ⌜ r ≡ withLines s place (now (bytes .entry)) ⌝ }
+{
+    let mut next = s;
+    let mut lines = s.lines;
+    put_within(&mut lines, place, bytes);
+    next.lines = lines;
+    next
+}
+
+fn with_length(s: Settings, parameter: u64, value: u64) -> Settings
+    ensures { λ r. ⌜ r ≡ withLength s parameter value ⌝ }
+{
+    if parameter > 63 {
+        return s;
+    }
+    let k = parameter as usize;
+    let mut next = s;
+    next.length[k] = (value % 65536) as u16;
+    next
+}
+
+fn with_time(s: Settings, parameter: u64, value: u64) -> Settings
+    ensures { λ r. ⌜ r ≡ withTime s parameter value ⌝ }
+{
+    if parameter > 63 {
+        return s;
+    }
+    let k = parameter as usize;
+    let mut next = s;
+    next.time[k] = value;
+    next
+}
+
+// The state with the change that an operation names.
+pub fn poked(state: State, o: Operation, bytes: &[u8]) -> State
+    ensures { λ r. ⌜ r ≡ pokedBy state o (now (bytes .entry)) ⌝ }
+{
+    let clients = state.clients;
+    let settings = state.settings;
+    let code = o.code;
+    match code {
+        b'z' => State {
+            clients,
+            settings: with_length(settings, o.number, o.time),
+        },
+        b't' => State {
+            clients,
+            settings: with_time(settings, o.number, o.time),
+        },
+        b'l' => State {
+            clients: with_lines(clients, o.number, bytes),
+            settings,
+        },
+        _ => State {
+            clients: with_number(clients, code, o.number, o.time),
+            settings,
+        },
+    }
+}
