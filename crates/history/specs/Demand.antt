@@ -1,6 +1,6 @@
 -- Demand 3 about the code, as one claim about a history and its second histories; and that who reads the bytes of a history reads the plain
 -- node's records. What stands in quotation marks is demand 3's own, or document 01's of its plain node. Assumes nothing.
-use Prim.Native.Nat.{ℕ, _+_}
+use Prim.Native.Nat.{ℕ, _+_, _≤_}
 use mathlib.Core.List.{List, [], _∷_, _++_, map}
 use mathlib.Core.Logic.{_≢_}
 use mathlib.Core.Path.{_≡_}
@@ -55,13 +55,14 @@ pub data Past (table : List ℕ) (time : ℕ) : ℕ → ℕ → List Call → Ki
   past : (lent values : List ℕ) (r : Done) → Begins table lent time r → (h : List Call) (k : Kit) (l : List Heard)
       → Run table (kit (r .state) values) h k l → Past table time (length lent) (r .number) h k l
 
--- Of a history: it goes as the plain node does, which is fed the same start and calls. If its start was accepted, every second history of it,
--- with a start of its own that was accepted at the same time, goes as it does.
+-- Of a history: it goes as the plain node does, which is fed the same start and calls. If its start was accepted, then for every second history of
+-- it, with a start of its own at the same time that is lent a values area no smaller than asked: that start is accepted too, and it goes as the
+-- first does.
 pub record Demanded (table : List ℕ) (time area number : ℕ) (h : List Call) (k : Kit) (l : List Heard) : Type 0 where
   pub start : number ≡ startNumber table area time
   pub asPlain : AsPlain table (started table area time) h k l
-  pub asFirst : number ≡ 0 → (area′ : ℕ) (h′ : List Call) (k′ : Kit) (l′ : List Heard) → Past table time area′ 0 h′ k′ l′
-      → IsSecond table (started table area time) h h′ → AsFirst table k l k′ l′
+  pub asFirst : number ≡ 0 → (area′ number′ : ℕ) (h′ : List Call) (k′ : Kit) (l′ : List Heard) → 16384 ≤ area′
+      → Past table time area′ number′ h′ k′ l′ → IsSecond table (started table area time) h h′ → (number′ ≡ 0) × AsFirst table k l k′ l′
 
 -- Demand 3, "one claim about a history, not one for each call": "for every history of calls", from any start on.
 abbrev pub Demand3 : Type 0

@@ -7,9 +7,9 @@ use mathlib.Core.Path.{_≡_, refl, sym, _∙_, ap, ap₂, subst, fun-ext}
 use lib.Dec.{eqb, ltb}
 use borrow.Author.Tests.{eqb-true, not-true, not-false}
 use Rattle.plain.specs.Node.{Node, isOpen}
-use Rattle.plain.specs.Calls.{Event, Open, Close, Piece, Reading, Lent, Call, hasFeed}
+use Rattle.plain.specs.Calls.{Event, Open, Close, Piece, Reading, Lent, Call, sends, hasFeed}
 use Rattle.plain.specs.History.{feeds, opens, closes, Item, byte, mark, itemOf, markOf, consIf, own, marks, standing, pieceItems, itemsOf, items, AllRoomy, IsSecond}
-use Rattle.second.specs.Theorems.{EmptyPasses, CallsMayChangePlaces, eventOf, PiecesMayBeMingled, PiecesMayBeCut}
+use Rattle.second.specs.Theorems.{EmptyPasses, CallsMayChangePlaces, eventOf, PiecesMayBeMingled, PiecesMayBeCut, UnusedMayBeOffered}
 use Rattle.second.proofs.Items.{own-append, marks-append, standing-append, inOrder, own-both}
 use Rattle.second.proofs.Calls.{order-piece}
 use Rattle.second.proofs.Second.{all-used}
@@ -154,6 +154,17 @@ module _ (c t : ℕ) where
       go true k h = absurd (false≢true (sym h))
       go false k h = ap (byte c v ∷_) (k h)
 
+  -- what follows a line feed has no items
+  piece-unused : (xs ys : List ℕ) → hasFeed xs ≡ true → pieceItems c t xs ≡ pieceItems c t (xs ++ ys)
+  unfolding pieceItems hasFeed
+  piece-unused [] ys h = absurd (false≢true h)
+  piece-unused (v ∷ xs) ys h = go (eqb v 10) (piece-unused xs ys) h
+    where
+      go : (p : Bool) → (hasFeed xs ≡ true → pieceItems c t xs ≡ pieceItems c t (xs ++ ys)) → cond p true (hasFeed xs) ≡ true
+          → cond p (mark (feeds c t) ∷ []) (byte c v ∷ pieceItems c t xs) ≡ cond p (mark (feeds c t) ∷ []) (byte c v ∷ pieceItems c t (xs ++ ys))
+      go true k h = refl
+      go false k h = ap (byte c v ∷_) (k h)
+
 -- an event that is not a client's has none of its items
 not-own : (d : ℕ) (e : Event) → eventOf d e ≡ false → own d (itemsOf e) ≡ []
 unfolding eventOf itemsOf own itemOf markOf consIf
@@ -231,4 +242,21 @@ pieces-may-be-cut table n h l r c t s a b d xs ys k u v w =
       λ z.
           let y = piece-open table n h l (g ∷ r) c s b xs z in
           replaced table n h l (f ∷ g ∷ []) (e ∷ []) r (λ m. ap (own m) (sym i)) (ap marks (sym i)) (λ _. (u, tt)) (λ _. (λ m t′ x. j m y (cc), tt)) z,
+    )
+
+pub unused-may-be-offered : UnusedMayBeOffered
+unfolding items itemsOf sends
+unused-may-be-offered table n h l r c t lent xs ys k =
+    let e : Call = record { event = Piece c xs t; lent = lent } in
+    let f : Call = record { event = Piece c (xs ++ ys) t; lent = lent } in
+    let i : items (e ∷ []) ≡ items (f ∷ []) = ap (_++ []) (piece-unused c t xs ys k) in
+    let j : (m : ℕ) → opened n l c ≡ true → m ≡ c → opened n l m ≡ true = λ m z y. ap (opened n l) y ∙ z in
+    let u : AllRoomy (e ∷ []) → AllRoomy (f ∷ []) = λ w. (record { outbox = w .0 .outbox; area = w .0 .area; inTime = w .0 .inTime }, tt) in
+    let v : AllRoomy (f ∷ []) → AllRoomy (e ∷ []) = λ w. (record { outbox = w .0 .outbox; area = w .0 .area; inTime = w .0 .inTime }, tt) in (
+      λ z.
+          let y = piece-open table n h l r c t lent xs z in
+          replaced table n h l (e ∷ []) (f ∷ []) r (λ m. ap (own m) i) (ap marks i) u (λ _. (λ m t′ x. j m y (cc), tt)) z,
+      λ z.
+          let y = piece-open table n h l r c t lent (xs ++ ys) z in
+          replaced table n h l (f ∷ []) (e ∷ []) r (λ m. ap (own m) (sym i)) (ap marks (sym i)) v (λ _. (λ m t′ x. j m y (cc), tt)) z,
     )

@@ -1,6 +1,6 @@
 -- Demand 3's second half, of the plain node. Assumes nothing.
 use Prim.Native.Nat.{ℕ, zero, suc}
-use mathlib.Core.Bool.{Bool, false}
+use mathlib.Core.Bool.{Bool, true, false}
 use mathlib.Core.List.{List, [], _∷_, _++_}
 use mathlib.Core.Logic.{_↔_}
 use mathlib.Core.Path.{_≡_}
@@ -70,3 +70,11 @@ PiecesMayBeCut = (table : List ℕ) (n : Node) (h l r : List Call) (c t s : ℕ)
     let f : Call = record { event = Piece c xs s; lent = y } in
     let g : Call = record { event = Piece c ys t; lent = z } in
     Roomy e → Roomy f → Roomy g → IsSecond table n h (l ++ (e ∷ r)) ↔ IsSecond table n h (l ++ (f ∷ g ∷ r))
+
+-- "The caller offers the rest again": what stands after a piece's line feed is not used and doesn't count, so a piece may be offered with any bytes
+-- after its line feed, those that are offered again among them.
+abbrev pub UnusedMayBeOffered : Type 0
+UnusedMayBeOffered = (table : List ℕ) (n : Node) (h l r : List Call) (c t : ℕ) (lent : Lent) (xs ys : List ℕ) → hasFeed xs ≡ true
+    → let e : Call = record { event = Piece c xs t; lent = lent } in
+    let f : Call = record { event = Piece c (xs ++ ys) t; lent = lent } in
+    IsSecond table n h (l ++ (e ∷ r)) ↔ IsSecond table n h (l ++ (f ∷ r))

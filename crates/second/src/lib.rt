@@ -1,7 +1,8 @@
 // Demand 3's second half, as promises: nothing is run.
 ghost use mathlib.Core.Bool.{true};
 ghost use mathlib.Core.Path.{_≡_};
-ghost use Rattle.second.specs.Theorems.{SecondHistoriesAreAlike, AcceptedCallsAreSecond, CallsMayChangePlaces, PiecesMayBeMingled, PiecesMayBeCut};
+ghost use Rattle.second.specs.Theorems.{SecondHistoriesAreAlike, AcceptedCallsAreSecond, CallsMayChangePlaces};
+ghost use Rattle.second.specs.Theorems.{PiecesMayBeMingled, PiecesMayBeCut, UnusedMayBeOffered};
 
 // After an accepted start, a second history's calls are accepted, the same bytes are sent in the same order, and the ends are equal.
 pub fn second_histories_are_alike() -> bool
@@ -34,6 +35,13 @@ pub fn pieces_may_be_mingled() -> bool
 // A piece may be cut in two anywhere before its line feed, and two such pieces may be joined.
 pub fn pieces_may_be_cut() -> bool
     ensures { λ r. ⌜ (r ≡ true) × PiecesMayBeCut ⌝ }
+{
+    true
+}
+
+// What stands after a piece's line feed is not used, and may be anything.
+pub fn unused_may_be_offered() -> bool
+    ensures { λ r. ⌜ (r ≡ true) × UnusedMayBeOffered ⌝ }
 {
     true
 }
