@@ -235,8 +235,8 @@ history-1 =
       time = 5;
       start = 2;
       calls =
-          Open 7 6 1
-          ∷ Piece 0 (bytes "'\\u{0}\"\0\u{7f}\n") 7 2 3
+          withArea (Open 7 6) 1
+          ∷ withOutbox (Piece 0 (bytes "'\\u{0}\"\0\u{7f}\n") 7) 2 3
           ∷ [];
       due =
           record { number = 2; used = 0; written = bytes "" }
