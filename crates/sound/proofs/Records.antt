@@ -74,6 +74,9 @@ class-short RangeError = omega arith
 abbrev pub Says : Reply → ℕ → Type 0
 Says r k = WellFormedReply r × (length (replyLine r) ≤ k)
 
+pub says-within : (r : Reply) (j k : ℕ) → j ≤ k → Says r j → Says r k
+says-within r j k e h = (h .0, omega (arith, h .1))
+
 pub says-identification : Says identification 36
 unfolding replyLine bytes
 says-identification = (tt, omega arith)
