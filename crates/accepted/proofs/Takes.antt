@@ -17,6 +17,7 @@ use Rattle.table.specs.Layout.{tableOf}
 use Rattle.table.specs.Search.{Placed, parameters}
 use Rattle.table.specs.At.{bytesOf, parameterOf}
 use Rattle.table.specs.declared.layout.ParameterAt.{ParameterAt}
+use Rattle.table.proofs.Search.{parameter-home}
 use Rattle.message.specs.Reply.{Report}
 use Rattle.message.specs.Said.{reportOf}
 use Rattle.outbox.specs.Outbox.{Record, encodeAll}
@@ -26,7 +27,6 @@ use Rattle.plain.specs.Node.{Setting, withSettings, clientNumbers, updatesTo}
 use Rattle.plain.specs.Calls.{Reading, Effect, readingEffect, effect}
 use Rattle.sound.proofs.Lists.{each-at}
 use Rattle.sound.proofs.Accepted.{GoodParameter, accepted}
-use Rattle.sound.proofs.Homes.{parameter-home}
 use Rattle.sound.proofs.Values.{stored, stored-short}
 use Rattle.sound.proofs.Records.{Fine, name-short, written-to}
 use Rattle.state.specs.declared.Settings.{Settings}

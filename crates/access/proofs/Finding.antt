@@ -16,14 +16,13 @@ use Rattle.table.specs.Search.{Placed, parameters, commands, findModule, findPa
 use Rattle.table.specs.At.{bytesOf, Inside, ArgumentReadable, parameterOf, commandOf}
 use Rattle.table.specs.declared.layout.ParameterAt.{ParameterAt}
 use Rattle.table.specs.declared.layout.CommandAt.{CommandAt}
+use Rattle.table.proofs.Search.{parameter-there, parameter-named, command-there, command-named, parameter-home}
 use Rattle.report.specs.Judge.{tableNumber}
 use Rattle.search.specs.Found.{FindsModule, FindsParameter, ParameterFound, FindsCommand, CommandFound}
 use Rattle.search.specs.declared.find.FoundModule as F
 use Rattle.search.specs.declared.find.FoundParameter as P
 use Rattle.search.specs.declared.find.FoundCommand as C
-use Rattle.search.proofs.Finds.{parameter-there, parameter-named, command-there, command-named}
 use Rattle.sound.proofs.Lists.{each-at, there-low}
-use Rattle.sound.proofs.Homes.{parameter-home}
 use Rattle.sound.proofs.Accepted.{GoodParameter, GoodCommand, accepted}
 
 -- ## Modules

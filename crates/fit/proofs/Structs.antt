@@ -17,6 +17,7 @@ use Rattle.ascii.specs.Numbers.{unsigned}
 use Rattle.ascii.specs.Reader.{ByteAt, Ends, rest}
 use Rattle.ascii.specs.Read.{ReadsUnsigned}
 use Rattle.ascii.proofs.Bytes.{tail-drop}
+use Rattle.ascii.proofs.Lists.{both}
 use Rattle.json.specs.Json.{object, Members, bare, value, objectEnd}
 use Rattle.datainfo.specs.Datainfo.{Datainfo, struct, Fields, no-fields, field, fieldNames}
 use Rattle.datainfo.specs.Layout.{counted, fields, structAt, datainfoIn}
@@ -28,7 +29,7 @@ use Rattle.fit.specs.Walk.{OfBoth, Finds}
 use Rattle.fit.specs.declared.Verdict.{Verdict}
 use Rattle.fit.specs.declared.Verdict.the-variants.{Fits, WrongType}
 use Rattle.fit.proofs.Judged.{worse-fits, fits-worse, worse-worse}
-use Rattle.fit.proofs.Shapes.{nothing, just, steps, both, shape, tells-yes, tells-no, as-object, group-object}
+use Rattle.fit.proofs.Shapes.{nothing, just, steps, shape, tells-yes, tells-no, as-object, group-object}
 use Rattle.fit.proofs.Objects.{OnceIn, fields-some, fields-none, struct-some, struct-short, struct-first, same-fields, name-reads}
 
 -- ## The value of a struct

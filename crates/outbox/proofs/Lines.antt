@@ -10,10 +10,11 @@ use Rattle.ascii.specs.Text.{bytes}
 use Rattle.ascii.specs.Bytes.{all, same, head, after, isSome, isIn, isDigit, isLetter}
 use Rattle.ascii.specs.Names.{isName, isNameByte}
 use Rattle.ascii.specs.Numbers.{seconds}
+use Rattle.ascii.proofs.Lists.{both, Lacks, lacks, before, beyond, before-at, beyond-at}
 use Rattle.message.specs.Error.{Class, ProtocolError, NoSuchModule, NoSuchParameter, NoSuchCommand, ReadOnly, BadJSON, WrongType, RangeError, className, classText}
 use Rattle.message.specs.Reply.{Report, Reply, identification, describing, pong, active, inactive, reply, changed, done, error, dataReport, reportText, errorReport, optionally, replyLine}
 use Rattle.outbox.specs.Theorems.{Word, NamedReport, WellFormedReply}
-use Rattle.outbox.proofs.Lists.{and-right, Lacks, lacks, before, beyond, beforeLast, beyondLast, before-eq, beyond-eq, before-last-eq, beyond-last-eq, without, without-eq}
+use Rattle.outbox.proofs.Lists.{beforeLast, beyondLast, before-last-eq, beyond-last-eq, without, without-eq}
 use Rattle.outbox.proofs.Numbers.{numberFrom, seconds-read, seconds-lacks}
 
 -- ## Data reports: the time is what follows the last `:` (58)
@@ -54,7 +55,7 @@ readReport xs =
 
 pub name-lacks : (s : ℕ) → isNameByte s ≡ false → (m : List ℕ) → isName m ≡ true → Lacks s m
 unfolding isName
-name-lacks s f m h = lacks isNameByte s f m (and-right (leb 1 (length m) && leb (length m) 63 && not (isDigit (head m))) (all isNameByte m) h)
+name-lacks s f m h = lacks isNameByte s f m (both (leb 1 (length m) && leb (length m) 63 && not (isDigit (head m))) (all isNameByte m) h .1)
 
 report-parts : (r : Report) → reportText r ≡ r .moduleName ++ 58 ∷ (r .accessible ++ 32 ∷ dataReport (r .value) (r .time))
 unfolding reportText bytes
@@ -65,7 +66,7 @@ unfolding readReport isNameByte isLetter isIn
 report-read r h =
     let m = name-lacks 58 refl (r .moduleName) (h .0) in
     let a = name-lacks 32 refl (r .accessible) (h .1) in
-    rw report-parts (simp (before-eq, beyond-eq, value-read, time-read))
+    rw report-parts (simp (before-at, beyond-at, value-read, time-read))
 
 -- ## Error reports
 
@@ -95,7 +96,7 @@ readPong xs = pong (before 32 xs) (readTime (beyond 32 xs))
 
 pong-read : (token : List ℕ) (now : ℕ) → Word token → readPong (token ++ bytes " " ++ dataReport (bytes "null") now) ≡ pong token now
 unfolding readPong bytes
-pong-read token now h = simp (append-assoc, before-eq, beyond-eq, time-read)
+pong-read token now h = simp (append-assoc, before-at, beyond-at, time-read)
 
 readScope : List ℕ → Option (List ℕ)
 readScope [] = none
@@ -106,7 +107,7 @@ readError xs = error (before 32 xs) (before 32 (beyond 32 xs)) (readClass (beyon
 
 error-read : (a s : List ℕ) (c : Class) → Word a → Word s → readError (a ++ bytes " " ++ s ++ bytes " " ++ errorReport c) ≡ error a s c
 unfolding readError bytes
-error-read a s c h k = simp (append-assoc, before-eq, beyond-eq, class-read)
+error-read a s c h k = simp (append-assoc, before-at, beyond-at, class-read)
 
 begins : List ℕ → List ℕ → Bool
 begins w xs = isSome (after w xs)

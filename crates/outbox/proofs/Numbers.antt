@@ -9,7 +9,7 @@ use borrow.Author.Tests.{ltb-true, ltb-false, le-leb, ne-eqb}
 use Rattle.ascii.specs.Text.{bytes}
 use Rattle.ascii.specs.Bytes.{all, isIn, isDigit}
 use Rattle.ascii.specs.Numbers.{digit, digitsIn, decimal, seconds}
-use Rattle.outbox.proofs.Lists.{all-one, all-append, isOther, Lacks, lacks}
+use Rattle.ascii.proofs.Lists.{all-one, all-append, isOther, Lacks, lacks}
 
 -- ## Digits
 

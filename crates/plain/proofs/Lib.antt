@@ -1,1 +1,4 @@
 pub mod Numbers
+pub mod Put
+pub mod Clients
+pub mod Outcomes

@@ -1,26 +1,25 @@
 -- What stays as answering needs it while a line is joined and carried out. Assumes nothing.
-use Prim.Native.Nat.{ℕ, _≤_, _<_}
-use native.Mathlib.Omega.{arith}
-use borrow.Author.Tests.{ltb-false, eqb-true, eq-eqb, ne-eqb}
+use Prim.Native.Nat.{ℕ, _≤_}
+use borrow.Author.Tests.{ltb-false, eqb-true}
 use mathlib.Core.Bool.{Bool, true, false, cond, not, _&&_, true≢false}
-use mathlib.Core.List.{List, [], _∷_}
+use mathlib.Core.List.{List}
 use mathlib.Core.Path.{_≡_, refl, sym, ap, _∙_}
 use lib.Dec.{eqb}
 use lib.ListN.{length, getD}
-use Rattle.ascii.specs.Numbers.{latest}
 use Rattle.table.specs.Layout.{tableOf}
-use Rattle.plain.specs.Node.{Client, closed, connected, put, isOpen, receive, emptied}
+use Rattle.plain.specs.Node.{Client, closed, connected, isOpen, receive, emptied}
+use Rattle.plain.proofs.Put.{put-at}
+use Rattle.plain.proofs.Clients.{receive-open, emptied-open}
 use Rattle.state.specs.declared.Clients.{Clients}
 use Rattle.state.specs.declared.State.{State}
 use Rattle.message.specs.Line.{Line}
 use Rattle.state.specs.View.{isSet, bit, lineAt, clientAt, nextClients}
-use Rattle.state.specs.Fit.{clientUnfit, isUnfit}
+use Rattle.state.specs.Fit.{clientUnfit}
 use Rattle.state.proofs.Becomes.{Becomes, Always, Sized, LinesFit}
 use Rattle.state.proofs.Cells.{fit-at}
 use Rattle.state.proofs.Kept.{each-fit, fit-lines, still-fit}
-use Rattle.outcome.specs.Ready.{Lent, Ready}
+use Rattle.outcome.specs.Ready.{Ready}
 use Rattle.promise.proofs.Clients.{fit-parts, with-clients}
-use Rattle.promise.proofs.Numbers.{Good}
 
 -- ## Open clients
 
@@ -32,21 +31,6 @@ open-flag false l a = refl
 pub open-is : (s : Clients) (c : ℕ) → isOpen (clientAt s c) ≡ isSet (s .open) c
 unfolding clientAt isOpen
 open-is s c = open-flag (isSet (s .open) c) (lineAt s c) (bit (getD (s .active) c 0))
-
-receive-open : (x : Client) (bs : List ℕ) → isOpen (receive x bs) ≡ isOpen x
-unfolding receive isOpen
-receive-open x [] = refl
-receive-open closed (b ∷ bs) = refl
-receive-open (connected l a) (b ∷ bs) = receive-open (connected _ a) bs
-
-emptied-open : (x : Client) → isOpen (emptied x) ≡ isOpen x
-unfolding emptied isOpen
-emptied-open closed = refl
-emptied-open (connected l a) = refl
-
-put-there : {A : Type 0} (f : ℕ → A) (c : ℕ) (x : A) → put f c x c ≡ x
-unfolding put
-put-there f c x = rw (eq-eqb c c refl) refl
 
 -- two flags that are not both set
 not-both : (a n : ℕ) → not (eqb a 0) && not (eqb n 0) ≡ false → not (eqb a 0) ≡ true → n ≡ 0
@@ -85,7 +69,7 @@ module _ (table : List ℕ) (s : State) (values out : List ℕ) (c : ℕ) (g : R
         lent = g .lent;
         area = g .area;
         fit = with-clients (tableOf table) s values r (g .fit) (still-fit modules b h (fit-parts (tableOf table) s values (g .fit) .1));
-        isOpen = sym (open-is r c) ∙ ap isOpen (b .is c ∙ put-there (clientAt (s .clients)) c x) ∙ o;
+        isOpen = sym (open-is r c) ∙ ap isOpen (b .is c ∙ put-at (clientAt (s .clients)) c x) ∙ o;
       }
 
   pub joined-ready : (bs : List ℕ) (condition : ℕ → Type 0) (r : Clients) → Becomes (s .clients) c (receive (clientAt (s .clients) c) bs) condition r

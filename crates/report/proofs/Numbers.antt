@@ -10,10 +10,10 @@ use borrow.Author.Tests.{ltb-true, ltb-false, le-leb, ne-eqb}
 use Rattle.ascii.specs.Text.{bytes}
 use Rattle.ascii.specs.Bytes.{all, isIn, isDigit, head, tail}
 use Rattle.ascii.specs.Numbers.{digit, digitsIn, decimal, integer}
+use Rattle.ascii.proofs.Lists.{all-cons, all-parts, all-one, all-append, all-weaker, isOther, Lacks, lacks, head-differs}
+use Rattle.ascii.proofs.Lists.{before, beyond, before-all, beyond-all, before-at, beyond-at}
 use Rattle.decimal.specs.Decimal.{Decimal}
 use Rattle.report.specs.Report.{decimalText}
-use Rattle.report.proofs.Lists.{all-cons, all-parts, all-one, all-append, all-weaker, isOther, Lacks, lacks, head-differs}
-use Rattle.report.proofs.Lists.{before, beyond, before-all, beyond-all, before-at, beyond-at}
 
 -- ## Digits
 

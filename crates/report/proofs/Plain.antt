@@ -10,6 +10,7 @@ use borrow.Author.Tests.{not-false}
 use Rattle.ascii.specs.Text.{bytes}
 use Rattle.ascii.specs.Bytes.{all, head, isIn, isDigit, isLetter}
 use Rattle.ascii.specs.Names.{isNameByte, isName, isTextByte, isText, unique}
+use Rattle.ascii.proofs.Lists.{both, all-parts, Lacks, lacks}
 use Rattle.json.specs.Json.{Members}
 use Rattle.datainfo.specs.Datainfo.{Variant, Datainfo, double, int, bool, enum, string, array, tuple, struct, Elements, no-elements, element, Fields, no-fields, field, fieldNames}
 use Rattle.datainfo.specs.Rules as Datainfo
@@ -19,7 +20,6 @@ use Rattle.table.specs.Rules.{accessibleName, ifAny, noteGood, accessibleNamesG
 use Rattle.report.specs.Report.{variantValues, datainfoValue, elementValues, fieldValues, argumentMember, accessibleMember, accessibleMembers}
 use Rattle.report.specs.Report.{noteMember, moduleMembers, reportValue}
 use Rattle.report.specs.Judge.{treeNumber}
-use Rattle.report.proofs.Lists.{both, all-parts, Lacks, lacks}
 use Rattle.report.proofs.Faults.{no-fault, lowest-none}
 use Rattle.report.proofs.Numbers.{natural-number, integer-number, decimal-number}
 use Rattle.report.proofs.Read.{Plain, PlainItems, PlainMembers}

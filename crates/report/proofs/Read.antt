@@ -8,9 +8,9 @@ use lib.Dec.{eqb}
 use lib.ListN.{drop}
 use Rattle.ascii.specs.Text.{bytes}
 use Rattle.ascii.specs.Bytes.{all, takeWhile, dropWhile, head, tail, isIn}
+use Rattle.ascii.proofs.Lists.{taken, dropped, taken-at, dropped-at, differs, Lacks, before, beyond, before-at, beyond-at}
 use Rattle.json.specs.Json.{Json, null, boolean, number, string, array, object, Items, no-items, item, Members, no-members, member}
 use Rattle.json.specs.Json.{quoted, compact, compactItems, moreItems, compactMembers, moreMembers}
-use Rattle.report.proofs.Lists.{taken, dropped, taken-at, dropped-at, differs, Lacks, before, beyond, before-at, beyond-at}
 use Rattle.report.proofs.Numbers.{isNumeric, Numeric}
 
 -- ## The reader: n bounds how many parts are read

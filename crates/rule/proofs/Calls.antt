@@ -17,56 +17,34 @@ use Rattle.report.specs.Judge.{lowest}
 use Rattle.report.proofs.Faults.{no-fault, lowest-none}
 use Rattle.message.specs.Line.{Parts, content, partsOf}
 use Rattle.message.specs.Request.{Request}
-use Rattle.message.specs.Reply.{Reply, error}
+use Rattle.message.specs.Reply.{Reply}
 use Rattle.outbox.specs.Outbox.{Record, final}
 use Rattle.plain.specs.Node.{Client, closed, fresh, Node, put, withClient, withValue, isOpen, lineOf, receive, emptied, reportOf, clientNumbers, updatesTo, showing, withClients}
-use Rattle.plain.specs.Answer.{Outcome, refused, carried, outcome, activates, deactivates, reads, sets, conclude, answerParts, answer}
+use Rattle.plain.specs.Answer.{Outcome, outcome, activates, deactivates, sets, answerParts, answer}
 use Rattle.plain.specs.Calls.{Event, Open, Close, Piece, Reading, Call, ownFaults, callNumber, readingVerdict, beforeFeed, hasFeed, ended, pieceEffect, readingEffect, effect, settle, stepIf}
 use Rattle.plain.specs.History.{step}
 use Rattle.plain.proofs.Numbers as Numbers
+use Rattle.plain.proofs.Put.{put-at, put-put}
+use Rattle.plain.proofs.Clients.{emptied-received}
+use Rattle.plain.proofs.Outcomes.{nodeAfter, before, replyTo, concluded, outcome-holds}
 use Rattle.rule.specs.Theorems.{requestOf, Refused, RefusalsAlterNothing}
-use Rattle.rule.proofs.Laws.{put-same, put-put, emptied-received, NoFinal, final-not-in, updates-to-no-final, updates-of-no-final}
-use Rattle.rule.proofs.Outcomes.{outcome-holds}
+use Rattle.rule.proofs.Laws.{NoFinal, final-not-in, updates-to-no-final, updates-of-no-final}
 
--- ## Outcomes and what concludes them
-
-abbrev pub replyTo : Parts → Outcome → Reply
-replyTo p (refused x) = error (p .action) (p .specifier) x
-replyTo p (carried m ss rs r) = r
-
--- the records before the reply
-abbrev pub before : Outcome → List Record
-before (refused x) = []
-before (carried m ss rs r) = rs
-
-abbrev pub nodeAfter : Node → Outcome → Node
-nodeAfter n (refused x) = n
-nodeAfter n (carried m ss rs r) = m
-
-pub concluded : (w : Table) (n : Node) (c now : ℕ) (p : Parts) (o : Outcome)
-    → conclude w n c now p o ≡ (nodeAfter n o, before o ++ (final c (replyTo p o) ∷ []))
-unfolding conclude
-concluded w n c now p (refused x) = refl
-concluded w n c now p (carried m ss rs r) = refl
+-- ## Outcomes
 
 -- there is no final reply before the reply
 pub quiet : (w : Table) (n : Node) (c now : ℕ) (r : Request) → NoFinal (before (outcome w n c now r))
-unfolding activates deactivates reads sets
-quiet w n c now r =
-    outcome-holds
-    (λ q o. NoFinal (before o))
-    w
-    n
-    c
-    now
-    (λ q x. tt)
-    (λ q s h. tt)
-    (λ k h. tt)
-    (λ m. updates-of-no-final c _ (n .values) 0 (parameters w))
-    (λ m. tt)
-    (λ k v h. (tt, updates-to-no-final (n .clients) (k .1 .home) _ clientNumbers))
-    (λ k v h f. (tt, tt))
-    r
+unfolding activates deactivates sets
+quiet w n c now =
+    outcome-holds (λ q o. NoFinal (before o)) w n c now
+    (record {
+      bad = λ q x. tt;
+      telling = λ q f h. tt;
+      activating = λ m f h. updates-of-no-final c _ (n .values) 0 (parameters w);
+      deactivating = λ m f h. tt;
+      setting = λ k v h. (tt, updates-to-no-final (n .clients) (k .1 .home) _ clientNumbers);
+      doing = λ k v h. (tt, tt);
+    })
 
 -- ## Lines
 
@@ -105,15 +83,15 @@ answer-is w n c x t e =
     ap₂
     (λ (m : Node) (y : Client). answerParts w m c t (partsOf (content (lineOf y))))
     (ap (withClients n)
-    (put-put (n .clients) c x (emptied (put (n .clients) c x c)) ∙ ap (put (n .clients) c) (ap emptied (put-same (n .clients) c x) ∙ e)))
-    (put-same (n .clients) c x)
+    (put-put (n .clients) c x (emptied (put (n .clients) c x c)) ∙ ap (put (n .clients) c) (ap emptied (put-at (n .clients) c x) ∙ e)))
+    (put-at (n .clients) c x)
 
 answered : (w : Table) (n : Node) (c : ℕ) (bs : List ℕ) (t : ℕ) → isOpen (n .clients c) ≡ true
     → let r = answer w (withClient n c (receive (n .clients c) (beforeFeed bs))) c t in Answered w n c bs t (r .0) (r .1)
 unfolding answerParts requestOf
 answered w n c bs t h =
     let e =
-    answer-is w n c (receive (n .clients c) (beforeFeed bs)) t (emptied-received (beforeFeed bs) (n .clients c))
+    answer-is w n c (receive (n .clients c) (beforeFeed bs)) t (emptied-received (n .clients c) (beforeFeed bs))
     ∙ concluded w (idle n c) c t (partsAt n c bs) (outcomeAt w n c bs t) in
     record {
       isOpen = h;

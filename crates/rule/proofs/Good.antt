@@ -10,20 +10,24 @@ use lib.ListN.{length, getElem?}
 use native.Mathlib.Omega.{arith}
 use borrow.Author.Tests.{lt-ltb}
 use Rattle.ascii.specs.Bytes.{isSome, same}
+use Rattle.ascii.proofs.Lists.{same-self}
 use Rattle.fit.specs.Fit.{fits, verdict, storedForm}
 use Rattle.table.specs.Table.{Parameter, Command, Accessible, Module, Table}
 use Rattle.table.specs.Search.{Placed, parametersOf, commandsOf, placedFrom, parameters, commands, firstFrom, first, findModule, findParameter, findCommand}
+use Rattle.table.proofs.Search.{parameter-there, parameter-named, command-there, command-named}
 use Rattle.message.specs.Request.{Request, activate, deactivate, read, change, execute}
 use Rattle.message.specs.Error.{Class, NoSuchModule}
 use Rattle.outbox.specs.Outbox.{Record, final}
 use Rattle.plain.specs.Node.{Client, Node, withClient, isOpen, isActive, emptied, activated}
 use Rattle.plain.specs.Answer.{Outcome, outcome, found, letIn, argumentVerdict, inScope, activates, deactivates, reads, changes, sets, does}
 use Rattle.plain.specs.Calls.{Piece, hasFeed}
+use Rattle.plain.proofs.Put.{put-at}
+use Rattle.plain.proofs.Clients.{emptied-open, activated-active}
+use Rattle.plain.proofs.Outcomes.{nodeAfter, before, replyTo, of-all, of-one, ordering}
 use Rattle.rule.specs.Records.{inScopeOf, isThere}
 use Rattle.rule.specs.Theorems.{requestOf, GoodChangesAreMade, Activated, Deactivated, GoodActivationsAreMade, GoodReadsAreAnswered, GoodCommandsAreOrdered}
-use Rattle.rule.proofs.Laws.{found-there, found-in, put-same, emptied-open, activated-active}
-use Rattle.rule.proofs.Outcomes.{scope-is, all-is, ordering}
-use Rattle.rule.proofs.Calls.{before, replyTo, nodeAfter, idle, partsAt, Answered, Did, received, line, accepted-call}
+use Rattle.rule.proofs.Told.{scope-is}
+use Rattle.rule.proofs.Calls.{idle, partsAt, Answered, Did, received, line, accepted-call}
 use Rattle.rule.proofs.Rule.{answered-change}
 
 -- ## The module of what is found is found too
@@ -55,22 +59,16 @@ module _ {A : Type 0} (of : List Accessible → List A) where
       go false q (inl f) r = absurd (true≢false (sym h ∙ ap (same y) f ∙ q))
       go false q (inr f) r = r (f .0) (f .1)
 
-module _ (w : Table) (m a : List ℕ) (k : ℕ × Placed Parameter) (e : findParameter w m a ≡ some k) where
-  parameter-there : getElem? (parameters w) (k .0) ≡ some (k .1)
-  unfolding findParameter
-  parameter-there = found-there (λ (x : Parameter). x .name) m a (parameters w) k e
-
-  parameter-module : isSome (findModule w m) ≡ true
-  unfolding findParameter findModule first parameters
-  parameter-module =
-      placed-module parametersOf m (w .modules) 0 0 (k .0) (k .1) parameter-there
-      (found-in (λ (x : Parameter). x .name) m a (parameters w) k e)
+parameter-module : (w : Table) (m a : List ℕ) (k : ℕ × Placed Parameter) → findParameter w m a ≡ some k → isSome (findModule w m) ≡ true
+unfolding findModule first parameters
+parameter-module w m a k e =
+    placed-module parametersOf m (w .modules) 0 0 (k .0) (k .1) (parameter-there w m a k e)
+    (ap (same m) (parameter-named w m a k e .0) ∙ same-self m)
 
 command-module : (w : Table) (m a : List ℕ) (k : ℕ × Placed Command) → findCommand w m a ≡ some k → isSome (findModule w m) ≡ true
-unfolding findCommand findModule first commands
+unfolding findModule first commands
 command-module w m a k e =
-    placed-module commandsOf m (w .modules) 0 0 (k .0) (k .1) (found-there (λ (x : Command). x .name) m a (commands w) k e)
-    (found-in (λ (x : Command). x .name) m a (commands w) k e)
+    placed-module commandsOf m (w .modules) 0 0 (k .0) (k .1) (command-there w m a k e) (ap (same m) (command-named w m a k e .0) ∙ same-self m)
 
 -- ## What a good request comes to
 
@@ -97,13 +95,13 @@ module _ (w : Table) (n : Node) (c t : ℕ) where
   good-scope : (f : (ℕ → Bool) → Option (List ℕ) → Outcome) (s : Option (List ℕ)) → isThere w s ≡ true
       → inScope w n c t f s ≡ f (inScopeOf w s) s
   unfolding inScope isThere found
-  good-scope f none h = ap (λ g. f g none) (sym (all-is w))
+  good-scope f none h = ap (λ g. f g none) (scope-is of-all)
   good-scope f (some m) h = go (findModule w m) refl h
     where
       go : (x : Option (ℕ × Module)) → findModule w m ≡ x → isSome x ≡ true
           → found NoSuchModule x (λ y. f (λ i. eqb i (y .0)) (some m)) ≡ f (inScopeOf w (some m)) (some m)
       go none e q = absurd (true≢false (sym q))
-      go (some x) e q = ap (λ g. f g (some m)) (sym (scope-is w m x e))
+      go (some x) e q = ap (λ g. f g (some m)) (scope-is (of-one x e))
 
 -- ## Lines
 
@@ -148,8 +146,8 @@ given : {w : Table} {n m : Node} {rs : List Record} {c : ℕ} {bs : List ℕ} {t
 given {n = n} {c = c} h f e i =
     let x : Client = idle n c .clients c in
     ap (λ (y : Node). isActive (y .clients c) i) e
-    ∙ ap (λ y. isActive y i) (put-same (idle n c .clients) c (activated f x))
-    ∙ activated-active f x i (ap isOpen (put-same (n .clients) c (emptied (n .clients c))) ∙ emptied-open (n .clients c) ∙ h .isOpen)
+    ∙ ap (λ y. isActive y i) (put-at (idle n c .clients) c (activated f x))
+    ∙ activated-active f x i (ap isOpen (put-at (n .clients) c (emptied (n .clients c))) ∙ emptied-open (n .clients c) ∙ h .isOpen)
 
 and-not : (b q : Bool) → q ≡ true → (b && not q) ≡ false
 and-not true q h = ap not h

@@ -1,194 +1,23 @@
--- Laws about searches, records and the clients' parts of a node. Assumes nothing.
+-- Laws about records: what each client is sent among them, and which are updates. Assumes nothing.
 use Prim.Native.Nat.{ℕ, zero, suc, _+_, _<_, _≤_}
-use mathlib.Core.Bool.{Bool, true, false, cond, _&&_, _||_, not, false≢true}
-use mathlib.Core.List.{List, [], _∷_, _++_, map, append-assoc, List·Memᴰ, List·Memᴰ·append-cases, List·Memᴰ·cases-cons, List·Memᴰ·not-nil, List·Memᴰ·eq-of-singleton}
+use mathlib.Core.Bool.{Bool, true, false, cond}
+use mathlib.Core.List.{List, [], _∷_, _++_, append-assoc, List·Memᴰ, List·Memᴰ·cases-cons, List·Memᴰ·not-nil}
 use mathlib.Core.Logic.{_⊎_, ⊎-elim}
-use mathlib.Core.Option.{Option, none, some, Option·some-injective}
-use mathlib.Core.Path.{_≡_, refl, sym, _∙_, ap, ap₂, subst, fun-ext}
-use lib.Dec.{eqb, ltb}
-use lib.ListN.{length, getElem?, replicate}
+use mathlib.Core.Option.{some}
+use mathlib.Core.Path.{_≡_, refl, sym, _∙_, ap, subst}
+use lib.Dec.{eqb}
+use lib.ListN.{getElem?, replicate}
 use native.Mathlib.Nat.{add-comm, zero-add}
 use native.Mathlib.Numerals.{add-one}
-use Rattle.ascii.specs.Bytes.{count, same}
+use Rattle.ascii.specs.Bytes.{count}
 use native.Mathlib.Omega.{arith}
-use borrow.Author.Tests.{eqb-true, eq-eqb, ne-eqb}
-use Rattle.table.specs.Table.{Parameter, Command, Accessible, Module, Table}
-use Rattle.table.specs.Search.{Placed, placedFrom, parametersOf, parameters, firstFrom, first, findParameter}
+use borrow.Author.Tests.{eqb-true, ne-eqb}
+use Rattle.table.specs.Table.{Parameter}
+use Rattle.table.specs.Search.{Placed}
 use Rattle.message.specs.Reply.{Report, Reply}
 use Rattle.outbox.specs.Outbox.{Record, final, update, orderChange, orderCommand}
-use Rattle.plain.specs.Node.{Client, closed, connected, Value, Node, put, isOpen, isActive, receive, emptied, activated, reportOf, clientNumbers, updatesTo, updatesOf}
+use Rattle.plain.specs.Node.{Client, Value, isActive, reportOf, clientNumbers, updatesTo, updatesOf}
 use Rattle.rule.specs.Records.{updatesFor, repliesFor, reportsOf}
-
--- both of two tests that passed
-both : (a b : Bool) → (a && b) ≡ true → (a ≡ true) × (b ≡ true)
-both true true e = (refl, refl)
-both true false e = absurd (false≢true e)
-both false b e = absurd (false≢true e)
-
--- ## Searches
-
--- what a search finds stands at the number that it gives
-module _ {A : Type 0} (p : A → Bool) where
-  first-from : (n : ℕ) (xs : List A) (j : ℕ) (x : A) → firstFrom p n xs ≡ some (j, x)
-      → (i : ℕ) × (j ≡ n + i) × (getElem? xs i ≡ some x)
-  unfolding firstFrom
-  first-from n [] j x e = let z : _≡_ {A = ℕ} 0 1 = cc in absurd (omega arith)
-  first-from n (y ∷ ys) j x e = go (p y) (λ e′. first-from (suc n) ys j x e′) e
-    where
-      go : (q : Bool)
-          → (firstFrom p (suc n) ys ≡ some (j, x) → (i : ℕ) × (j ≡ suc n + i) × (getElem? ys i ≡ some x))
-          → cond q (some (n, y)) (firstFrom p (suc n) ys) ≡ some (j, x)
-          → (i : ℕ) × (j ≡ n + i) × (getElem? (y ∷ ys) i ≡ some x)
-      go true r e′ =
-          let h : _≡_ {A = ℕ × A} (n, y) (j, x) = Option·some-injective (n, y) (j, x) e′ in
-          let q : n ≡ j = ap (λ (k : ℕ × A). k .0) h in
-          (0, omega arith, ap (λ (k : ℕ × A). some (k .1)) h)
-      go false r e′ = let h = r e′ in (suc (h .0), omega (arith, h .1), h .2)
-
-  pub first-there : (xs : List A) (k : ℕ × A) → first p xs ≡ some k → getElem? xs (k .0) ≡ some (k .1)
-  unfolding first
-  first-there xs k e =
-      let h = first-from 0 xs (k .0) (k .1) e in
-      let q : h .0 ≡ k .0 = omega (arith, h .1) in
-      subst (λ i. getElem? xs i ≡ some (k .1)) q (h .2)
-
--- and passes its test
-module _ {A : Type 0} (p : A → Bool) where
-  first-passes : (n : ℕ) (xs : List A) (k : ℕ × A) → firstFrom p n xs ≡ some k → p (k .1) ≡ true
-  unfolding firstFrom
-  first-passes n [] k e = let z : _≡_ {A = ℕ} 0 1 = cc in absurd (omega arith)
-  first-passes n (y ∷ ys) k e = go (p y) refl (λ e′. first-passes (suc n) ys k e′) e
-    where
-      go : (q : Bool) → p y ≡ q → (firstFrom p (suc n) ys ≡ some k → p (k .1) ≡ true)
-          → cond q (some (n, y)) (firstFrom p (suc n) ys) ≡ some k → p (k .1) ≡ true
-      go true h r e′ = ap (λ (x : ℕ × A). p (x .1)) (sym (Option·some-injective (n, y) k e′)) ∙ h
-      go false h r e′ = r e′
-
-same-is : (xs ys : List ℕ) → same xs ys ≡ true → xs ≡ ys
-unfolding same
-same-is [] [] e = refl
-same-is [] (y ∷ ys) e = absurd (false≢true e)
-same-is (x ∷ xs) [] e = absurd (false≢true e)
-same-is (x ∷ xs) (y ∷ ys) e =
-    let h = both (eqb x y) (same xs ys) e in
-    ap₂ _∷_ (eqb-true x y (h .0)) (same-is xs ys (h .1))
-
--- what is found by two names has them, and stands at its number
-module _ {A : Type 0} (name : A → List ℕ) (m a : List ℕ) (xs : List (Placed A)) (k : ℕ × Placed A)
-    (e : first (λ (x : Placed A). same m (x .moduleName) && same a (name (x .it))) xs ≡ some k) where
-  pub found-there : getElem? xs (k .0) ≡ some (k .1)
-  found-there = first-there _ xs k e
-
-  found-both : (same m (k .1 .moduleName) ≡ true) × (same a (name (k .1 .it)) ≡ true)
-  unfolding first
-  found-both = both (same m (k .1 .moduleName)) (same a (name (k .1 .it))) (first-passes _ 0 xs k e)
-
-  pub found-in : same m (k .1 .moduleName) ≡ true
-  found-in = found-both .0
-
-  pub found-named : (m ≡ k .1 .moduleName) × (a ≡ name (k .1 .it))
-  found-named = (same-is m (k .1 .moduleName) found-in, same-is a (name (k .1 .it)) (found-both .1))
-
--- a parameter's module is one of the table's
-module _ {A : Type 0} (of : List Accessible → List A) where
-  map-home : (n : ℕ) (name : List ℕ) (as′ : List A) (rest : List (Placed A)) (b : ℕ) → n < b
-      → ((i : ℕ) (x : Placed A) → getElem? rest i ≡ some x → x .home < b)
-      → (i : ℕ) (x : Placed A)
-      → getElem? (map (λ (a : A). record { home = n; moduleName = name; it = a }) as′ ++ rest) i ≡ some x → x .home < b
-  map-home n name [] rest b h f i x e = f i x e
-  map-home n name (a ∷ l) rest b h f zero x e =
-      let q : n ≡ x .home = ap (λ (o : Option (Placed A)). elim o [ none ↦ n | some y ↦ y .home ]) e in omega arith
-  map-home n name (a ∷ l) rest b h f (suc i) x e = map-home n name l rest b h f i x e
-
-  placed-home : (ms : List Module) (n : ℕ) (i : ℕ) (x : Placed A)
-      → getElem? (placedFrom of n ms) i ≡ some x → x .home < n + length ms
-  unfolding placedFrom
-  placed-home [] n i x e = let z : _≡_ {A = ℕ} 0 1 = cc in absurd (omega arith)
-  placed-home (m ∷ ms) n i x e =
-      map-home
-      n
-      (m .name)
-      (of (m .accessibles))
-      (placedFrom of (suc n) ms)
-      (n + suc (length ms))
-      (omega arith)
-      (λ j y q. omega (arith, placed-home ms (suc n) j y q))
-      i
-      x
-      e
-
-pub parameter-home : (w : Table) (k : ℕ) (p : Placed Parameter)
-    → getElem? (parameters w) k ≡ some p → p .home < length (w .modules)
-unfolding parameters
-parameter-home w k p e = omega (arith, placed-home parametersOf (w .modules) 0 k p e)
-
--- ## Functions changed at one place
-
-module _ {A : Type 0} where
-  pub put-same : (f : ℕ → A) (k : ℕ) (a : A) → put f k a k ≡ a
-  unfolding put
-  put-same f k a = ap (λ b. cond b a (f k)) (eq-eqb k k refl)
-
-  -- what holds of the new value there and of the old ones elsewhere holds of all
-  pub put-all : (P : ℕ → A → Type 0) (f : ℕ → A) (k : ℕ) (a : A) → P k a → ((j : ℕ) → P j (f j)) → (j : ℕ) → P j (put f k a j)
-  unfolding put
-  put-all P f k a h g j = go (eqb j k) refl
-    where
-      go : (q : Bool) → eqb j k ≡ q → P j (cond q a (f j))
-      go true e = subst (λ i. P i a) (sym (eqb-true j k e)) h
-      go false e = g j
-
-module _ {A : Type 0} (f : ℕ → A) (k : ℕ) where
-  -- of two changes at a place the second stays
-  pub put-put : (a b : A) → put (put f k a) k b ≡ put f k b
-  unfolding put
-  put-put a b = fun-ext (λ j. go (eqb j k) j)
-    where
-      go : (q : Bool) (j : ℕ) → cond q b (cond q a (f j)) ≡ cond q b (f j)
-      go true j = refl
-      go false j = refl
-
-  pub put-other : (a : A) (j : ℕ) → (j ≡ k → ⊥) → put f k a j ≡ f j
-  unfolding put
-  put-other a j h = ap (λ q. cond q a (f j)) (ne-eqb j k h)
-
--- ## What a line's bytes, and its end, leave of a client
-
-pub emptied-received : (bs : List ℕ) (x : Client) → emptied (receive x bs) ≡ emptied x
-unfolding receive emptied
-emptied-received [] x = refl
-emptied-received (b ∷ bs) closed = refl
-emptied-received (b ∷ bs) (connected l a) = emptied-received bs (connected _ a)
-
-pub receive-active : (bs : List ℕ) (x : Client) (i : ℕ) → isActive (receive x bs) i ≡ isActive x i
-unfolding receive isActive
-receive-active [] x i = refl
-receive-active (b ∷ bs) closed i = refl
-receive-active (b ∷ bs) (connected l a) i = receive-active bs (connected _ a) i
-
-pub emptied-open : (x : Client) → isOpen (emptied x) ≡ isOpen x
-unfolding emptied isOpen
-emptied-open closed = refl
-emptied-open (connected l a) = refl
-
-pub emptied-active : (x : Client) (i : ℕ) → isActive (emptied x) i ≡ isActive x i
-unfolding emptied isActive
-emptied-active closed i = refl
-emptied-active (connected l a) i = refl
-
-pub activated-active : (f : ℕ → Bool) (x : Client) (i : ℕ) → isOpen x ≡ true → isActive (activated f x) i ≡ f i
-unfolding activated isActive isOpen
-activated-active f closed i e = let z : _≡_ {A = Bool} false true = e in absurd (go z)
-  where
-    go : false ≡ true → ⊥
-    go q = let z : _≡_ {A = ℕ} 0 1 = cc in omega arith
-activated-active f (connected l a) i e = refl
-
--- whoever has a module active is open
-pub active-open : (x : Client) (i : ℕ) → isActive x i ≡ true → isOpen x ≡ true
-unfolding isActive isOpen
-active-open closed i e = e
-active-open (connected l a) i e = refl
 
 -- ## Records
 

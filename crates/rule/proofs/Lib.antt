@@ -1,5 +1,5 @@
 pub mod Laws
-pub mod Outcomes
+pub mod Told
 pub mod Calls
 pub mod Replies
 pub mod Rule

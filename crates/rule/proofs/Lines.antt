@@ -1,60 +1,29 @@
 -- What reads and commands are replied to with, what a piece leaves of lines, and where a parameter belongs. Assumes nothing.
-use Prim.Native.Nat.{ℕ, zero, suc, _+_, _<_}
-use mathlib.Core.Bool.{Bool, true, false, cond, false≢true, true≢false}
+use Prim.Native.Nat.{ℕ, zero, suc, _+_}
+use mathlib.Core.Bool.{Bool, false, false≢true}
 use mathlib.Core.List.{List, [], _∷_, _++_, map, List·Memᴰ, List·Memᴰ·head, List·Memᴰ·tail}
-use mathlib.Core.Option.{Option, none, some, Option·some-injective}
+use mathlib.Core.Option.{some, Option·some-injective}
 use mathlib.Core.Path.{_≡_, refl, sym, _∙_, ap, subst}
-use lib.ListN.{length, getElem?}
+use lib.ListN.{getElem?}
 use native.Mathlib.Omega.{arith}
 use Rattle.fit.specs.Fit.{fits}
 use Rattle.table.specs.Table.{Parameter, Command, Accessible, parameter, command, Module, Table}
 use Rattle.table.specs.Layout.{tableOf}
 use Rattle.table.specs.Search.{Placed, parametersOf, placedFrom, parameters, commands}
-use Rattle.message.specs.Line.{Line, whole, Parts}
+use Rattle.message.specs.Line.{Parts}
 use Rattle.message.specs.Request.{Request, read, execute}
-use Rattle.message.specs.Error.{Class}
-use Rattle.message.specs.Reply.{Report, Reply, identification, describing, pong, active, inactive, reply, changed, done, error}
+use Rattle.message.specs.Reply.{Report, Reply, reply, done}
 use Rattle.outbox.specs.Outbox.{Record, final, orderCommand}
-use Rattle.plain.specs.Node.{Client, closed, connected, Node, put, withClient, lineOf, receive, emptied, activated, reportOf}
-use Rattle.plain.specs.Answer.{Outcome, refused, carried, outcome, argumentVerdict, argumentForm, activates, deactivates, reads, sets}
-use Rattle.plain.specs.Calls.{Event, Piece, Lent, Call, Answer, callNumber, beforeFeed, hasFeed, usedOf, pieceEffect, effect, settle, stepIf}
+use Rattle.plain.specs.Node.{Value, Node, withClient, lineOf, emptied, activated, reportOf}
+use Rattle.plain.specs.Answer.{Outcome, carried, outcome, argumentVerdict, argumentForm, activates, deactivates, sets}
+use Rattle.plain.specs.Calls.{Event, Piece, Lent, Call, Answer, callNumber, usedOf, pieceEffect, effect, settle, stepIf}
 use Rattle.plain.specs.History.{step}
-use Rattle.rule.specs.Theorems.{requestOf, OfPiece, of-piece, Belongs, ParametersBelong, PieceUsed, PiecesAreUsed, ReadTold, ReadsAreTrue, CommandOrdered, CommandsAreOrdered}
-use Rattle.rule.proofs.Laws.{put-same, put-other}
-use Rattle.rule.proofs.Outcomes.{Simple, by-identify, by-describe, by-ping, doneOf, ordering, outcome-holds}
-use Rattle.rule.proofs.Calls.{replyTo, before, nodeAfter, idle, partsAt, outcomeAt, Answered, Did, opened, shut, received, read as was-read, line, accepted-call, Line-of, line-of, line-of-final}
-
--- ## Replies of two kinds
-
-abbrev isReply : Reply → Bool
-isReply identification = false
-isReply (describing r) = false
-isReply (pong x t) = false
-isReply (active m) = false
-isReply (inactive m) = false
-isReply (reply r) = true
-isReply (changed r) = false
-isReply (done r) = false
-isReply (error a s x) = false
-
-abbrev isDone : Reply → Bool
-isDone identification = false
-isDone (describing r) = false
-isDone (pong x t) = false
-isDone (active m) = false
-isDone (inactive m) = false
-isDone (reply r) = false
-isDone (changed r) = false
-isDone (done r) = true
-isDone (error a s x) = false
-
-other : {A : Type 0} (p : Reply → Bool) (x y : Reply) → p x ≡ true → p y ≡ false → x ≡ y → A
-other p x y h g e = absurd (true≢false (sym h ∙ ap p e ∙ g))
-
-simple-other : (s : Reply) → Simple s → (isReply s ≡ false) × (isDone s ≡ false)
-simple-other _ by-identify = (refl, refl)
-simple-other _ by-describe = (refl, refl)
-simple-other _ by-ping = (refl, refl)
+use Rattle.plain.proofs.Put.{put-at, put-other}
+use Rattle.plain.proofs.Clients.{emptied-line, activated-line}
+use Rattle.plain.proofs.Outcomes.{nodeAfter, before, replyTo, Tells, by-identify, by-describe, by-ping, by-read, doneOf, outcome-holds}
+use Rattle.rule.specs.Theorems.{requestOf, OfPiece, of-piece, ParametersBelong, PieceUsed, PiecesAreUsed, ReadTold, ReadsAreTrue, CommandOrdered, CommandsAreOrdered}
+use Rattle.rule.proofs.Told.{apart, told-kind}
+use Rattle.rule.proofs.Calls.{idle, partsAt, outcomeAt, Did, received, line, accepted-call, Line-of, line-of, line-of-final}
 
 reply-is : (x y : Report) → reply x ≡ reply y → x ≡ y
 reply-is x y e = cc
@@ -74,23 +43,25 @@ record Reads (w : Table) (n : Node) (q : Request) (o : Outcome) (r : Report) : T
 abbrev ReadIn : Table → Node → Parts → Request → Outcome → Type 0
 ReadIn w n p q o = (r : Report) → reply r ≡ replyTo p o → Reads w n q o r
 
+told-read : {w : Table} {now : ℕ} {q : Request} {f : (ℕ → Value) → Reply} → Tells w now q f → (n : Node) (r : Report)
+    → reply r ≡ f (n .values) → Reads w n q (carried n [] [] (f (n .values))) r
+told-read by-identify n r e = apart (reply r) _ (λ z. omega arith) e
+told-read by-describe n r e = apart (reply r) _ (λ z. omega arith) e
+told-read by-ping n r e = apart (reply r) _ (λ z. omega arith) e
+told-read (by-read k h) n r e = record { k = k; there = h; asked = refl; tells = reply-is r _ e; alone = refl }
+
 read-in : (w : Table) (n : Node) (c now : ℕ) (p : Parts) (q : Request) → ReadIn w n p q (outcome w n c now q)
-unfolding activates deactivates reads sets
-read-in w n c now p q =
-    outcome-holds
-    (ReadIn w n p)
-    w
-    n
-    c
-    now
-    (λ y x r e. other isReply (reply r) _ refl refl e)
-    (λ y s h r e. other isReply (reply r) s refl (simple-other s h .0) e)
-    (λ k h r e. record { k = k; there = h; asked = refl; tells = reply-is r _ e; alone = refl })
-    (λ m r e. other isReply (reply r) _ refl refl e)
-    (λ m r e. other isReply (reply r) _ refl refl e)
-    (λ k v h r e. other isReply (reply r) _ refl refl e)
-    (λ k v h f r e. other isReply (reply r) _ refl refl e)
-    q
+unfolding activates deactivates sets
+read-in w n c now p =
+    outcome-holds (ReadIn w n p) w n c now
+    (record {
+      bad = λ q x r e. apart (reply r) _ (λ z. omega arith) e;
+      telling = λ q f h r e. told-read h n r e;
+      activating = λ m f h r e. apart (reply r) _ (λ z. omega arith) e;
+      deactivating = λ m f h r e. apart (reply r) _ (λ z. omega arith) e;
+      setting = λ k v h r e. apart (reply r) _ (λ z. omega arith) e;
+      doing = λ k v h r e. apart (reply r) _ (λ z. omega arith) e;
+    })
 
 read-line : {w : Table} {n m : Node} {rs : List Record} {c : ℕ} (r : Report) {e : Event} → Line-of w n m rs c (reply r) e
     → OfPiece c (λ bs t. ReadTold w n c bs r rs) e
@@ -128,23 +99,18 @@ abbrev OrderIn : Table → Node → ℕ → ℕ → Parts → Request → Outcom
 OrderIn w n c now p q o = (r : Report) → done r ≡ replyTo p o → Orders w n c now q o r
 
 order-in : (w : Table) (n : Node) (c now : ℕ) (p : Parts) (q : Request) → OrderIn w n c now p q (outcome w n c now q)
-unfolding activates deactivates reads sets
-order-in w n c now p q =
-    outcome-holds
-    (OrderIn w n c now p)
-    w
-    n
-    c
-    now
-    (λ y x r e. other isDone (done r) _ refl refl e)
-    (λ y s h r e. other isDone (done r) s refl (simple-other s h .1) e)
-    (λ k h r e. other isDone (done r) _ refl refl e)
-    (λ m r e. other isDone (done r) _ refl refl e)
-    (λ m r e. other isDone (done r) _ refl refl e)
-    (λ k v h r e. other isDone (done r) _ refl refl e)
-    (λ k v h f r e.
-    record { k = k; v = v; there = h; asked = refl; fitting = f; tells = done-is r _ e; ordered = refl })
-    q
+unfolding activates deactivates sets
+order-in w n c now p =
+    outcome-holds (OrderIn w n c now p) w n c now
+    (record {
+      bad = λ q x r e. apart (done r) _ (λ z. omega arith) e;
+      telling = λ q f h r e. apart (done r) (f (n .values)) (λ z. omega (arith, told-kind h (n .values))) e;
+      activating = λ m f h r e. apart (done r) _ (λ z. omega arith) e;
+      deactivating = λ m f h r e. apart (done r) _ (λ z. omega arith) e;
+      setting = λ k v h r e. apart (done r) _ (λ z. omega arith) e;
+      doing = λ k v h r e.
+          record { k = k; v = v; there = h .there; asked = refl; fitting = h .fitting; tells = done-is r _ e; ordered = refl };
+    })
 
 command-line : {w : Table} {n m : Node} {rs : List Record} {c : ℕ} (r : Report) {e : Event} → Line-of w n m rs c (done r) e
     → OfPiece c (λ bs t. CommandOrdered w n c bs t r rs) e
@@ -179,41 +145,26 @@ record Leaves (n : Node) (c : ℕ) (o : Outcome) : Type 0 where
 untouched : (n : Node) (c : ℕ) (o : Outcome) → nodeAfter n o .clients ≡ n .clients → Leaves n c o
 untouched n c o e = record { line = ap (λ f. lineOf (f c)) e; others = λ d h. ap (λ f. f d) e }
 
-activated-line : (f : ℕ → Bool) (x : Client) → lineOf (activated f x) ≡ lineOf x
-unfolding activated lineOf
-activated-line f closed = refl
-activated-line f (connected l a) = refl
-
 touched : (n : Node) (c : ℕ) (f : ℕ → Bool) (rs : List Record) (r : Reply)
     → Leaves n c (carried (withClient n c (activated f (n .clients c))) [] rs r)
 touched n c f rs r =
     record {
-      line = ap lineOf (put-same (n .clients) c _) ∙ activated-line f (n .clients c);
+      line = ap lineOf (put-at (n .clients) c _) ∙ activated-line f (n .clients c);
       others = λ d h. put-other (n .clients) c _ d h;
     }
 
 leaves : (w : Table) (n : Node) (c now : ℕ) (q : Request) → Leaves n c (outcome w n c now q)
-unfolding activates deactivates reads sets
-leaves w n c now q =
-    outcome-holds
-    (λ r o. Leaves n c o)
-    w
-    n
-    c
-    now
-    (λ r x. untouched n c _ refl)
-    (λ r s h. untouched n c _ refl)
-    (λ k h. untouched n c _ refl)
-    (λ m. touched n c _ _ _)
-    (λ m. touched n c _ _ _)
-    (λ k v h. untouched n c _ refl)
-    (λ k v h f. untouched n c _ refl)
-    q
-
-emptied-line : (x : Client) → lineOf (emptied x) ≡ whole []
-unfolding emptied lineOf
-emptied-line closed = refl
-emptied-line (connected l a) = refl
+unfolding activates deactivates sets
+leaves w n c now =
+    outcome-holds (λ q o. Leaves n c o) w n c now
+    (record {
+      bad = λ q x. untouched n c _ refl;
+      telling = λ q f h. untouched n c _ refl;
+      activating = λ m f h. touched n c _ _ _;
+      deactivating = λ m f h. touched n c _ _ _;
+      setting = λ k v h. untouched n c _ refl;
+      doing = λ k v h. untouched n c _ refl;
+    })
 
 piece-used : {w : Table} {n m : Node} {rs : List Record} {c : ℕ} {bs : List ℕ} {t : ℕ} (x : Answer) → x .used ≡ usedOf bs
     → x .records ≡ rs → Did w n (Piece c bs t) m rs → PieceUsed n m c bs x
@@ -234,7 +185,7 @@ piece-used {w} {n} {m} {c = c} {bs} {t} x u q (line f h) =
           λ i.
           ap (λ (y : Node). lineOf (y .clients c)) (h .node)
           ∙ g .line
-          ∙ ap lineOf (put-same (n .clients) c (emptied (n .clients c)))
+          ∙ ap lineOf (put-at (n .clients) c (emptied (n .clients c)))
           ∙ emptied-line (n .clients c);
       others =
           λ d i.

@@ -15,14 +15,15 @@ use Rattle.message.specs.Line.{Parts, content, partsOf}
 use Rattle.message.specs.Request.{request}
 use Rattle.message.specs.Reply.{Report, Reply}
 use Rattle.outbox.specs.Outbox.{Record, final}
-use Rattle.plain.specs.Node.{Node, withClient, lineOf, emptied, reportOf, clientNumbers, updatesTo, showing}
-use Rattle.plain.specs.Answer.{Outcome, outcome, conclude, answerParts, answer}
+use Rattle.plain.specs.Node.{Node, lineOf, reportOf, clientNumbers, updatesTo, showing}
+use Rattle.plain.specs.Answer.{Outcome, outcome, answerParts, answer}
 use Rattle.plain.specs.Calls.{Event, Open, Close, Piece, Reading, callNumber, beforeFeed, hasFeed, usedOf, ended, pieceEffect, readingEffect, effect, settle, stepIf}
 use Rattle.plain.specs.History.{step}
+use Rattle.plain.proofs.Outcomes.{before, replyTo, concluded}
 use Rattle.rule.specs.Records.{repliesFor, feedCount, feedsUsed}
 use Rattle.rule.specs.Theorems.{OneReplyForEachLine}
 use Rattle.rule.proofs.Laws.{replies-append, no-final-replies, updates-to-no-final}
-use Rattle.rule.proofs.Calls.{replyTo, before, concluded, quiet, idle}
+use Rattle.rule.proofs.Calls.{quiet, idle}
 
 one-final : (d c : ℕ) (r : Reply) → length (repliesFor d (final c r ∷ [])) ≡ cond (eqb d c) 1 0
 unfolding repliesFor

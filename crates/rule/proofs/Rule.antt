@@ -1,100 +1,55 @@
 -- The user's rule: updates, settings, activations and errors. Assumes nothing.
-use Prim.Native.Nat.{ℕ, zero, suc, _+_, _<_, _≤_}
+use Prim.Native.Nat.{ℕ, zero, suc, _+_}
 use mathlib.Core.Bool.{Bool, true, false, cond, not, _&&_, _||_, true≢false, or-true}
-use mathlib.Core.List.{List, [], _∷_, _++_, append-nil, append-assoc, List·Memᴰ, List·Memᴰ·append-cases, List·Memᴰ·cases-cons, List·Memᴰ·not-nil, List·Memᴰ·eq-of-singleton, List·Memᴰ·head, Memᴰ·append-right}
+use mathlib.Core.List.{List, [], _∷_, _++_, append-nil, List·Memᴰ, List·Memᴰ·append-cases, List·Memᴰ·cases-cons, List·Memᴰ·not-nil, List·Memᴰ·eq-of-singleton, List·Memᴰ·head, Memᴰ·append-right}
 use mathlib.Core.Logic.{_⊎_, inl, inr, ⊎-elim}
-use mathlib.Core.Option.{Option, none, some}
+use mathlib.Core.Option.{Option, some}
 use mathlib.Core.Path.{_≡_, refl, sym, _∙_, ap, subst}
 use lib.Dec.{eqb, ltb}
 use lib.ListN.{length, getElem?}
 use native.Mathlib.Omega.{arith}
 use borrow.Author.Tests.{lt-ltb, ne-eqb, eq-eqb, eqb-true}
-use Rattle.fit.specs.Fit.{fits, verdict, storedForm}
-use Rattle.table.specs.Table.{Parameter, Module, Table}
-use Rattle.table.specs.Layout.{tableOf}
+use Rattle.fit.specs.Fit.{storedForm}
+use Rattle.table.specs.Table.{Parameter, Table}
 use Rattle.table.specs.Search.{Placed, parameters}
+use Rattle.table.proofs.Search.{parameter-home}
 use Rattle.message.specs.Line.{Parts}
 use Rattle.message.specs.Request.{Request, change}
-use Rattle.message.specs.Error.{Class}
-use Rattle.message.specs.Reply.{Report, Reply, identification, describing, pong, active, inactive, reply, changed, done, error}
+use Rattle.message.specs.Reply.{Report, Reply, active, inactive, changed, error}
 use Rattle.outbox.specs.Outbox.{Record, final, update, orderChange, orderCommand}
-use Rattle.plain.specs.Node.{Client, closed, fresh, Value, Node, put, withClient, withValue, isOpen, isActive, receive, emptied, activated, reportOf, clientNumbers, updatesTo, updatesOf, showing}
-use Rattle.plain.specs.Answer.{Outcome, refused, carried, outcome, activates, deactivates, reads, sets}
-use Rattle.plain.specs.Calls.{Event, Open, Close, Piece, Reading, Answer, beforeFeed}
+use Rattle.plain.specs.Node.{Client, closed, fresh, Value, Node, put, withValue, isOpen, isActive, receive, emptied, activated, reportOf, clientNumbers, updatesTo, showing}
+use Rattle.plain.specs.Answer.{Outcome, refused, carried, outcome, activates, deactivates, sets}
+use Rattle.plain.specs.Calls.{Event, Piece, Reading, Answer, beforeFeed}
 use Rattle.plain.specs.History.{step}
+use Rattle.plain.proofs.Put.{put-at, put-all}
+use Rattle.plain.proofs.Clients.{active-open, receive-active, emptied-open, emptied-active, activated-active}
+use Rattle.plain.proofs.Outcomes.{nodeAfter, before, replyTo, Tells, by-identify, by-describe, by-ping, by-read, LetIn, outcome-holds}
 use Rattle.rule.specs.Records.{updatesFor, repliesFor, inScopeOf, reportsOf, activeBy, activeAfter}
 use Rattle.rule.specs.Theorems.{requestOf, ToActive, UpdatesGoToActiveClients, Set, ReadingSets, ReadingsAreSentToAll, Changed, ChangeSets, OfPiece, of-piece, ChangesAreSentToAll, BySetting, by-reading, by-change, ValuesAlterBySettings, InitialUpdates, ActivationsSendAll, ActivationsAreOnesOwn, AltersNothing, ErrorsAlterNothing}
-use Rattle.rule.proofs.Laws.{parameter-home, put-same, put-other, put-all, receive-active, emptied-open, emptied-active, activated-active, active-open, updates-append, replies-append, no-final-replies, updates-to-member, updates-of-member, updates-of-for, sent-once, sent-never}
-use Rattle.rule.proofs.Outcomes.{Simple, by-identify, by-describe, by-ping, LetIn, doneOf, ordering, outcome-holds}
-use Rattle.rule.proofs.Calls.{replyTo, before, nodeAfter, quiet, idle, partsAt, outcomeAt, Answered, Did, opened, shut, received, read, line, every-call, accepted-call, Line-of, line-of, line-of-final, refusals-alter-nothing}
-
--- ## Kinds of replies
-
--- a reply has at most one of these kinds
-data Kind : Type 0 where
-  an-error a-change an-activation another : Kind
-
-abbrev kindOf : Reply → Kind
-kindOf identification = another
-kindOf (describing r) = another
-kindOf (pong x t) = another
-kindOf (active m) = an-activation
-kindOf (inactive m) = another
-kindOf (reply r) = another
-kindOf (changed r) = a-change
-kindOf (done r) = another
-kindOf (error a s x) = an-error
-
-kinds-apart : {A : Type 0} (x y : Reply) {k l : Kind} → kindOf x ≡ k → kindOf y ≡ l → x ≡ y → (k ≡ l → ⊥) → A
-kinds-apart x y p q e h = absurd (h (sym p ∙ ap kindOf e ∙ q))
-
-simple-kind : (s : Reply) → Simple s → kindOf s ≡ another
-simple-kind _ by-identify = refl
-simple-kind _ by-describe = refl
-simple-kind _ by-ping = refl
-
-abbrev number : Kind → ℕ
-number an-error = 0
-number a-change = 1
-number an-activation = 2
-number another = 3
-
-distinct : {k l : Kind} → (number k ≡ number l → ⊥) → k ≡ l → ⊥
-distinct h e = h (ap number e)
-
--- x has another kind than y
-module _ {A : Type 0} where
-  change-no-error : (r : Report) (a s : List ℕ) (x : Class) → changed r ≡ error a s x → A
-  change-no-error r a s x e = kinds-apart (changed r) (error a s x) refl refl e (distinct (λ z. omega arith))
-
-  kind-else : (x y : Reply) (k : Kind) → kindOf x ≡ k → (number k < 3) → kindOf y ≡ another → x ≡ y → A
-  kind-else x y k p h q e = kinds-apart x y p q e (distinct (λ z. omega arith))
+use Rattle.rule.proofs.Laws.{updates-append, replies-append, no-final-replies, updates-to-member, updates-of-member, updates-of-for, sent-once, sent-never}
+use Rattle.rule.proofs.Told.{kind, apart, told-kind, scope-is}
+use Rattle.rule.proofs.Calls.{quiet, idle, partsAt, outcomeAt, Answered, Did, opened, shut, received, read, line, every-call, accepted-call, Line-of, line-of, line-of-final, refusals-alter-nothing}
 
 -- ## Errors
 
 abbrev NoError : Outcome → Type 0
 NoError (refused x) = Unit {0}
-NoError (carried m ss rs r) = kindOf r ≡ an-error → ⊥
+NoError (carried m ss rs r) = kind r ≡ 0 → ⊥
 
 no-error : (w : Table) (n : Node) (c now : ℕ) (r : Request) → NoError (outcome w n c now r)
-unfolding activates deactivates reads sets
-no-error w n c now r =
-    outcome-holds
-    (λ q o. NoError o)
-    w
-    n
-    c
-    now
-    (λ q x. tt)
-    (λ q s h e. distinct (λ z. omega arith) (sym (simple-kind s h) ∙ e))
-    (λ k h e. distinct (λ z. omega arith) e)
-    (λ m e. distinct (λ z. omega arith) e)
-    (λ m e. distinct (λ z. omega arith) e)
-    (λ k v h e. distinct (λ z. omega arith) e)
-    (λ k v h f e. distinct (λ z. omega arith) e)
-    r
+unfolding activates deactivates sets
+no-error w n c now =
+    outcome-holds (λ q o. NoError o) w n c now
+    (record {
+      bad = λ q x. tt;
+      telling = λ q f h e. omega (arith, told-kind h (n .values));
+      activating = λ m f h e. omega arith;
+      deactivating = λ m f h e. omega arith;
+      setting = λ k v h e. omega arith;
+      doing = λ k v h e. omega arith;
+    })
 
-altered : (n m : Node) (rs : List Record) (c : ℕ) (p : Parts) (o : Outcome) (r : Reply) → kindOf r ≡ an-error → NoError o
+altered : (n m : Node) (rs : List Record) (c : ℕ) (p : Parts) (o : Outcome) (r : Reply) → kind r ≡ 0 → NoError o
     → m ≡ nodeAfter (idle n c) o → rs ≡ before o ++ (final c (replyTo p o) ∷ []) → r ≡ replyTo p o → AltersNothing n m rs c r
 altered n m rs c p (refused x) r i h e f g =
     record {
@@ -102,9 +57,9 @@ altered n m rs c p (refused x) r i h e f g =
       values = ap (λ (y : Node). y .values) e;
       clients = ap (λ (y : Node). y .clients) e;
     }
-altered n m rs c p (carried y ss l q) r i h e f g = absurd (h (ap kindOf (sym g) ∙ i))
+altered n m rs c p (carried y ss l q) r i h e f g = absurd (h (ap kind (sym g) ∙ i))
 
-altered-line : {w : Table} {n m : Node} {rs : List Record} {c : ℕ} {r : Reply} {e : Event} → Line-of w n m rs c r e → kindOf r ≡ an-error
+altered-line : {w : Table} {n m : Node} {rs : List Record} {c : ℕ} {r : Reply} {e : Event} → Line-of w n m rs c r e → kind r ≡ 0
     → AltersNothing n m rs c r
 altered-line {w} {n} {m} {rs} {c} {r} (line-of {bs = bs} {t = t} h q) i =
     altered n m rs c (partsAt n c bs) (outcomeAt w n c bs t) r i (no-error w (idle n c) c t (requestOf n c bs)) (h .node) (h .records) q
@@ -162,22 +117,17 @@ abbrev Changes : Table → Node → ℕ → ℕ → Parts → Request → Outcom
 Changes w n c now p q o = (r : Report) → changed r ≡ replyTo p o → Changing w n c now q o r
 
 changing : (w : Table) (n : Node) (c now : ℕ) (p : Parts) (q : Request) → Changes w n c now p q (outcome w n c now q)
-unfolding activates deactivates reads
-changing w n c now p q =
-    outcome-holds
-    (Changes w n c now p)
-    w
-    n
-    c
-    now
-    (λ q x r e. change-no-error r _ _ x e)
-    (λ q s h r e. kind-else (changed r) s a-change refl (omega arith) (simple-kind s h) e)
-    (λ k h r e. kind-else (changed r) (reply _) a-change refl (omega arith) refl e)
-    (λ m r e. kinds-apart (changed r) (active m) refl refl e (distinct (λ z. omega arith)))
-    (λ m r e. kind-else (changed r) (inactive m) a-change refl (omega arith) refl e)
-    (λ k v h r e. record { k = k; v = v; asked = refl; let-in = h; tells = set-tells k v r e; is = refl })
-    (λ k v h f r e. kind-else (changed r) (done _) a-change refl (omega arith) refl e)
-    q
+unfolding activates deactivates
+changing w n c now p =
+    outcome-holds (Changes w n c now p) w n c now
+    (record {
+      bad = λ q x r e. apart (changed r) _ (λ z. omega arith) e;
+      telling = λ q f h r e. apart (changed r) (f (n .values)) (λ z. omega (arith, told-kind h (n .values))) e;
+      activating = λ m f h r e. apart (changed r) _ (λ z. omega arith) e;
+      deactivating = λ m f h r e. apart (changed r) _ (λ z. omega arith) e;
+      setting = λ k v h r e. record { k = k; v = v; asked = refl; let-in = h; tells = set-tells k v r e; is = refl };
+      doing = λ k v h r e. apart (changed r) _ (λ z. omega arith) e;
+    })
   where
     set-tells : (k : ℕ × Placed Parameter) (v : List ℕ) (r : Report) → changed r ≡ replyTo p (sets w n c now k (storedForm v))
         → r ≡ reportOf (k .1) (showing (storedForm v) now)
@@ -254,22 +204,17 @@ abbrev Alters : Node → Parts → Outcome → Type 0
 Alters n p o = (nodeAfter n o .values ≡ n .values) ⊎ ((r : Report) × (replyTo p o ≡ changed r))
 
 alters : (w : Table) (n : Node) (c now : ℕ) (p : Parts) (q : Request) → Alters n p (outcome w n c now q)
-unfolding activates deactivates reads
-alters w n c now p q =
-    outcome-holds
-    (λ r o. Alters n p o)
-    w
-    n
-    c
-    now
-    (λ r x. inl refl)
-    (λ r s h. inl refl)
-    (λ k h. inl refl)
-    (λ m. inl refl)
-    (λ m. inl refl)
-    (λ k v h. inr (reportOf (k .1) (showing (storedForm v) now), sets-reply w n c now p k (storedForm v)))
-    (λ k v h f. inl refl)
-    q
+unfolding activates deactivates
+alters w n c now p =
+    outcome-holds (λ q o. Alters n p o) w n c now
+    (record {
+      bad = λ q x. inl refl;
+      telling = λ q f h. inl refl;
+      activating = λ m f h. inl refl;
+      deactivating = λ m f h. inl refl;
+      setting = λ k v h. inr (reportOf (k .1) (showing (storedForm v) now), sets-reply w n c now p k (storedForm v));
+      doing = λ k v h. inl refl;
+    })
 
 line-alters : (w : Table) (n m : Node) (c : ℕ) (bs : List ℕ) (t : ℕ) (x : Answer) → Answered w n c bs t m (x .records)
     → (m .values ≡ n .values) ⊎ BySetting (Piece c bs t) x
@@ -311,28 +256,20 @@ Activation w n c p o = (m : Option (List ℕ)) → active m ≡ replyTo p o
 active-is : (x y : Option (List ℕ)) → active x ≡ active y → x ≡ y
 active-is x y e = cc
 
-not-active : {A : Type 0} (m : Option (List ℕ)) (y : Reply) → kindOf y ≡ another → active m ≡ y → A
-not-active m y q e = kind-else (active m) y an-activation refl (omega arith) q e
-
 activation : (w : Table) (n : Node) (c now : ℕ) (p : Parts) (q : Request) → Activation w n c p (outcome w n c now q)
-unfolding activates deactivates reads sets
-activation w n c now p q =
-    outcome-holds
-    (λ r o. Activation w n c p o)
-    w
-    n
-    c
-    now
-    (λ r x m e. kinds-apart (active m) (error (p .action) (p .specifier) x) refl refl e (distinct (λ z. omega arith)))
-    (λ r s h m e. not-active m s (simple-kind s h) e)
-    (λ k h m e. not-active m (reply _) refl e)
-    (λ x m e d.
-    updates-of-for c (inScopeOf w x) (n .values) (parameters w) 0 d
-    ∙ ap (λ y. cond (eqb d c) (reportsOf (inScopeOf w y) (n .values) 0 (parameters w)) []) (sym (active-is m x e)))
-    (λ x m e. not-active m (inactive x) refl e)
-    (λ k v h m e. kinds-apart (active m) (changed _) refl refl e (distinct (λ z. omega arith)))
-    (λ k v h f m e. not-active m (done _) refl e)
-    q
+unfolding activates deactivates sets
+activation w n c now p =
+    outcome-holds (λ q o. Activation w n c p o) w n c now
+    (record {
+      bad = λ q x m e. apart (active m) _ (λ z. omega arith) e;
+      telling = λ q f h m e. apart (active m) (f (n .values)) (λ z. omega (arith, told-kind h (n .values))) e;
+      activating = λ x f h m e d.
+          updates-of-for c f (n .values) (parameters w) 0 d
+          ∙ ap (λ g. cond (eqb d c) (reportsOf g (n .values) 0 (parameters w)) []) (scope-is h ∙ ap (inScopeOf w) (sym (active-is m x e)));
+      deactivating = λ x f h m e. apart (active m) _ (λ z. omega arith) e;
+      setting = λ k v h m e. apart (active m) _ (λ z. omega arith) e;
+      doing = λ k v h m e. apart (active m) _ (λ z. omega arith) e;
+    })
 
 initial-updates : {w : Table} {n k : Node} {rs : List Record} {c : ℕ} (m : Option (List ℕ)) {e : Event}
     → Line-of w n k rs c (active m) e → InitialUpdates w n c m rs
@@ -378,32 +315,30 @@ given-active w n c f r o h d i = go (eqb d c) refl
         ∙ ap (λ x. activeBy w i (isActive (n .clients x) i) (r ∷ [])) (sym (eqb-true d c e))
     go false e = refl
 
-simple-active : (w : Table) (i : ℕ) (b : Bool) (s : Reply) → Simple s → activeBy w i b (s ∷ []) ≡ b
+told-active : {w : Table} {now : ℕ} {q : Request} {f : (ℕ → Value) → Reply} → Tells w now q f → (v : ℕ → Value) (i : ℕ) (b : Bool)
+    → activeBy w i b (f v ∷ []) ≡ b
 unfolding activeBy
-simple-active w i b _ by-identify = refl
-simple-active w i b _ by-describe = refl
-simple-active w i b _ by-ping = refl
+told-active by-identify v i b = refl
+told-active by-describe v i b = refl
+told-active by-ping v i b = refl
+told-active (by-read k e) v i b = refl
 
-leaves-active : (w : Table) (n : Node) (c now : ℕ) (p : Parts) (q : Request) → isOpen (n .clients c) ≡ true
+leaves-active : (w : Table) (n : Node) (c now : ℕ) (p : Parts) → isOpen (n .clients c) ≡ true → (q : Request)
     → LeavesActive w n c p (outcome w n c now q)
-unfolding activates deactivates reads sets activeBy
-leaves-active w n c now p q o =
-    outcome-holds
-    (λ r x. LeavesActive w n c p x)
-    w
-    n
-    c
-    now
-    (λ r x d i. either (eqb d c) (isActive (n .clients d) i))
-    (λ r s h d i.
-    either (eqb d c) (isActive (n .clients d) i)
-    ∙ ap (λ b. cond (eqb d c) b (isActive (n .clients d) i)) (sym (simple-active w i (isActive (n .clients d) i) s h)))
-    (λ k h d i. either (eqb d c) (isActive (n .clients d) i))
-    (λ m. given-active w n c _ (active m) o (λ i. refl))
-    (λ m. given-active w n c _ (inactive m) o (λ i. refl))
-    (λ k v h d i. either (eqb d c) (isActive (n .clients d) i))
-    (λ k v h f d i. either (eqb d c) (isActive (n .clients d) i))
-    q
+unfolding activates deactivates sets activeBy
+leaves-active w n c now p o =
+    outcome-holds (λ q x. LeavesActive w n c p x) w n c now
+    (record {
+      bad = λ q x d i. either (eqb d c) (isActive (n .clients d) i);
+      telling = λ q f h d i.
+          either (eqb d c) (isActive (n .clients d) i)
+          ∙ ap (λ b. cond (eqb d c) b (isActive (n .clients d) i)) (sym (told-active h (n .values) i (isActive (n .clients d) i)));
+      activating = λ m f h. given-active w n c _ (active m) o
+          (λ i. ap (λ g. isActive (n .clients c) i || (ltb i (length (w .modules)) && g i)) (scope-is h));
+      deactivating = λ m f h. given-active w n c _ (inactive m) o (λ i. ap (λ g. isActive (n .clients c) i && not (g i)) (scope-is h));
+      setting = λ k v h d i. either (eqb d c) (isActive (n .clients d) i);
+      doing = λ k v h d i. either (eqb d c) (isActive (n .clients d) i);
+    })
 
 idle-active : (n : Node) (c d i : ℕ) → isActive (idle n c .clients d) i ≡ isActive (n .clients d) i
 idle-active n c d i =
@@ -433,9 +368,9 @@ unfolding activeBy
 line-own w n m c bs t rs h d i =
     let r : Reply = replyTo (partsAt n c bs) (outcomeAt w n c bs t) in
     let o : isOpen (idle n c .clients c) ≡ true =
-    ap isOpen (put-same (n .clients) c (emptied (n .clients c))) ∙ emptied-open (n .clients c) ∙ h .isOpen in
+    ap isOpen (put-at (n .clients) c (emptied (n .clients c))) ∙ emptied-open (n .clients c) ∙ h .isOpen in
     ap (λ (x : Node). isActive (x .clients d) i) (h .node)
-    ∙ leaves-active w (idle n c) c t (partsAt n c bs) (requestOf n c bs) o d i
+    ∙ leaves-active w (idle n c) c t (partsAt n c bs) o (requestOf n c bs) d i
     ∙ ap (λ b. cond (eqb d c) (activeBy w i b (r ∷ [])) b) (idle-active n c d i)
     ∙ go (eqb d c)
     ∙ ap (activeBy w i (isActive (n .clients d) i)) (sym (line-replies d w n m c bs t rs h))
@@ -467,7 +402,7 @@ ones-own {n = n} (received {c = c} {bs = bs} f) d i =
     (n .clients)
     c
     (receive (n .clients c) (beforeFeed bs))
-    (receive-active (beforeFeed bs) (n .clients c) i)
+    (receive-active (n .clients c) (beforeFeed bs) i)
     (λ j. refl)
     d
 ones-own (read p q f) d i = refl
@@ -501,20 +436,19 @@ set-active : (w : Table) (n : Node) (k : ℕ) (p : Placed Parameter) (x : Value)
     → List·Memᴰ (update d r) (updatesTo (n .clients) (p .home) (reportOf p x) clientNumbers) → ToActive w (withValue n k x) d r
 set-active w n k p x t d r l =
     let h = updates-to-member (n .clients) (p .home) (reportOf p x) clientNumbers d r l in
-    to-active w (withValue n k x) k p d r t (h .0 ∙ ap (reportOf p) (sym (put-same (n .values) k x))) (h .1)
+    to-active w (withValue n k x) k p d r t (h .0 ∙ ap (reportOf p) (sym (put-at (n .values) k x))) (h .1)
 
 -- of an activation's initial updates
-first-active : (w : Table) (n : Node) (c now : ℕ) → isOpen (n .clients c) ≡ true → (m : Option (List ℕ))
-    → ToActives w n (activates w n c now (inScopeOf w m) m)
+first-active : (w : Table) (n : Node) (c now : ℕ) → isOpen (n .clients c) ≡ true → (m : Option (List ℕ)) (wanted : ℕ → Bool)
+    → ToActives w n (activates w n c now wanted m)
 unfolding activates
-first-active w n c now o m d r l =
-    let wanted : ℕ → Bool = inScopeOf w m in
+first-active w n c now o m wanted d r l =
     let h = updates-of-member c wanted (n .values) (parameters w) 0 d r l in
     let g = h .1 in
     let z : 0 + g .i ≡ g .i = omega arith in
     let x : Node = nodeAfter n (activates w n c now wanted m) in
     let a : isActive (x .clients c) (g .p .home) ≡ true =
-    ap (λ y. isActive y (g .p .home)) (put-same (n .clients) c _)
+    ap (λ y. isActive y (g .p .home)) (put-at (n .clients) c _)
     ∙ activated-active _ (n .clients c) (g .p .home) o
     ∙ rw
     (lt-ltb (g .p .home) (length (w .modules)) (parameter-home w (g .i) (g .p) (g .there)), g .asked)
@@ -524,36 +458,31 @@ first-active w n c now o m d r l =
     (sym (h .0))
     (to-active w x (g .i) (g .p) c r (g .there) (g .truly ∙ ap (λ j. reportOf (g .p) (n .values j)) z) a)
 
-to-actives : (w : Table) (n : Node) (c now : ℕ) (q : Request) → isOpen (n .clients c) ≡ true → ToActives w n (outcome w n c now q)
-unfolding deactivates reads sets
-to-actives w n c now q o =
-    outcome-holds
-    (λ r x. ToActives w n x)
-    w
-    n
-    c
-    now
-    (λ r x d y l. absurd (List·Memᴰ·not-nil l))
-    (λ r s h d y l. absurd (List·Memᴰ·not-nil l))
-    (λ k h d y l. absurd (List·Memᴰ·not-nil l))
-    (first-active w n c now o)
-    (λ m d y l. absurd (List·Memᴰ·not-nil l))
-    (λ k v h d r l.
-    ⊎-elim
-    (λ e. absurd (not-update d r (orderChange c (k .0) (storedForm v)) refl e))
-    (λ m. set-active w n (k .0) (k .1) (showing (storedForm v) now) (h .there) d r m)
-    (List·Memᴰ·cases-cons l))
-    (λ k v h f d r l. absurd (not-update d r _ refl (List·Memᴰ·eq-of-singleton l)))
-    q
+to-actives : (w : Table) (n : Node) (c now : ℕ) → isOpen (n .clients c) ≡ true → (q : Request) → ToActives w n (outcome w n c now q)
+unfolding deactivates sets
+to-actives w n c now o =
+    outcome-holds (λ q x. ToActives w n x) w n c now
+    (record {
+      bad = λ q x d r l. absurd (List·Memᴰ·not-nil l);
+      telling = λ q f h d r l. absurd (List·Memᴰ·not-nil l);
+      activating = λ m f h. first-active w n c now o m f;
+      deactivating = λ m f h d r l. absurd (List·Memᴰ·not-nil l);
+      setting = λ k v h d r l.
+          ⊎-elim
+          (λ e. absurd (not-update d r (orderChange c (k .0) (storedForm v)) refl e))
+          (λ m. set-active w n (k .0) (k .1) (showing (storedForm v) now) (h .there) d r m)
+          (List·Memᴰ·cases-cons l);
+      doing = λ k v h d r l. absurd (not-update d r _ refl (List·Memᴰ·eq-of-singleton l));
+    })
 
 line-active : (w : Table) (n m : Node) (c : ℕ) (bs : List ℕ) (t : ℕ) (rs : List Record) → Answered w n c bs t m rs → (d : ℕ) (r : Report)
     → List·Memᴰ (update d r) rs → ToActive w m d r
 line-active w n m c bs t rs h d r k =
     let o : Outcome = outcomeAt w n c bs t in
     let a : isOpen (idle n c .clients c) ≡ true =
-    ap isOpen (put-same (n .clients) c (emptied (n .clients c))) ∙ emptied-open (n .clients c) ∙ h .isOpen in
+    ap isOpen (put-at (n .clients) c (emptied (n .clients c))) ∙ emptied-open (n .clients c) ∙ h .isOpen in
     ⊎-elim
-    (λ i. subst (λ x. ToActive w x d r) (sym (h .node)) (to-actives w (idle n c) c t (requestOf n c bs) a d r i))
+    (λ i. subst (λ x. ToActive w x d r) (sym (h .node)) (to-actives w (idle n c) c t a (requestOf n c bs) d r i))
     (λ i. absurd (not-update d r (final c (replyTo (partsAt n c bs) o)) refl (List·Memᴰ·eq-of-singleton i)))
     (List·Memᴰ·append-cases (before o) (subst (List·Memᴰ (update d r)) (h .records) k))
 

@@ -1,7 +1,7 @@
 -- What a call sets is all that alters a value. Assumes nothing.
 use Prim.Native.Nat.{ℕ, zero, suc}
 use mathlib.Core.Bool.{Bool, true, false}
-use mathlib.Core.List.{List, []}
+use mathlib.Core.List.{List}
 use mathlib.Core.Option.{Option, none, some}
 use mathlib.Core.Path.{_≡_, refl}
 use lib.ListN.{getElem?}
@@ -11,34 +11,28 @@ use Rattle.table.specs.Search.{Placed, parameters}
 use Rattle.message.specs.Line.{Parts}
 use Rattle.message.specs.Request.{Request, request}
 use Rattle.plain.specs.Node.{Node, setValues}
-use Rattle.plain.specs.Answer.{Outcome, refused, carried, settingsOf, activates, deactivates, reads, sets, outcome, conclude, answerParts, partsSet, answer, answerSets}
+use Rattle.plain.specs.Answer.{Outcome, refused, carried, settingsOf, activates, deactivates, sets, outcome, conclude, answerParts, partsSet, answer, answerSets}
 use Rattle.plain.specs.Calls.{Event, Open, Close, Piece, Reading, ended, endedSets, readingEffect, pieceEffect, effect, callNumber, settle, stepIf, settled, settingsIf}
 use Rattle.plain.specs.History.{step}
+use Rattle.plain.proofs.Outcomes.{nodeAfter, outcome-holds}
 use Rattle.rule.specs.Theorems.{SettingsAreAll}
-use Rattle.rule.proofs.Calls.{nodeAfter}
-use Rattle.rule.proofs.Outcomes.{outcome-holds}
 
 -- of a request, from the node n on
 abbrev All : Node → Outcome → Type 0
 All n o = nodeAfter n o .values ≡ setValues (n .values) (settingsOf o)
 
 outcome-all : (w : Table) (n : Node) (c now : ℕ) (q : Request) → All n (outcome w n c now q)
-unfolding settingsOf activates deactivates reads sets
-outcome-all w n c now q =
-    outcome-holds
-    (λ r o. All n o)
-    w
-    n
-    c
-    now
-    (λ r x. refl)
-    (λ r s h. refl)
-    (λ k h. refl)
-    (λ m. refl)
-    (λ m. refl)
-    (λ k v h. refl)
-    (λ k v h f. refl)
-    q
+unfolding settingsOf activates deactivates sets
+outcome-all w n c now =
+    outcome-holds (λ q o. All n o) w n c now
+    (record {
+      bad = λ q x. refl;
+      telling = λ q f h. refl;
+      activating = λ m f h. refl;
+      deactivating = λ m f h. refl;
+      setting = λ k v h. refl;
+      doing = λ k v h. refl;
+    })
 
 parts-all : (w : Table) (n : Node) (c now : ℕ) (p : Parts) → answerParts w n c now p .0 .values ≡ setValues (n .values) (partsSet w n c now p)
 unfolding answerParts partsSet conclude settingsOf

@@ -2,29 +2,29 @@
 use Prim.Native.Nat.{ℕ, zero, suc, _+_, _-_, _≤_, _<_}
 use native.Mathlib.Numerals.{add-one}
 use native.Mathlib.Omega.{arith}
-use mathlib.Core.Path.{_≡_, refl, sym, ap, ap₂, subst, _∙_}
-use mathlib.Core.Bool.{Bool, true, false, cond, not, _&&_, and-eq-true-iff, false≢true}
+use mathlib.Core.Path.{_≡_, refl, sym, ap, _∙_}
+use mathlib.Core.Bool.{Bool, true, false, cond, not, _&&_}
 use mathlib.Core.List.{List, [], _∷_}
 use mathlib.Core.Option.{Option, none, some}
 use lib.ListN.{length, drop, getElem?}
-use lib.Dec.{eqb}
-use borrow.Author.Tests.{eqb-true, not-true, not-false}
+use borrow.Author.Tests.{not-true, not-false}
 use Rattle.ascii.specs.Bytes.{same}
+use Rattle.ascii.proofs.Lists.{both, same-is}
 use Rattle.table.specs.Table as Table
 use Rattle.table.specs.Layout.{tableOf}
-use Rattle.table.specs.Search.{Placed, parametersOf, commandsOf, parameters, commands, firstFrom, first, findModule, findParameter, findCommand}
+use Rattle.table.specs.Search.{Placed, parametersOf, commandsOf, parameters, commands, firstFrom, first, findParameter, findCommand}
 use Rattle.table.specs.declared.layout.ParameterAt.{ParameterAt}
 use Rattle.table.specs.declared.layout.CommandAt.{CommandAt}
 use Rattle.table.specs.At.{bytesOf, Inside, parameterOf, commandOf}
 use Rattle.table.proofs.Accessibles.{in-some}
-use Rattle.table.proofs.Whole.{never}
+use Rattle.table.proofs.Search.{isNamed}
 use Rattle.search.specs.declared.cursor.Cursor.{Cursor}
 use Rattle.search.specs.declared.cursor.NextParameter as P
 use Rattle.search.specs.declared.cursor.NextCommand as C
 use Rattle.search.specs.Left.{placed, leftFrom, OnWay, After, FirstIs, Ended, FirstCursor, NextParameterIs, NextCommandIs}
 use Rattle.search.proofs.Lefts.{drop-next}
 use Rattle.search.proofs.Walks.{walk-less}
-use Rattle.search.specs.Found.{isCalled, ParameterFound, CommandFound, ParameterNumbered}
+use Rattle.search.specs.Found.{ParameterFound, CommandFound, ParameterNumbered}
 
 -- ## Lists
 
@@ -41,95 +41,12 @@ module _ {A : Type 0} where
   drop-past (suc n) (y ∷ l) zero e h = absurd (omega arith)
   drop-past (suc n) (y ∷ l) (suc k) e h = drop-past n l k e (omega arith)
 
--- ## What a search finds
-
-both : (a b : Bool) → a && b ≡ true → (a ≡ true) × (b ≡ true)
-both a b = and-eq-true-iff a b .0
-
-same-is : (xs ys : List ℕ) → same xs ys ≡ true → xs ≡ ys
-unfolding same
-same-is [] [] e = refl
-same-is [] (y ∷ ys) e = absurd (false≢true e)
-same-is (x ∷ xs) [] e = absurd (false≢true e)
-same-is (x ∷ xs) (y ∷ ys) e =
-    let h = both (eqb x y) (same xs ys) e in
-    ap₂ _∷_ (eqb-true x y (h .0)) (same-is xs ys (h .1))
-
-module _ {A : Type 0} (p : A → Bool) where
-  -- a search's find, after n elements that did not pass
-  record Stands (n : ℕ) (l : List A) (k : ℕ × A) : Type 0 where
-    pub place : ℕ
-    pub number : k .0 ≡ n + place
-    pub there : getElem? l place ≡ some (k .1)
-    pub passes : p (k .1) ≡ true
-
-  stands-from : (n : ℕ) (l : List A) (k : ℕ × A) → firstFrom p n l ≡ some k → Stands n l k
-  unfolding firstFrom
-  stands-from n [] k e = absurd (never e)
-  stands-from n (x ∷ l) k e = go (p x) refl (λ z. stands-from (suc n) l k z) e
-    where
-      go : (b : Bool) → p x ≡ b → (firstFrom p (suc n) l ≡ some k → Stands (suc n) l k) → cond b (some (n, x)) (firstFrom p (suc n) l) ≡ some k → Stands n (x ∷ l) k
-      go true z f e =
-          let q : _≡_ {A = ℕ × A} (n, x) k = in-some e in
-          record { place = 0; number = omega (arith, ap (λ (y : ℕ × A). y .0) q); there = ap (λ (y : ℕ × A). some (y .1)) q; passes = ap (λ (y : ℕ × A). p (y .1)) (sym q) ∙ z }
-      go false z f e = let g = f e in let h = g .number in record { place = suc (g .place); number = omega arith; there = g .there; passes = g .passes }
-
-  pub first-there : (l : List A) (k : ℕ × A) → first p l ≡ some k → getElem? l (k .0) ≡ some (k .1)
-  unfolding first
-  first-there l k e =
-      let g = stands-from 0 l k e in
-      let h = g .number in
-      let i : g .place ≡ k .0 = omega arith in
-      subst (λ (j : ℕ). getElem? l j ≡ some (k .1)) i (g .there)
-
-  pub first-passes : (l : List A) (k : ℕ × A) → first p l ≡ some k → p (k .1) ≡ true
-  unfolding first
-  first-passes l k e = stands-from 0 l k e .passes
-
--- the test of two names
-abbrev pub isNamed : {A : Type 0} → (A → List ℕ) → List ℕ → List ℕ → Placed A → Bool
-isNamed name m a x = same m (x .moduleName) && same a (name (x .it))
-
-named-is : {A : Type 0} (name : A → List ℕ) (m a : List ℕ) (x : Placed A) → isNamed name m a x ≡ true → (x .moduleName ≡ m) × (name (x .it) ≡ a)
-named-is name m a x e =
-    let h = both (same m (x .moduleName)) (same a (name (x .it))) e in
-    (sym (same-is m (x .moduleName) (h .0)), sym (same-is a (name (x .it)) (h .1)))
-
+-- what is sought by two names
 abbrev parameterName : Table.Parameter → List ℕ
 parameterName p = p .name
 
 abbrev commandName : Table.Command → List ℕ
 commandName p = p .name
-
--- a module that is found stands at its number, and has the name
-module _ (t : Table.Table) (m : List ℕ) (k : ℕ × Table.Module) (e : findModule t m ≡ some k) where
-  pub module-there : getElem? (t .modules) (k .0) ≡ some (k .1)
-  unfolding findModule
-  module-there = first-there (isCalled m) (t .modules) k e
-
-  pub module-named : k .1 .name ≡ m
-  unfolding findModule
-  module-named = sym (same-is m (k .1 .name) (first-passes (isCalled m) (t .modules) k e))
-
--- a parameter that is found stands at its number, and has both names
-module _ (t : Table.Table) (m a : List ℕ) (k : ℕ × Placed Table.Parameter) (e : findParameter t m a ≡ some k) where
-  pub parameter-there : getElem? (parameters t) (k .0) ≡ some (k .1)
-  unfolding findParameter
-  parameter-there = first-there (isNamed parameterName m a) (parameters t) k e
-
-  pub parameter-named : (k .1 .moduleName ≡ m) × (k .1 .it .name ≡ a)
-  unfolding findParameter
-  parameter-named = named-is parameterName m a (k .1) (first-passes (isNamed parameterName m a) (parameters t) k e)
-
--- so does a command
-module _ (t : Table.Table) (m a : List ℕ) (k : ℕ × Placed Table.Command) (e : findCommand t m a ≡ some k) where
-  pub command-there : getElem? (commands t) (k .0) ≡ some (k .1)
-  unfolding findCommand
-  command-there = first-there (isNamed commandName m a) (commands t) k e
-
-  pub command-named : (k .1 .moduleName ≡ m) × (k .1 .it .name ≡ a)
-  unfolding findCommand
-  command-named = named-is commandName m a (k .1) (first-passes (isNamed commandName m a) (commands t) k e)
 
 -- ## A count
 

@@ -2,7 +2,7 @@
 use Prim.Native.Nat.{ℕ, zero, suc, _≤_}
 use mathlib.Core.Bool.{Bool, true, false, cond, not, _&&_, So, and-eq-true-iff, false≢true}
 use mathlib.Core.List.{List, [], _∷_, append-nil}
-use mathlib.Core.Path.{_≡_, refl, sym, _∙_, ap, ap₂, fun-ext}
+use mathlib.Core.Path.{_≡_, refl, sym, _∙_, ap, ap₂}
 use mathlib.Core.Logic.{_↔_}
 use lib.Dec.{eqb, ltb}
 use lib.ListN.{getElem?}
@@ -16,14 +16,15 @@ use Rattle.table.specs.Layout.{tableOf}
 use Rattle.table.specs.Search.{parameters}
 use Rattle.report.specs.Judge.{fault, lowest, tableNumber}
 use Rattle.outbox.specs.Outbox.{Record}
-use Rattle.plain.specs.Node.{Client, closed, connected, Node, put, withClient, isOpen, receive, withClients}
+use Rattle.plain.specs.Node.{Node, put, withClient, isOpen, receive, withClients}
 use Rattle.plain.specs.Answer.{answer}
 use Rattle.plain.specs.Calls.{Event, Open, Close, Piece, Reading, Call, fault10, readingVerdict, ownFaults, callNumber, beforeFeed, hasFeed, ended, pieceEffect, effect, settle, stepIf}
-use Rattle.plain.specs.History.{step, Mark, feeds, opens, closes, reads, Item, byte, mark, markOf, itemOf, consIf, own, marks, pieceItems, itemsOf, kept, InTime, Roomy, standing}
+use Rattle.plain.specs.History.{step, Mark, feeds, opens, closes, reads, Item, byte, mark, markOf, itemOf, consIf, own, marks, pieceItems, itemsOf, kept, InTime, Roomy, standing, after, runNode, runSent, joined}
 use Rattle.plain.proofs.Numbers.{accepted-call}
+use Rattle.plain.proofs.Put.{put-at, put-same, put-put}
+use Rattle.plain.proofs.Clients.{receive-more}
 use Rattle.second.proofs.Items.{due, inOrder}
-use Rattle.second.proofs.Lines.{put-same}
-use Rattle.second.proofs.Runs.{outOf, after, run}
+use Rattle.second.proofs.Runs.{outOf, run}
 
 -- ## Numbers
 
@@ -166,29 +167,11 @@ module _ (table : List ℕ) (n : Node) where
 
 -- ## Effects
 
-put-put : {A : Type 0} (f : ℕ → A) (c : ℕ) (x y : A) → put (put f c x) c y ≡ put f c y
-unfolding put
-put-put f c x y = fun-ext (λ d. go d (eqb d c))
-  where
-    go : (d : ℕ) (q : Bool) → cond q y (cond q x (f d)) ≡ cond q y (f d)
-    go d true = refl
-    go d false = refl
-
-put-at : {A : Type 0} (f : ℕ → A) (c : ℕ) (x : A) → put f c x c ≡ x
-unfolding put
-put-at f c x = ap (λ q. cond q x (f c)) (eq-eqb c c refl)
-
-receive-more : (x : Client) (b : ℕ) (bs : List ℕ) → receive x (b ∷ bs) ≡ receive (receive x (b ∷ [])) bs
-unfolding receive
-receive-more closed b [] = refl
-receive-more closed b (v ∷ bs) = refl
-receive-more (connected l a) b bs = refl
-
 module _ (w : Table) (c t : ℕ) where
   -- a piece does what its items do
   piece-run : (bs : List ℕ) (n : Node)
       → ended w (withClient n c (receive (n .clients c) (beforeFeed bs))) c t (hasFeed bs) ≡ run w n (pieceItems c t bs)
-  unfolding beforeFeed hasFeed pieceItems ended receive
+  unfolding beforeFeed hasFeed pieceItems ended receive after runNode runSent joined
   piece-run [] n = λ i. (withClients n (put-same (n .clients) c i), [])
   piece-run (b ∷ bs) n = go (eqb b 10) (piece-run bs (after w n (byte c b) .0))
     where
@@ -211,7 +194,7 @@ module _ (w : Table) (c t : ℕ) where
           ∙ h
 
 effect-run : (w : Table) (n : Node) (e : Event) → outOf (effect w n e) ≡ run w n (itemsOf e)
-unfolding effect pieceEffect itemsOf
+unfolding effect pieceEffect itemsOf after runNode runSent joined
 effect-run w n (Open c t) = refl
 effect-run w n (Close c t) = refl
 effect-run w n (Piece c bs t) = piece-run w c t bs n
@@ -228,7 +211,7 @@ pub record Used (table : List ℕ) (n : Node) (x : List Item) (r : Node × List 
   pub readings : So (all (readable table) (marks x))
 
 pub none-used : (table : List ℕ) (n : Node) → Used table n [] (n, [])
-unfolding own marks all
+unfolding own marks all runNode runSent joined
 none-used table n = record { ran = refl; ordered = λ d. refl; readings = refl }
 
 module _ (table : List ℕ) (n : Node) (e : Call) where

@@ -6,6 +6,7 @@ use mathlib.Core.Logic.{_↔_}
 use mathlib.Core.Path.{_≡_, refl, sym, _∙_, ap}
 use lib.Dec.{ltb}
 use Rattle.ascii.specs.Bytes.{all}
+use Rattle.ascii.proofs.Lists.{all-joined}
 use Rattle.plain.specs.History.{Mark, feeds, opens, closes, reads, Item, byte, mark, itemOf, consIf, own, marks, standing}
 
 pub own-append : (d : ℕ) (x y : List Item) → own d (x ++ y) ≡ own d x ++ own d y
@@ -31,11 +32,6 @@ standing-append b (mark (feeds c t) ∷ x) y = standing-append b x y
 standing-append b (mark (opens c t) ∷ x) y = standing-append true x y
 standing-append b (mark (closes c t) ∷ x) y = standing-append false x y
 standing-append b (mark (reads p bs t) ∷ x) y = standing-append b x y
-
-all-append : {A : Type 0} (p : A → Bool) (x y : List A) → all p (x ++ y) ≡ (all p x && all p y)
-unfolding all
-all-append p [] y = refl
-all-append p (a ∷ x) y = ap (p a &&_) (all-append p x y) ∙ sym (and-assoc (p a) (all p x) (all p y))
 
 -- what is amiss with a client's own item where the client is open (or not), and an item at its time: by a client's number of at most 7,
 -- with nothing amiss
@@ -68,7 +64,7 @@ own-both d b x y =
     rw (own-append, order-append) (and-eq-true-iff (inOrder d b (own d x)) (inOrder d (standing b (own d x)) (own d y)))
 
 pub marks-both : (p : Mark → Bool) (x y : List Item) → So (all p (marks (x ++ y))) ↔ (So (all p (marks x)) × So (all p (marks y)))
-marks-both p x y = rw (marks-append, all-append) (and-eq-true-iff (all p (marks x)) (all p (marks y)))
+marks-both p x y = rw (marks-append, all-joined) (and-eq-true-iff (all p (marks x)) (all p (marks y)))
 
 -- a client that is open after such items has a small number
 pub order-small : (d : ℕ) (b : Bool) (x : List Item) → So (inOrder d b x) → (So b → So (not (ltb 7 d))) → So (standing b x) → So (not (ltb 7 d))

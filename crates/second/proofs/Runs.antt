@@ -15,9 +15,11 @@ use Rattle.outbox.specs.Outbox.{Record}
 use Rattle.plain.specs.Node.{Client, closed, connected, Value, Node, put, withClient, withValue, fresh, isOpen, lineOf, receive, emptied, reportOf, clientNumbers, showing, withClients}
 use Rattle.plain.specs.Answer.{answerParts, answer}
 use Rattle.plain.specs.Calls.{Effect, readingEffect}
-use Rattle.plain.specs.History.{Mark, feeds, opens, closes, reads, Item, byte, mark, markOf, itemOf, consIf, own, marks, standing}
+use Rattle.plain.specs.History.{Mark, feeds, opens, closes, reads, Item, byte, mark, markOf, itemOf, consIf, own, marks, standing, after, runNode, runSent, joined}
+use Rattle.plain.proofs.Put.{put-cases, put-same}
+use Rattle.plain.proofs.Clients.{receive-open, emptied-open}
 use Rattle.second.proofs.Items.{own-append, standing-append}
-use Rattle.second.proofs.Lines.{relined, weave, put-cases, put-same, weave-put, updates-woven, answered, answered-open}
+use Rattle.second.proofs.Lines.{relined, weave, weave-put, updates-woven, answered, answered-open}
 
 -- an effect's node and records
 abbrev pub outOf : Effect → Node × List Record
@@ -45,23 +47,16 @@ abbrev pop : (ℕ → List Line) → Mark → ℕ → List Line
 pop f m d = cond (markOf d m) (tail (f d)) (f d)
 
 module _ (w : Table) where
-  -- what an item does, and what is sent at it
-  abbrev pub after : Node → Item → Node × List Record
-  after n (byte c b) = (withClient n c (receive (n .clients c) (b ∷ [])), [])
-  after n (mark (feeds c t)) = answer w n c t
-  after n (mark (opens c t)) = (withClient n c fresh, [])
-  after n (mark (closes c t)) = (withClient n c closed, [])
-  after n (mark (reads p bs t)) = outOf (readingEffect n p (getElem? (parameters w) p) bs t)
-
+  -- the node that items leave, and all that is sent at them
   abbrev pub run : Node → List Item → Node × List Record
-  run n [] = (n, [])
-  run n (i ∷ x) = (run (after n i .0) x .0, after n i .1 ++ run (after n i .0) x .1)
+  run n x = (runNode w n x, joined (runSent w n x))
 
   pub run-append : (x y : List Item) (n : Node) → run n (x ++ y) ≡ (run (run n x .0) y .0, run n x .1 ++ run (run n x .0) y .1)
+  unfolding runNode runSent joined
   run-append [] y n = refl
   run-append (i ∷ x) y n =
-      let r = run-append x y (after n i .0) in
-      λ j. (r j .0, (ap (λ q. after n i .1 ++ q .1) r ∙ sym (append-assoc (after n i .1) (run (after n i .0) x .1) _)) j)
+      let r = run-append x y (after w n i .0) in
+      λ j. (r j .0, (ap (λ q. after w n i .1 ++ q .1) r ∙ sym (append-assoc (after w n i .1) (run (after w n i .0) x .1) _)) j)
 
   -- the same by marks alone, at a node whose lines are not looked at, where each client's lines are given
   abbrev afterMark : Node → (ℕ → Line) → Mark → Node × List Record
@@ -82,8 +77,8 @@ module _ (w : Table) where
       weave-put n s c (n .clients c) l
       ∙ ap (λ f. weave (withClients n f) (put s c l)) (put-same (n .clients) c)
 
-  after-byte : (n : Node) (s : ℕ → Line) (c b : ℕ) → after (weave n s) (byte c b) .0 ≡ weave n (put s c (with-byte (s c) b))
-  unfolding receive
+  after-byte : (n : Node) (s : ℕ → Line) (c b : ℕ) → after w (weave n s) (byte c b) .0 ≡ weave n (put s c (with-byte (s c) b))
+  unfolding after receive
   after-byte n s c b = ap (withClient (weave n s) c) (go (n .clients c) (s c)) ∙ weave-line n s c (with-byte (s c) b)
     where
       go : (x : Client) (l : Line) → receive (relined x l) (b ∷ []) ≡ relined x (with-byte l b)
@@ -91,8 +86,8 @@ module _ (w : Table) where
       go (connected k a) l = refl
 
   after-mark : (n : Node) (s : ℕ → Line) (m : Mark)
-      → after (weave n s) (mark m) ≡ (weave (afterMark n s m .0) (reset s m), afterMark n s m .1)
-  unfolding answer emptied readingEffect put markOf
+      → after w (weave n s) (mark m) ≡ (weave (afterMark n s m .0) (reset s m), afterMark n s m .1)
+  unfolding after answer emptied readingEffect put markOf
   after-mark n s (feeds c t) =
       let p = partsOf (content (lineOf (relined (n .clients c) (s c)))) in
       ap (λ m. answerParts w m c t p) (ap (withClient (weave n s) c) (go (n .clients c) (s c)) ∙ weave-line n s c (whole []))
@@ -145,7 +140,7 @@ module _ (w : Table) where
   mark-lines n s (reads p bs t) x = refl
 
   run-by : (x : List Item) (n : Node) (s : ℕ → Line) → run (weave n s) x ≡ runBy n (lines s x) (marks x)
-  unfolding marks own
+  unfolding marks own runNode runSent joined after
   run-by [] n s = refl
   run-by (byte c b ∷ x) n s =
       ap (λ m. run m x) (after-byte n s c b)
@@ -186,20 +181,13 @@ module _ (w : Table) where
       (h ∙ ap (λ q. standing (isOpen (n .clients c)) (consIf q i [])) (sym (eq-eqb c c refl)))
       (λ d e. ap (λ q. standing (isOpen (n .clients d)) (consIf q i [])) (sym e))
 
-  after-open : (n : Node) (i : Item) (d : ℕ) → isOpen (after n i .0 .clients d) ≡ standing (isOpen (n .clients d)) (own d (i ∷ []))
-  unfolding own consIf itemOf markOf standing answer readingEffect receive emptied isOpen
-  after-open n (byte c b) d = put-open n c (receive (n .clients c) (b ∷ [])) (byte c b) (go (n .clients c)) d
-    where
-      go : (x : Client) → isOpen (receive x (b ∷ [])) ≡ isOpen x
-      go closed = refl
-      go (connected l a) = refl
+  after-open : (n : Node) (i : Item) (d : ℕ) → isOpen (after w n i .0 .clients d) ≡ standing (isOpen (n .clients d)) (own d (i ∷ []))
+  unfolding own consIf itemOf markOf standing after answer readingEffect isOpen
+  after-open n (byte c b) d =
+      put-open n c (receive (n .clients c) (b ∷ [])) (byte c b) (receive-open (n .clients c) (b ∷ [])) d
   after-open n (mark (feeds c t)) d =
       answered-open w c t _ (withClient n c (emptied (n .clients c))) d
-      ∙ put-open n c (emptied (n .clients c)) (mark (feeds c t)) (go (n .clients c)) d
-    where
-      go : (x : Client) → isOpen (emptied x) ≡ isOpen x
-      go closed = refl
-      go (connected l a) = refl
+      ∙ put-open n c (emptied (n .clients c)) (mark (feeds c t)) (emptied-open (n .clients c)) d
   after-open n (mark (opens c t)) d = put-open n c fresh (mark (opens c t)) refl d
   after-open n (mark (closes c t)) d = put-open n c closed (mark (closes c t)) refl d
   after-open n (mark (reads p bs t)) d = go (getElem? (parameters w) p)
@@ -209,10 +197,10 @@ module _ (w : Table) where
       go (some q) = refl
 
   pub run-open : (x : List Item) (n : Node) (d : ℕ) → isOpen (run n x .0 .clients d) ≡ standing (isOpen (n .clients d)) (own d x)
-  unfolding own standing
+  unfolding own standing runNode
   run-open [] n d = refl
   run-open (i ∷ x) n d =
-      run-open x (after n i .0) d
+      run-open x (after w n i .0) d
       ∙ ap (λ b. standing b (own d x)) (after-open n i d)
       ∙ sym (standing-append (isOpen (n .clients d)) (own d (i ∷ [])) (own d x))
       ∙ ap (standing (isOpen (n .clients d))) (sym (own-append d (i ∷ []) x))

@@ -12,7 +12,7 @@ use Rattle.outbox.specs.Outbox.{Record, encodeAll}
 use Rattle.plain.specs.Node.{Node, begin, isOpen}
 use Rattle.plain.specs.Calls.{Call, startNumber}
 use Rattle.plain.specs.History.{step, answers, finish, sent, sentBytes, AllAccepted, Item, own, marks, standing, itemsOf, items, kept, taken, AllRoomy, EmptiesOpen, IsSecond, Alike}
-use Rattle.second.specs.Theorems.{SecondHistoriesAreAlike}
+use Rattle.second.specs.Theorems.{HistoriesAreTheirItems, SecondHistoriesAreAlike}
 use Rattle.second.proofs.Items.{own-append, standing-append, inOrder, own-both, marks-both, order-small}
 use Rattle.second.proofs.Runs.{run, run-append, same-run, run-open}
 use Rattle.second.proofs.Calls.{readable, permitted, accepts, order-call, Used, none-used, step-number, step-used}
@@ -110,6 +110,11 @@ module _ (table : List ℕ) where
           sameBytes = ap (λ (q : Node × List Record). encodeAll (q .1)) p;
           sameEnd = ap (λ (q : Node × List Record). q .0) p;
         }
+
+pub histories-are-their-items : HistoriesAreTheirItems
+histories-are-their-items table n h =
+    let u = all-used table h n .ran in
+    record { node = ap (λ (q : Node × List Record). q .0) u; records = ap (λ (q : Node × List Record). q .1) u }
 
 -- ## From the start
 

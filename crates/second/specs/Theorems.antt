@@ -8,7 +8,15 @@ use lib.Dec.{eqb}
 use Rattle.table.specs.Layout.{tableOf}
 use Rattle.plain.specs.Node.{Node, begin}
 use Rattle.plain.specs.Calls.{Event, Open, Close, Piece, Reading, Lent, Call, startNumber, hasFeed}
-use Rattle.plain.specs.History.{step, own, marks, standing, itemsOf, Roomy, IsSecond, Alike}
+use Rattle.plain.specs.History.{step, answers, finish, sent, own, marks, standing, itemsOf, taken, runNode, runSent, joined, Roomy, IsSecond, Alike}
+
+-- A history leaves the node, and sends the records, that the items its accepted calls used leave and send, one item after another.
+pub record AsItems (table : List ℕ) (n : Node) (h : List Call) : Type 0 where
+  pub node : finish table n h ≡ runNode (tableOf table) n (taken table n h)
+  pub records : sent (answers table n h) ≡ joined (runSent (tableOf table) n (taken table n h))
+
+abbrev pub HistoriesAreTheirItems : Type 0
+HistoriesAreTheirItems = (table : List ℕ) (n : Node) (h : List Call) → AsItems table n h
 
 -- After an accepted start, for every history and every second history of it: all calls of the second are accepted, the same bytes are
 -- sent in the same order, and the ends are equal.

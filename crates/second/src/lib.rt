@@ -1,8 +1,15 @@
 // Demand 3's second half, as promises: nothing is run.
 ghost use mathlib.Core.Bool.{true};
 ghost use mathlib.Core.Path.{_≡_};
-ghost use Rattle.second.specs.Theorems.{SecondHistoriesAreAlike, AcceptedCallsAreSecond, CallsMayChangePlaces};
+ghost use Rattle.second.specs.Theorems.{HistoriesAreTheirItems, SecondHistoriesAreAlike, AcceptedCallsAreSecond, CallsMayChangePlaces};
 ghost use Rattle.second.specs.Theorems.{PiecesMayBeMingled, PiecesMayBeCut, UnusedMayBeOffered};
+
+// A history leaves and sends what the items that its accepted calls used leave and send.
+pub fn histories_are_their_items() -> bool
+    ensures { λ r. ⌜ (r ≡ true) × HistoriesAreTheirItems ⌝ }
+{
+    true
+}
 
 // After an accepted start, a second history's calls are accepted, the same bytes are sent in the same order, and the ends are equal.
 pub fn second_histories_are_alike() -> bool

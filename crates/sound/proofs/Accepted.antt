@@ -12,6 +12,7 @@ use borrow.Author.Tests.{leb-true, ltb-false, not-false}
 use Rattle.ascii.specs.Bytes.{all}
 use Rattle.ascii.specs.Names.{isName, isText, unique}
 use Rattle.ascii.specs.Numbers.{latest}
+use Rattle.ascii.proofs.Lists.{both}
 use Rattle.datainfo.specs.Rules.{isBetween, goodNames}
 use Rattle.fit.specs.Fit.{isStored}
 use Rattle.table.specs.Table.{Parameter, Command, Accessible, parameter, command, Module, Table}
@@ -22,7 +23,7 @@ use Rattle.report.specs.Report.{report}
 use Rattle.report.specs.Judge.{treeNumber, numberOf, tableNumber}
 use Rattle.report.proofs.Faults.{no-fault, lowest-none}
 use Rattle.plain.specs.Calls.{fault10, fault11}
-use Rattle.sound.proofs.Lists.{both, Each, each-append, each-both, each-all, each-map, map-each}
+use Rattle.sound.proofs.Lists.{Each, each-append, each-both, each-all, each-map, map-each}
 
 -- ## Numbers
 

@@ -2,25 +2,20 @@
 use Prim.Native.Nat.{ℕ, _≤_, _<_}
 use mathlib.Core.Bool.{Bool, false, not, _&&_, _||_}
 use mathlib.Core.Option.{some}
-use mathlib.Core.Path.{_≡_, refl, sym, subst}
+use mathlib.Core.Path.{_≡_, refl}
 use native.Mathlib.Omega.{arith}
-use lib.Dec.{eqb, ltb}
+use lib.Dec.{ltb}
 use lib.ListN.{length, getElem?}
-use borrow.Author.Tests.{eqb-true, le-ltb}
+use borrow.Author.Tests.{le-ltb}
 use Rattle.ascii.specs.Bytes.{all}
 use Rattle.ascii.specs.Numbers.{latest}
 use Rattle.table.specs.Table.{Parameter, Table}
 use Rattle.table.specs.Search.{Placed, parameters}
-use Rattle.plain.specs.Node.{Client, closed, connected, Value, Node, put, withClient, withValue, lineOf, isActive, emptied, activated, initially, begin}
+use Rattle.plain.specs.Node.{Client, closed, connected, Value, Node, withClient, withValue, lineOf, isActive, emptied, activated, initially, begin}
+use Rattle.plain.proofs.Put.{put-all}
 use Rattle.sound.specs.Theorems.{LineHeld, ClientHeld, ValueHeld, Sound}
-use Rattle.sound.proofs.Lists.{either, each-at}
+use Rattle.sound.proofs.Lists.{each-at}
 use Rattle.sound.proofs.Accepted.{Accepted, GoodParameter}
-
--- what holds at every place still does with another value at one place
-put-held : {A : Type 0} (P : ℕ → A → Type 0) (f : ℕ → A) (k : ℕ) (a : A)
-    → P k a → ((j : ℕ) → P j (f j)) → (j : ℕ) → P j (put f k a j)
-unfolding put
-put-held P f k a h g j = either (P j) (eqb j k) (λ e. subst (λ i. P i a) (sym (eqb-true j k e)) h) (λ e. g j)
 
 module _ (w : Table) where
   -- ## Nodes
@@ -29,8 +24,8 @@ module _ (w : Table) where
   with-client n c x h k s =
       record {
         values = s .values;
-        clients = put-held (λ j. ClientHeld w) (n .clients) c x k (s .clients);
-        above = put-held (λ j y. 7 < j → y ≡ closed) (n .clients) c x (λ i. absurd (omega arith)) (s .above);
+        clients = put-all (λ j. ClientHeld w) (n .clients) c x k (s .clients);
+        above = put-all (λ j y. 7 < j → y ≡ closed) (n .clients) c x (λ i. absurd (omega arith)) (s .above);
       }
 
   pub with-value : (n : Node) (k : ℕ) (v : Value)
@@ -39,7 +34,7 @@ module _ (w : Table) where
   with-value n k v h s =
       record {
         values =
-            put-held (λ j y. (p : Placed Parameter) → getElem? (parameters w) j ≡ some p → ValueHeld (p .it) y) (n .values) k v h (s .values);
+            put-all (λ j y. (p : Placed Parameter) → getElem? (parameters w) j ≡ some p → ValueHeld (p .it) y) (n .values) k v h (s .values);
         clients = s .clients;
         above = s .above;
       }

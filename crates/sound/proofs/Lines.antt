@@ -11,15 +11,15 @@ use borrow.Author.Tests.{ltb-true}
 use Rattle.ascii.specs.Text.{bytes}
 use Rattle.ascii.specs.Bytes.{all, takeWhile, dropWhile, tail, same, isPrintable, isSpace}
 use Rattle.ascii.specs.Names.{isName}
+use Rattle.ascii.proofs.Lists.{both, all-one, all-append}
 use Rattle.message.specs.Line.{Line, whole, overlong, with-byte, withoutReturn, printable, content, Parts, beforeSpace, afterSpace, partsOf}
 use Rattle.message.specs.Request.{Request, identify, describe, ping, activate, deactivate, read, change, execute, malformed, modulePart, accessiblePart, scoped, named, orNull, request}
 use Rattle.outbox.specs.Theorems.{Word, Named}
-use Rattle.outbox.proofs.Lists.{all-one, all-append}
 use Rattle.table.specs.Table.{Table}
 use Rattle.plain.specs.Node.{Client, closed, connected, receive}
 use Rattle.plain.specs.Calls.{beforeFeed}
 use Rattle.sound.specs.Theorems.{LineHeld, ClientHeld}
-use Rattle.sound.proofs.Lists.{both, either, all-takeWhile}
+use Rattle.sound.proofs.Lists.{either, all-takeWhile}
 
 -- ## Bytes that come in
 

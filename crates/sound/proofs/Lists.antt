@@ -1,17 +1,13 @@
--- What holds of each element of a list, and what tests and searches that pass say of it. Assumes nothing.
+-- What holds of each element of a list, and what tests that pass say of it. Assumes nothing.
 use Prim.Native.Nat.{ℕ, zero, suc, _+_, _≤_, _<_}
-use mathlib.Core.Bool.{Bool, true, false, cond, _&&_, and-eq-true-iff}
+use mathlib.Core.Bool.{Bool, true, false, cond}
 use mathlib.Core.List.{List, [], _∷_, _++_, map}
 use mathlib.Core.Option.{none, some}
-use mathlib.Core.Path.{_≡_, refl, ap, subst}
+use mathlib.Core.Path.{_≡_, refl, subst}
 use native.Mathlib.Omega.{arith}
 use lib.ListN.{length, getElem?}
 use Rattle.ascii.specs.Bytes.{all, takeWhile}
-use Rattle.table.specs.Search.{firstFrom, first}
-
--- both of two tests
-pub both : (a b : Bool) → a && b ≡ true → (a ≡ true) × (b ≡ true)
-both a b = and-eq-true-iff a b .0
+use Rattle.ascii.proofs.Lists.{both}
 
 -- what holds of both ways of a choice
 pub either : {A : Type 0} (Q : A → Type 0) (b : Bool) {x y : A} → (b ≡ true → Q x) → (b ≡ false → Q y) → Q (cond b x y)
@@ -51,29 +47,6 @@ module _ {A : Type 0} where
   unfolding all
   each-all p [] e = tt
   each-all p (x ∷ l) e = let h = both (p x) (all p l) e in (h .0, each-all p l (h .1))
-
-  -- a search's find stands in the list at its number
-  first-from : (p : A → Bool) (n : ℕ) (l : List A) (r : ℕ × A)
-      → firstFrom p n l ≡ some r → (j : ℕ) × (r .0 ≡ n + j) × (getElem? l j ≡ some (r .1))
-  unfolding firstFrom
-  first-from p n [] r e = let z : _≡_ {A = ℕ} 0 1 = cc in absurd (omega arith)
-  first-from p n (x ∷ l) r e = go (p x) (first-from p (suc n) l r) e
-    where
-      Found : List A → ℕ → Type 0
-      Found l n = (j : ℕ) × (r .0 ≡ n + j) × (getElem? l j ≡ some (r .1))
-
-      go : (b : Bool) → (firstFrom p (suc n) l ≡ some r → Found l (suc n)) → cond b (some (n, x)) (firstFrom p (suc n) l) ≡ some r
-          → Found (x ∷ l) n
-      go true f e =
-          let q : _≡_ {A = ℕ × A} (n, x) r = cc in
-          (0, omega (arith, ap (λ (s : ℕ × A). s .0) q), ap (λ (s : ℕ × A). some (s .1)) q)
-      go false f e = let g : Found l (suc n) = f e in (suc (g .0), omega (arith, g .1), g .2)
-
-  pub first-at : (p : A → Bool) (l : List A) (r : ℕ × A) → first p l ≡ some r → getElem? l (r .0) ≡ some (r .1)
-  unfolding first
-  first-at p l r e =
-      let g = first-from p 0 l r e in
-      subst (λ j. getElem? l j ≡ some (r .1)) (omega (arith, g .1)) (g .2)
 
   -- the front of a list that passes
   pub all-takeWhile : (p : A → Bool) (l : List A) → all p (takeWhile p l) ≡ true

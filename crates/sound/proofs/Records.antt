@@ -14,6 +14,7 @@ use Rattle.ascii.specs.Bytes.{all, head, isDigit}
 use Rattle.ascii.specs.Names.{isName, isNameByte}
 use Rattle.ascii.specs.Numbers.{twoBytes, latest}
 use Rattle.ascii.proofs.Decimal.{seconds-latest}
+use Rattle.ascii.proofs.Lists.{both}
 use Rattle.message.specs.Error.{Class, ProtocolError, NoSuchModule, NoSuchParameter, NoSuchCommand, ReadOnly, BadJSON, WrongType, RangeError, className, classText}
 use Rattle.message.specs.Reply.{Report, Reply, identification, describing, pong, active, inactive, reply, changed, done, error, dataReport, reportText, errorReport, optionally, replyLine, updateLine}
 use Rattle.outbox.specs.Outbox.{Record, final, update, body, encode, encodeAll}
@@ -22,7 +23,6 @@ use Rattle.outbox.proofs.Records.{two-bytes}
 use Rattle.table.specs.Table.{Parameter}
 use Rattle.table.specs.Search.{Placed}
 use Rattle.plain.specs.Node.{Client, Value, isActive, reportOf, updatesTo, updatesOf}
-use Rattle.sound.proofs.Lists.{both}
 use Rattle.sound.proofs.Accepted.{GoodNames}
 use Rattle.sound.proofs.Room.{encode-append}
 
@@ -73,6 +73,9 @@ class-short RangeError = omega arith
 -- a reply that is well formed, and at most k bytes
 abbrev pub Says : Reply → ℕ → Type 0
 Says r k = WellFormedReply r × (length (replyLine r) ≤ k)
+
+pub says-within : (r : Reply) (j k : ℕ) → j ≤ k → Says r j → Says r k
+says-within r j k e h = (h .0, omega (arith, h .1))
 
 pub says-identification : Says identification 36
 unfolding replyLine bytes

@@ -6,36 +6,35 @@ use mathlib.Core.Option.{Option, none, some}
 use mathlib.Core.Path.{_≡_, refl, subst}
 use native.Mathlib.Nat.{zero-add}
 use native.Mathlib.Omega.{arith}
-use lib.Dec.{eqb}
 use lib.ListN.{length, getElem?}
 use borrow.Author.Tests.{not-false}
 use Rattle.ascii.specs.Text.{bytes}
 use Rattle.ascii.specs.Bytes.{all}
 use Rattle.ascii.specs.Numbers.{latest}
 use Rattle.datainfo.specs.Datainfo.{Datainfo}
-use Rattle.fit.specs.Fit.{Verdict, fits, rangeError, wrongType, badJSON, severity, verdict, storedForm, isFit}
+use Rattle.fit.specs.Fit.{Verdict, fits, severity, verdict, storedForm, isFit}
 use Rattle.message.specs.Line.{Parts, content, partsOf}
-use Rattle.message.specs.Request.{Request, identify, describe, ping, activate, deactivate, read, change, execute, malformed, request}
-use Rattle.message.specs.Error.{Class, NoSuchModule, NoSuchParameter, NoSuchCommand}
-use Rattle.message.specs.Reply.{Report, Reply, identification, describing, pong, active, inactive, reply, changed, done, error}
+use Rattle.message.specs.Request.{Request, request}
+use Rattle.message.specs.Reply.{Reply, identification, pong, active, inactive, reply, changed, done, error}
 use Rattle.outbox.specs.Outbox.{Record, final, orderChange, orderCommand, body}
 use Rattle.outbox.specs.Theorems.{Named}
 use Rattle.table.specs.Table.{Parameter, Command, Table}
 use Rattle.table.specs.Layout.{tableOf}
-use Rattle.table.specs.Search.{Placed, parameters, commands, first, findModule, findParameter, findCommand}
+use Rattle.table.specs.Search.{Placed, parameters, commands}
 use Rattle.report.specs.Report.{report}
 use Rattle.report.specs.Judge.{lowest}
 use Rattle.report.proofs.Faults.{no-fault, lowest-none}
 use Rattle.plain.specs.Node.{closed, Value, Node, withClient, withValue, Setting, fresh, lineOf, receive, emptied, reportOf, clientNumbers, updatesTo, showing}
-use Rattle.plain.specs.Answer.{Outcome, refused, carried, found, letIn, argumentVerdict, argumentForm, activates, deactivates, inScope, reads, sets, changes, does, outcome, conclude, answerParts, answer}
+use Rattle.plain.specs.Answer.{Outcome, refused, carried, argumentVerdict, argumentForm, activates, deactivates, reads, sets, outcome, conclude, answerParts, answer}
 use Rattle.plain.specs.Calls.{Event, Open, Close, Piece, Reading, Call, readingVerdict, ownFaults, callNumber, beforeFeed, hasFeed, ended, Effect, pieceEffect, readingEffect, effect, settle, stepIf}
 use Rattle.plain.specs.History.{step}
 use Rattle.plain.proofs.Numbers.{accepted-call}
+use Rattle.plain.proofs.Outcomes.{Tells, by-identify, by-describe, by-ping, by-read, LetIn, Allowed, doneOf, ordering, outcome-holds}
 use Rattle.sound.specs.Theorems.{ValueHeld, Sound}
-use Rattle.sound.proofs.Lists.{either, each-at, first-at}
+use Rattle.sound.proofs.Lists.{each-at}
 use Rattle.sound.proofs.Accepted.{Accepted, GoodParameter, GoodCommand, client-low, time-low}
 use Rattle.sound.proofs.Values.{stored, stored-short, short-stored}
-use Rattle.sound.proofs.Records.{Fine, Says, says-identification, says-describing, says-pong, says-active, says-inactive, says-reply, says-changed, says-done, says-error, Written, written-none, written-one, written-append, written-within, written-final, written-to, written-of}
+use Rattle.sound.proofs.Records.{Fine, Says, says-within, says-identification, says-describing, says-pong, says-active, says-inactive, says-reply, says-changed, says-done, says-error, Written, written-none, written-one, written-append, written-within, written-final, written-to, written-of}
 use Rattle.sound.proofs.Lines.{before-feed, received, content-short, ShortWord, parts-words, Asked, asked}
 use Rattle.sound.proofs.Held.{with-client, with-value, line-held, emptied-held, more-active, less-active}
 
@@ -48,6 +47,10 @@ pub record Kept (w : Table) (n : Node) (rs : List Record) : Type 0 where
 abbrev pub Comes : Table → ℕ → Outcome → Type 0
 Comes w c (refused e) = Unit {0}
 Comes w c (carried m ss rs r) = Kept w m (rs ++ (final c r ∷ []))
+
+fit-is : (v : Verdict) → v ≡ fits → isFit v ≡ true
+unfolding isFit severity
+fit-is v e = rw e refl
 
 -- ## Lines, on an accepted table, at a sound node
 
@@ -89,27 +92,6 @@ module _ (w : Table) (a : Accepted w) (n : Node) (s : Sound w n) where
     only : (r : Reply) (k : ℕ) → Says r k → k ≤ 32013 → Comes w c (carried n [] [] r)
     only r k x i = comes n [] [] r 0 k s written-none x (omega arith)
 
-    comes-found : {A : Type 0} (e : Class) (o : Option A) (f : A → Outcome) → ((x : A) → o ≡ some x → Comes w c (f x))
-        → Comes w c (found e o f)
-    unfolding found
-    comes-found e none f g = tt
-    comes-found e (some x) f g = g x refl
-
-    -- a module that is found, and what is found in it
-    comes-placed : {A : Type 0} (m : List ℕ) (e : Class) (p : A → Bool) (l : List A) (f : ℕ × A → Outcome)
-        → ((k : ℕ × A) → getElem? l (k .0) ≡ some (k .1) → Comes w c (f k))
-        → Comes w c (found NoSuchModule (findModule w m) λ x. found e (first p l) f)
-    comes-placed m e p l f i =
-        comes-found NoSuchModule (findModule w m) (λ x. found e (first p l) f) λ x q.
-        comes-found e (first p l) f λ k z. i k (first-at p l k z)
-
-    comes-letIn : (v : Verdict) (o : Outcome) → (isFit v ≡ true → Comes w c o) → Comes w c (letIn v o)
-    unfolding letIn isFit severity
-    comes-letIn fits o g = g refl
-    comes-letIn rangeError o g = tt
-    comes-letIn wrongType o g = tt
-    comes-letIn badJSON o g = tt
-
     pub comes-activates : (wanted : ℕ → Bool) (m : Option (List ℕ)) → Named m → Comes w c (activates w n c t wanted m)
     unfolding activates
     comes-activates wanted m e =
@@ -119,33 +101,34 @@ module _ (w : Table) (a : Accepted w) (n : Node) (s : Sound w n) where
         (with-client w n c _ low (more-active w (n .clients c) wanted (s .clients c)) s)
         (written-of c wanted (n .values) 0 (parameters w) there) (says-active m e) (omega (arith, a .few))
 
-    pub comes-deactivates : (wanted : ℕ → Bool) (m : Option (List ℕ)) → Named m → Comes w c (deactivates w n c t wanted m)
+    comes-deactivates : (wanted : ℕ → Bool) (m : Option (List ℕ)) → Named m → Comes w c (deactivates w n c t wanted m)
     unfolding deactivates
     comes-deactivates wanted m e =
         comes _ [] [] (inactive m) 0 72
         (with-client w n c _ low (less-active w (n .clients c) wanted (s .clients c)) s) written-none (says-inactive m e) (omega arith)
 
-    comes-inScope : (f : (ℕ → Bool) → Option (List ℕ) → Outcome)
-        → ((wanted : ℕ → Bool) (m : Option (List ℕ)) → Named m → Comes w c (f wanted m))
-        → (m : Option (List ℕ)) → Named m → Comes w c (inScope w n c t f m)
-    unfolding inScope
-    comes-inScope f g none e = g (λ i. true) none e
-    comes-inScope f g (some m) e =
-        comes-found NoSuchModule (findModule w m) (λ x. f (λ i. eqb i (x .0)) (some m)) λ x q. g (λ i. eqb i (x .0)) (some m) e
+    -- a reply alone
+    told-short : (q : Request) (f : (ℕ → Value) → Reply) → Tells w t q f → Asked q → Says (f (n .values)) 32013
+    told-short _ _ by-identify q = says-within identification 36 32013 (omega arith) says-identification
+    told-short _ _ by-describe q = says-describing (report w) (a .short)
+    told-short _ _ (by-ping {token}) q = says-within (pong token t) 1057 32013 (omega arith) (says-pong token t (q .0) (q .1) h)
+    told-short _ _ (by-read k e) q =
+        let v = n .values (k .0) in
+        let r = reportOf (k .1) v in
+        says-within (reply r) 415 32013 (omega arith) (says-reply r (fine (k .0) (k .1) e v (s .values (k .0) (k .1) e)))
+
+    comes-tells : (q : Request) (f : (ℕ → Value) → Reply) → Tells w t q f → Asked q → Comes w c (carried n [] [] (f (n .values)))
+    comes-tells q f u i = only (f (n .values)) 32013 (told-short q f u i) (omega arith)
 
     pub comes-reads : (k : ℕ × Placed Parameter) → getElem? (parameters w) (k .0) ≡ some (k .1) → Comes w c (reads w n c t k)
     unfolding reads
-    comes-reads k e =
-        let v = n .values (k .0) in
-        only (reply (reportOf (k .1) v)) 415
-        (says-reply (reportOf (k .1) v) (fine (k .0) (k .1) e v (s .values (k .0) (k .1) e))) (omega arith)
+    comes-reads k e = comes-tells _ _ (by-read k e) tt
 
-    pub comes-changes : (v : List ℕ) (k : ℕ × Placed Parameter) → getElem? (parameters w) (k .0) ≡ some (k .1)
-        → Comes w c (changes w n c t v k)
-    unfolding changes sets body
-    comes-changes v k e =
-        either (Comes w c) (k .1 .it .readonly) (λ q. tt) λ q.
-        comes-letIn (verdict (k .1 .it .datainfo) v) (sets w n c t k (storedForm v)) λ f.
+    comes-sets : (k : ℕ × Placed Parameter) (v : List ℕ) → LetIn w k v → Comes w c (sets w n c t k (storedForm v))
+    unfolding sets body
+    comes-sets k v i =
+        let f = fit-is (verdict (k .1 .it .datainfo) v) (i .fitting) in
+        let e = i .there in
         let x : Value = showing (storedForm v) t in
         let r = reportOf (k .1) x in
         let order = orderChange c (k .0) (storedForm v) in
@@ -162,29 +145,27 @@ module _ (w : Table) (a : Accepted w) (n : Node) (s : Sound w n) where
     argument-short none v e = omega arith
     argument-short (some d) v e = stored-short d v e
 
-    comes-does : (v : List ℕ) (k : ℕ × Placed Command) → getElem? (commands w) (k .0) ≡ some (k .1)
-        → Comes w c (does w n c t v k)
-    unfolding does body bytes
-    comes-does v k e =
+    comes-does : (k : ℕ × Placed Command) (v : List ℕ) → Allowed w k v → Comes w c (ordering n c t k v)
+    unfolding body bytes
+    comes-does k v i =
         let x = argumentForm (k .1 .it .argument) v in
-        let r : Report = record { moduleName = k .1 .moduleName; accessible = k .1 .it .name; value = bytes "null"; time = t } in
-        comes-letIn (argumentVerdict (k .1 .it .argument) v) (carried n [] (orderCommand c (k .0) x ∷ []) (done r)) λ f.
+        let f = fit-is (argumentVerdict (k .1 .it .argument) v) (i .fitting) in
         let told = written-one (orderCommand c (k .0) x) 262 tt (omega (arith, argument-short (k .1 .it .argument) v f)) in
-        let names = each-at GoodCommand (commands w) (a .allCommands) (k .0) (k .1) e in
-        comes n [] (orderCommand c (k .0) x ∷ []) (done r) 262 415 s told
-        (says-done r (record { names = names; small = omega arith; inTime = h })) (omega arith)
+        let names = each-at GoodCommand (commands w) (a .allCommands) (k .0) (k .1) (i .there) in
+        comes n [] (orderCommand c (k .0) x ∷ []) (done (doneOf (k .1) t)) 262 415 s told
+        (says-done (doneOf (k .1) t) (record { names = names; small = omega arith; inTime = h })) (omega arith)
 
-    comes-outcome : (r : Request) → Asked r → Comes w c (outcome w n c t r)
-    unfolding outcome findParameter findCommand
-    comes-outcome identify q = only identification 36 says-identification (omega arith)
-    comes-outcome describe q = only (describing (report w)) 32013 (says-describing (report w) (a .short)) (omega arith)
-    comes-outcome (ping token) q = only (pong token t) 1057 (says-pong token t (q .0) (q .1) h) (omega arith)
-    comes-outcome (activate m) q = comes-inScope (activates w n c t) comes-activates m q
-    comes-outcome (deactivate m) q = comes-inScope (deactivates w n c t) comes-deactivates m q
-    comes-outcome (read m x) q = comes-placed m NoSuchParameter _ (parameters w) (reads w n c t) comes-reads
-    comes-outcome (change m x v) q = comes-placed m NoSuchParameter _ (parameters w) (changes w n c t v) (comes-changes v)
-    comes-outcome (execute m x v) q = comes-placed m NoSuchCommand _ (commands w) (does w n c t v) (comes-does v)
-    comes-outcome malformed q = tt
+    comes-outcome : (q : Request) → Asked q → Comes w c (outcome w n c t q)
+    comes-outcome =
+        outcome-holds (λ q o. Asked q → Comes w c o) w n c t
+        (record {
+          bad = λ q x i. tt;
+          telling = comes-tells;
+          activating = λ m wanted u i. comes-activates wanted m i;
+          deactivating = λ m wanted u i. comes-deactivates wanted m i;
+          setting = λ k v u i. comes-sets k v u;
+          doing = λ k v u i. comes-does k v u;
+        })
 
     concluded : (p : Parts) → ShortWord (p .action) × ShortWord (p .specifier) → (o : Outcome) → Comes w c o
         → Kept w (conclude w n c t p o .0) (conclude w n c t p o .1)

@@ -1,37 +1,19 @@
 -- What fits a datainfo is short, and is stored in stored form. Assumes nothing.
 use Prim.Native.Nat.{ℕ, _≤_}
 use mathlib.Core.Bool.{Bool, true, false, cond, _&&_, false≢true}
-use mathlib.Core.List.{List, [], _∷_}
+use mathlib.Core.List.{List}
 use mathlib.Core.Option.{Option, none, some}
 use mathlib.Core.Path.{_≡_, refl, ap}
 use native.Mathlib.Omega.{arith}
-use lib.Dec.{leb, eqb}
+use lib.Dec.{leb}
 use lib.ListN.{length}
 use borrow.Author.Tests.{leb-true, eqb-true, eq-eqb}
 use Rattle.ascii.specs.Bytes.{same}
+use Rattle.ascii.proofs.Lists.{both, same-self, same-is}
 use Rattle.json.specs.Json.{Json, text, compact}
 use Rattle.json.proofs.ReadBack.{compact-read-back}
 use Rattle.datainfo.specs.Datainfo.{Datainfo}
 use Rattle.fit.specs.Fit.{Verdict, severity, worse, inRange, fit, valueVerdict, verdictOf, verdict, storedOf, storedForm, isFit, isStored}
-use Rattle.sound.proofs.Lists.{both}
-
--- ## The same bytes
-
-same-self : (xs : List ℕ) → same xs xs ≡ true
-unfolding same
-same-self [] = refl
-same-self (x ∷ xs) = rw eq-eqb (same-self xs)
-
-same-true : (xs ys : List ℕ) → same xs ys ≡ true → xs ≡ ys
-unfolding same
-same-true [] [] e = refl
-same-true [] (y ∷ ys) e = absurd (false≢true e)
-same-true (x ∷ xs) [] e = absurd (false≢true e)
-same-true (x ∷ xs) (y ∷ ys) e =
-    let h = both (eqb x y) (same xs ys) e in
-    let p = eqb-true x y (h .0) in
-    let q = same-true xs ys (h .1) in
-    cc
 
 -- ## Verdicts
 
@@ -66,7 +48,7 @@ pub short-stored : (d : Datainfo) (xs : List ℕ) → isStored d xs ≡ true →
 unfolding isStored
 short-stored d xs e =
     let h = both (isFit (verdict d xs)) (same (storedForm xs) xs) e in
-    omega (arith, stored-short d xs (h .0), ap length (same-true (storedForm xs) xs (h .1)))
+    omega (arith, stored-short d xs (h .0), ap length (same-is (storedForm xs) xs (h .1)))
 
 -- what fits is stored in a form that is in stored form
 pub stored : (d : Datainfo) (xs : List ℕ) → isFit (verdict d xs) ≡ true → isStored d (storedForm xs) ≡ true

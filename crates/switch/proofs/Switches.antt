@@ -13,10 +13,10 @@ use Rattle.ascii.specs.Writer.{Puts}
 use Rattle.table.specs.Table.{Parameter, Module, Table}
 use Rattle.table.specs.Layout.{tableOf}
 use Rattle.table.specs.Search.{Placed, parameters, findModule}
+use Rattle.table.proofs.Search.{module-there, module-named}
 use Rattle.report.specs.Judge.{tableNumber}
 use Rattle.search.specs.Found.{FindsModule}
 use Rattle.search.specs.declared.find.FoundModule as F
-use Rattle.search.proofs.Finds.{module-there, module-named}
 use Rattle.message.specs.Error.{NoSuchModule}
 use Rattle.message.specs.Request.{activate, deactivate}
 use Rattle.message.specs.Reply.{Reply, active, inactive}

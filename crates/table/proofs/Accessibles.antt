@@ -12,8 +12,8 @@ use Rattle.ascii.specs.Text.{bytes}
 use Rattle.ascii.specs.Bytes.{_>>=_, after, part}
 use Rattle.ascii.specs.Numbers.{unsigned}
 use Rattle.ascii.specs.Reader.{Ends, rest}
+use Rattle.ascii.proofs.Follows.{rest-map}
 use Rattle.datainfo.specs.Layout.{counted, datainfoIn, datainfoAt}
-use Rattle.json.proofs.Rest.{rest-map}
 use Rattle.table.specs.Table as Table
 use Rattle.table.specs.Layout.{begins, flag, argumentAt, parameterAt, commandAt}
 use Rattle.table.specs.declared.layout.Part.{Part}

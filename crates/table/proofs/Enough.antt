@@ -5,12 +5,13 @@ use native.Mathlib.Omega.{arith}
 use mathlib.Core.Path.{_≡_, refl, sym, _∙_}
 use mathlib.Core.Bool.{Bool, true, false, cond, false≢true}
 use mathlib.Core.List.{List, [], _∷_}
-use mathlib.Core.Option.{Option, none, some}
+use mathlib.Core.Option.{Option, some}
 use lib.ListN.{length, drop, length-drop}
 use lib.Dec.{eqb}
 use Rattle.ascii.specs.Text.{bytes}
 use Rattle.ascii.specs.Bytes.{_>>=_, after}
 use Rattle.ascii.specs.Reader.{rest}
+use Rattle.ascii.proofs.Follows.{then-same}
 use Rattle.table.specs.Layout.{begins, parameterAt, commandAt, accessiblesAt, moduleAt, modulesAt}
 use Rattle.table.specs.At.{textsAt, accessibleBegins, accessibleAt, accessiblesFrom, headingAt, modulesFrom}
 use Rattle.table.proofs.Leaves.{Within, failed, left, Rest, Ending, w-cond, w-then, r-then, r-cond, r-after, w-counted, w-flag, w-datainfo, w-unsigned, w-part, w-argument, w-note}
@@ -48,10 +49,6 @@ module _ {n : ℕ} where
   w-accessible k xs h = w-cond (begins (bytes "PA") xs) (w-parameter k h) (w-command h)
 
 -- ## As many records as follow
-
-then-same : {A B : Type 0} (o : Option A) (f g : A → Option B) → ((a : A) → o ≡ some a → f a ≡ g a) → (o >>= f) ≡ (o >>= g)
-then-same none f g h = refl
-then-same (some a) f g h = h a refl
 
 nil : {xs : List ℕ} → Short 0 xs → xs ≡ []
 nil {xs = []} h = refl

@@ -8,3 +8,4 @@ pub mod Named
 pub mod Heads
 pub mod Whole
 pub mod Places
+pub mod Search

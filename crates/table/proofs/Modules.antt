@@ -13,7 +13,7 @@ use Rattle.ascii.specs.declared.Next.the-variants.{At, Bad}
 use Rattle.ascii.specs.Text.{bytes}
 use Rattle.ascii.specs.Bytes.{_>>=_, isSome, after}
 use Rattle.ascii.specs.Reader.{Ends, rest}
-use Rattle.json.proofs.Rest.{rest-map}
+use Rattle.ascii.proofs.Follows.{rest-map}
 use Rattle.table.specs.Table as Table
 use Rattle.table.specs.Layout.{begins, accessiblesAt, noteAt, moduleAt, modulesAt, headAt, wholeTable, readTable}
 use Rattle.table.specs.declared.layout.Part.{Part}

@@ -1,15 +1,32 @@
--- Lists laid end to end, and how they are parted again at the first byte that fails a test. Assumes nothing.
+-- What it says that tests pass: two tests, the test of two lists for being the same, and a test of every element of a list; and how lists laid end
+-- to end are parted again at the first element that fails. Assumes nothing.
 use Prim.Native.Nat.{ℕ}
-use mathlib.Core.Bool.{Bool, true, false, not, _&&_, true≢false, and-eq-true-iff}
+use mathlib.Core.Bool.{Bool, true, false, not, _&&_, true≢false, false≢true, and-assoc, and-eq-true-iff}
 use mathlib.Core.List.{List, [], _∷_, _++_}
 use mathlib.Core.Path.{_≡_, refl, sym, _∙_, ap, ap₂}
 use lib.Dec.{eqb}
 use borrow.Author.Tests.{eqb-true, eq-eqb}
-use Rattle.ascii.specs.Bytes.{all, takeWhile, dropWhile, head, tail}
+use Rattle.ascii.specs.Bytes.{all, takeWhile, dropWhile, head, tail, same}
 
 -- both of two tests
 pub both : (a b : Bool) → a && b ≡ true → (a ≡ true) × (b ≡ true)
 both a b = and-eq-true-iff a b .0
+
+-- ## The same bytes
+
+pub same-self : (xs : List ℕ) → same xs xs ≡ true
+unfolding same
+same-self [] = refl
+same-self (x ∷ xs) = rw eq-eqb (same-self xs)
+
+pub same-is : (xs ys : List ℕ) → same xs ys ≡ true → xs ≡ ys
+unfolding same
+same-is [] [] e = refl
+same-is [] (y ∷ ys) e = absurd (false≢true e)
+same-is (x ∷ xs) [] e = absurd (false≢true e)
+same-is (x ∷ xs) (y ∷ ys) e =
+    let h = both (eqb x y) (same xs ys) e in
+    ap₂ _∷_ (eqb-true x y (h .0)) (same-is xs ys (h .1))
 
 -- ## Lists of which every element passes a test
 
@@ -26,9 +43,14 @@ module _ {A : Type 0} (p : A → Bool) where
   unfolding all
   all-one x h = all-cons x [] h refl
 
+  -- of lists laid end to end
+  pub all-joined : (a b : List A) → all p (a ++ b) ≡ (all p a && all p b)
+  unfolding all
+  all-joined [] b = refl
+  all-joined (x ∷ a) b = ap (p x &&_) (all-joined a b) ∙ sym (and-assoc (p x) (all p a) (all p b))
+
   pub all-append : (a b : List A) → all p a ≡ true → all p b ≡ true → all p (a ++ b) ≡ true
-  all-append [] b h k = k
-  all-append (x ∷ a) b h k = let l = all-parts x a h in all-cons x (a ++ b) (l .0) (all-append a b (l .1) k)
+  all-append a b h k = all-joined a b ∙ ap₂ _&&_ h k
 
   -- ## Parting at the first element that fails
 
@@ -53,7 +75,7 @@ module _ {A : Type 0} (p : A → Bool) where
   dropped-at (y ∷ a) x b h f = let l = all-parts y a h in rw (l .0) (dropped-at a x b (l .1) f)
 
 -- a test that passes wherever another does
-pub all-weaker : (p q : ℕ → Bool) → ((b : ℕ) → p b ≡ true → q b ≡ true) → (xs : List ℕ) → all p xs ≡ true → all q xs ≡ true
+pub all-weaker : {A : Type 0} (p q : A → Bool) → ((x : A) → p x ≡ true → q x ≡ true) → (xs : List A) → all p xs ≡ true → all q xs ≡ true
 unfolding all
 all-weaker p q w [] h = refl
 all-weaker p q w (x ∷ xs) h = let l = all-parts p x xs h in all-cons q x xs (w x (l .0)) (all-weaker p q w xs (l .1))

@@ -1,0 +1,166 @@
+-- What a request comes to, by the kinds of outcome that there are: an error, a reply alone, a change of what the sender has active, a setting of a
+-- parameter, an order of a command. What holds of each kind holds of every request; so, too, of what one request comes to at two nodes.
+-- Assumes nothing.
+use Prim.Native.Nat.{ℕ}
+use mathlib.Core.Bool.{Bool, true, false, cond}
+use mathlib.Core.List.{List, [], _∷_, _++_}
+use mathlib.Core.Option.{Option, none, some}
+use mathlib.Core.Path.{_≡_, refl, ap₂, subst}
+use lib.Dec.{eqb}
+use lib.ListN.{getElem?}
+use Rattle.ascii.specs.Text.{bytes}
+use Rattle.fit.specs.Fit.{Verdict, fits, rangeError, wrongType, badJSON, verdict, storedForm}
+use Rattle.table.specs.Table.{Parameter, Command, Module, Table}
+use Rattle.table.specs.Search.{Placed, parameters, commands, findModule, findParameter, findCommand}
+use Rattle.table.proofs.Search.{parameter-there, parameter-named, command-there, command-named}
+use Rattle.report.specs.Report.{report}
+use Rattle.message.specs.Line.{Parts}
+use Rattle.message.specs.Request.{Request, identify, describe, ping, activate, deactivate, read, change, execute, malformed}
+use Rattle.message.specs.Error.{Class, ProtocolError, NoSuchModule, NoSuchParameter, NoSuchCommand, ReadOnly, BadJSON, WrongType, RangeError}
+use Rattle.message.specs.Reply.{Report, Reply, identification, describing, pong, reply, done, error}
+use Rattle.outbox.specs.Outbox.{Record, final, orderCommand}
+use Rattle.plain.specs.Node.{Value, Node, reportOf}
+use Rattle.plain.specs.Answer.{Outcome, refused, carried, found, letIn, argumentVerdict, argumentForm, activates, deactivates, inScope, reads, sets, changes, does, outcome, conclude}
+
+-- ## What an outcome leaves and sends
+
+abbrev pub nodeAfter : Node → Outcome → Node
+nodeAfter n (refused x) = n
+nodeAfter n (carried m ss rs r) = m
+
+-- the records before the reply
+abbrev pub before : Outcome → List Record
+before (refused x) = []
+before (carried m ss rs r) = rs
+
+abbrev pub replyTo : Parts → Outcome → Reply
+replyTo p (refused x) = error (p .action) (p .specifier) x
+replyTo p (carried m ss rs r) = r
+
+pub concluded : (w : Table) (n : Node) (c now : ℕ) (p : Parts) (o : Outcome)
+    → conclude w n c now p o ≡ (nodeAfter n o, before o ++ (final c (replyTo p o) ∷ []))
+unfolding conclude
+concluded w n c now p (refused x) = refl
+concluded w n c now p (carried m ss rs r) = refl
+
+-- ## Kinds of outcome
+
+-- requests that are answered by a reply alone, with the reply, by the values that are held
+pub data Tells (w : Table) (now : ℕ) : Request → ((ℕ → Value) → Reply) → Type 0 where
+  by-identify : Tells w now identify (λ v. identification)
+  by-describe : Tells w now describe (λ v. describing (report w))
+  by-ping : {token : List ℕ} → Tells w now (ping token) (λ v. pong token now)
+  by-read : (k : ℕ × Placed Parameter) → getElem? (parameters w) (k .0) ≡ some (k .1)
+      → Tells w now (read (k .1 .moduleName) (k .1 .it .name)) (λ v. reply (reportOf (k .1) (v (k .0))))
+
+-- the modules that an activation is about: all, or the one that is named
+pub data Scope (w : Table) : Option (List ℕ) → (ℕ → Bool) → Type 0 where
+  of-all : Scope w none (λ i. true)
+  of-one : {m : List ℕ} (x : ℕ × Module) → findModule w m ≡ some x → Scope w (some m) (λ i. eqb i (x .0))
+
+-- a change that is let in: of parameter k, to the text v
+pub record LetIn (w : Table) (k : ℕ × Placed Parameter) (v : List ℕ) : Type 0 where
+  pub there : getElem? (parameters w) (k .0) ≡ some (k .1)
+  pub writable : k .1 .it .readonly ≡ false
+  pub fitting : verdict (k .1 .it .datainfo) v ≡ fits
+
+-- a command that is let in, with the argument v
+pub record Allowed (w : Table) (k : ℕ × Placed Command) (v : List ℕ) : Type 0 where
+  pub there : getElem? (commands w) (k .0) ≡ some (k .1)
+  pub fitting : argumentVerdict (k .1 .it .argument) v ≡ fits
+
+abbrev pub doneOf : Placed Command → ℕ → Report
+doneOf p now = record { moduleName = p .moduleName; accessible = p .it .name; value = bytes "null"; time = now }
+
+abbrev pub ordering : Node → ℕ → ℕ → ℕ × Placed Command → List ℕ → Outcome
+ordering n c now k v = carried n [] (orderCommand c (k .0) (argumentForm (k .1 .it .argument) v) ∷ []) (done (doneOf (k .1) now))
+
+-- What is claimed of a request of client c and what it comes to at the nodes m and n, for each kind of outcome.
+pub record Kinds (w : Table) (m n : Node) (c now : ℕ) (Q : Request → Outcome → Outcome → Type 0) : Type 0 where
+  pub bad : (q : Request) (x : Class) → Q q (refused x) (refused x)
+  pub telling : (q : Request) (f : (ℕ → Value) → Reply) → Tells w now q f
+      → Q q (carried m [] [] (f (m .values))) (carried n [] [] (f (n .values)))
+  pub activating : (s : Option (List ℕ)) (wanted : ℕ → Bool) → Scope w s wanted
+      → Q (activate s) (activates w m c now wanted s) (activates w n c now wanted s)
+  pub deactivating : (s : Option (List ℕ)) (wanted : ℕ → Bool) → Scope w s wanted
+      → Q (deactivate s) (deactivates w m c now wanted s) (deactivates w n c now wanted s)
+  pub setting : (k : ℕ × Placed Parameter) (v : List ℕ) → LetIn w k v
+      → Q (change (k .1 .moduleName) (k .1 .it .name) v) (sets w m c now k (storedForm v)) (sets w n c now k (storedForm v))
+  pub doing : (k : ℕ × Placed Command) (v : List ℕ) → Allowed w k v
+      → Q (execute (k .1 .moduleName) (k .1 .it .name) v) (ordering m c now k v) (ordering n c now k v)
+
+-- ## Every request
+
+module _ (w : Table) (m n : Node) (c now : ℕ) (Q : Request → Outcome → Outcome → Type 0) (h : Kinds w m n c now Q) where
+  found-hold : {A : Type 0} (q : Request) (x : Class) (o : Option A) (f g : A → Outcome) → ((a : A) → o ≡ some a → Q q (f a) (g a))
+      → Q q (found x o f) (found x o g)
+  unfolding found
+  found-hold q x none f g i = h .bad q x
+  found-hold q x (some a) f g i = i a refl
+
+  let-in-hold : (q : Request) (v : Verdict) (o p : Outcome) → (v ≡ fits → Q q o p) → Q q (letIn v o) (letIn v p)
+  unfolding letIn
+  let-in-hold q fits o p i = i refl
+  let-in-hold q rangeError o p i = h .bad q RangeError
+  let-in-hold q wrongType o p i = h .bad q WrongType
+  let-in-hold q badJSON o p i = h .bad q BadJSON
+
+  writable-hold : (q : Request) (b : Bool) (o p : Outcome) → (b ≡ false → Q q o p) → Q q (cond b (refused ReadOnly) o) (cond b (refused ReadOnly) p)
+  writable-hold q true o p i = h .bad q ReadOnly
+  writable-hold q false o p i = i refl
+
+  scope-hold : (r : Option (List ℕ) → Request) (f g : (ℕ → Bool) → Option (List ℕ) → Outcome)
+      → ((s : Option (List ℕ)) (wanted : ℕ → Bool) → Scope w s wanted → Q (r s) (f wanted s) (g wanted s))
+      → (s : Option (List ℕ)) → Q (r s) (inScope w m c now f s) (inScope w n c now g s)
+  unfolding inScope
+  scope-hold r f g i none = i none _ of-all
+  scope-hold r f g i (some s) = found-hold (r (some s)) NoSuchModule (findModule w s) _ _ (λ x e. i (some s) _ (of-one x e))
+
+  -- what is found by the names of its module and its own
+  named-hold : {A : Type 0} (name : A → List ℕ) (r : List ℕ → List ℕ → Request) (s a : List ℕ) (x : Class) (o : Option (ℕ × Placed A))
+      (f g : ℕ × Placed A → Outcome)
+      → ((k : ℕ × Placed A) → o ≡ some k → (k .1 .moduleName ≡ s) × (name (k .1 .it) ≡ a))
+      → ((k : ℕ × Placed A) → o ≡ some k → Q (r (k .1 .moduleName) (name (k .1 .it))) (f k) (g k))
+      → Q (r s a) (found NoSuchModule (findModule w s) λ y. found x o f) (found NoSuchModule (findModule w s) λ y. found x o g)
+  named-hold name r s a x o f g is i =
+      found-hold (r s a) NoSuchModule (findModule w s) _ _ (λ y e.
+      found-hold (r s a) x o f g (λ k e. subst (λ q. Q q (f k) (g k)) (ap₂ r (is k e .0) (is k e .1)) (i k e)))
+
+  change-hold : (v : List ℕ) (k : ℕ × Placed Parameter) → getElem? (parameters w) (k .0) ≡ some (k .1)
+      → Q (change (k .1 .moduleName) (k .1 .it .name) v) (changes w m c now v k) (changes w n c now v k)
+  unfolding changes
+  change-hold v k t =
+      let q : Request = change (k .1 .moduleName) (k .1 .it .name) v in
+      writable-hold q (k .1 .it .readonly) _ _ (λ o.
+      let-in-hold q (verdict (k .1 .it .datainfo) v) _ _ (λ f. h .setting k v (record { there = t; writable = o; fitting = f })))
+
+  do-hold : (v : List ℕ) (k : ℕ × Placed Command) → getElem? (commands w) (k .0) ≡ some (k .1)
+      → Q (execute (k .1 .moduleName) (k .1 .it .name) v) (does w m c now v k) (does w n c now v k)
+  unfolding does
+  do-hold v k t =
+      let-in-hold (execute (k .1 .moduleName) (k .1 .it .name) v) (argumentVerdict (k .1 .it .argument) v) _ _
+      (λ f. h .doing k v (record { there = t; fitting = f }))
+
+  -- What holds of each kind holds of what a request comes to at both nodes.
+  pub outcomes-hold : (q : Request) → Q q (outcome w m c now q) (outcome w n c now q)
+  unfolding outcome reads
+  outcomes-hold identify = h .telling identify _ by-identify
+  outcomes-hold describe = h .telling describe _ by-describe
+  outcomes-hold (ping token) = h .telling (ping token) _ by-ping
+  outcomes-hold (activate s) = scope-hold activate (activates w m c now) (activates w n c now) (h .activating) s
+  outcomes-hold (deactivate s) = scope-hold deactivate (deactivates w m c now) (deactivates w n c now) (h .deactivating) s
+  outcomes-hold (read s a) =
+      named-hold (λ (x : Parameter). x .name) read s a NoSuchParameter (findParameter w s a) _ _ (parameter-named w s a)
+      (λ k e. h .telling _ _ (by-read k (parameter-there w s a k e)))
+  outcomes-hold (change s a v) =
+      named-hold (λ (x : Parameter). x .name) (λ x y. change x y v) s a NoSuchParameter (findParameter w s a) _ _ (parameter-named w s a)
+      (λ k e. change-hold v k (parameter-there w s a k e))
+  outcomes-hold (execute s a v) =
+      named-hold (λ (x : Command). x .name) (λ x y. execute x y v) s a NoSuchCommand (findCommand w s a) _ _ (command-named w s a)
+      (λ k e. do-hold v k (command-there w s a k e))
+  outcomes-hold malformed = h .bad malformed ProtocolError
+
+-- The same at one node.
+pub outcome-holds : (P : Request → Outcome → Type 0) (w : Table) (n : Node) (c now : ℕ) → Kinds w n n c now (λ q o p. P q o)
+    → (q : Request) → P q (outcome w n c now q)
+outcome-holds P w n c now h q = outcomes-hold w n n c now (λ q o p. P q o) h q
