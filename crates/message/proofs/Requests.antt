@@ -14,7 +14,7 @@ use Rattle.ascii.specs.Bytes.{same}
 use Rattle.ascii.specs.Names.{isName}
 use Rattle.message.specs.Line.{Parts, beforeSpace, afterSpace, partsOf, content, whole}
 use Rattle.message.specs.Request as R
-use Rattle.message.specs.Request.{modulePart, accessiblePart, scoped, named, request}
+use Rattle.message.specs.Request.{modulePart, accessiblePart, scoped, named, orNull, request}
 use Rattle.message.specs.Parsed.{part, Within, Ends, before, fromStop, after, Cuts, Parted, actionOf, meaning, AsksScoped, AsksNamed, Asks, parts, switchRequest, verbRequest}
 use Rattle.message.specs.declared.line.Part.{Part}
 use Rattle.message.specs.declared.line.Cut.{Cut}
@@ -103,7 +103,7 @@ asked Identify p = R.identify
 asked Describe p = R.describe
 asked Ping p = R.ping (p .specifier)
 asked (Scoped w) p = scoped (switchRequest w) (p .specifier)
-asked (Named v) p = named (verbRequest v (p .payload)) (p .specifier)
+asked (Named v) p = named (verbRequest v (orNull (p .payload))) (p .specifier)
 asked Unknown p = R.malformed
 
 asked-cond : (b : Bool) (x y : Action) (p : Parts) → asked (cond b x y) p ≡ cond b (asked x p) (asked y p)
@@ -162,11 +162,8 @@ module _ (xs : List ℕ) (p : Part) (w : Within xs p) where
         let z : length (part xs p) ≡ 0 = part-length ∙ (omega arith) in
         rw (eq-eqb _ _ z)
 
-    pub all-on : p .from ≡ p .to → v ≡ On → AsksScoped xs p v Q.ActivateAll
-    all-on e h = record { is = λ x. sym (all-modules e ∙ rw h); inside = tt; begin = tt }
-
-    pub all-off : p .from ≡ p .to → v ≡ Off → AsksScoped xs p v Q.DeactivateAll
-    all-off e h = record { is = λ x. sym (all-modules e ∙ rw h); inside = tt; begin = tt }
+    pub asks-all : p .from ≡ p .to → AsksScoped xs p v (Q.All v)
+    asks-all e = record { is = λ x. sym (all-modules e); inside = tt; begin = tt }
 
     module _ (n : p .from ≡ p .to → ⊥) (r : Cut) (k : Cuts xs p 58 r) {t : Bool} (d : t ≡ isName (part xs (r .first))) where
       one-module : scoped (switchRequest v) (part xs p) ≡ cond t (switchRequest v (some (part xs (r .first)))) R.malformed
@@ -179,18 +176,15 @@ module _ (xs : List ℕ) (p : Part) (w : Within xs p) where
       pub bad-module : t ≡ false → AsksScoped xs p v Q.Malformed
       bad-module h = record { is = λ x. sym (one-module ∙ rw h); inside = tt; begin = tt }
 
-      pub module-on : t ≡ true → v ≡ On → AsksScoped xs p v (Q.Activate (r .first))
-      module-on h g = record { is = λ x. sym (one-module ∙ rw (h, g)); inside = k .first-in; begin = k .first-at }
-
-      pub module-off : t ≡ true → v ≡ Off → AsksScoped xs p v (Q.Deactivate (r .first))
-      module-off h g = record { is = λ x. sym (one-module ∙ rw (h, g)); inside = k .first-in; begin = k .first-at }
+      pub asks-module : t ≡ true → AsksScoped xs p v (Q.Scoped v (r .first))
+      asks-module h = record { is = λ x. sym (one-module ∙ rw h); inside = k .first-in; begin = k .first-at }
 
 -- ## Accessibles
 
 module _ (xs : List ℕ) (p : Part) (v : Verb) (r : Cut) (k : Cuts xs p 58 r) {t : Bool} (d : t ≡ isName (part xs (r .first))) where
   both : (x : List ℕ)
-      → named (verbRequest v x) (part xs p)
-      ≡ cond (isName (part xs (r .first)) && isName (part xs (r .second))) (verbRequest v x (part xs (r .first)) (part xs (r .second))) R.malformed
+      → named (verbRequest v (orNull x)) (part xs p)
+      ≡ cond (isName (part xs (r .first)) && isName (part xs (r .second))) (verbRequest v (orNull x) (part xs (r .first)) (part xs (r .second))) R.malformed
   unfolding named modulePart accessiblePart before after fromStop
   both x = rw (← (k .first), ← (k .second))
 
@@ -201,17 +195,13 @@ module _ (xs : List ℕ) (p : Part) (v : Verb) (r : Cut) (k : Cuts xs p 58 r) {t
     pub second-bad : u ≡ false → AsksNamed xs p v Q.Malformed
     second-bad g = record { is = λ x. sym (both x ∙ rw (sym d ∙ h, sym f ∙ g)); inside = tt; begin = tt }
 
-    good : u ≡ true → (x : List ℕ) → named (verbRequest v x) (part xs p) ≡ verbRequest v x (part xs (r .first)) (part xs (r .second))
-    good g x = both x ∙ rw (sym d ∙ h, sym f ∙ g)
-
-    pub good-read : u ≡ true → v ≡ Verb.Read → AsksNamed xs p v (Q.Read (r .first) (r .second))
-    good-read g q = record { is = λ x. sym (good g x ∙ rw q); inside = (k .first-in, k .second-in); begin = record { module-at = k .first-at; accessible-at = k .second-at } }
-
-    pub good-change : u ≡ true → v ≡ Verb.Change → AsksNamed xs p v (Q.Change (r .first) (r .second))
-    good-change g q = record { is = λ x. sym (good g x ∙ rw q); inside = (k .first-in, k .second-in); begin = record { module-at = k .first-at; accessible-at = k .second-at } }
-
-    pub good-execute : u ≡ true → v ≡ Verb.Execute → AsksNamed xs p v (Q.Execute (r .first) (r .second))
-    good-execute g q = record { is = λ x. sym (good g x ∙ rw q); inside = (k .first-in, k .second-in); begin = record { module-at = k .first-at; accessible-at = k .second-at } }
+    pub asks-accessible : u ≡ true → AsksNamed xs p v (Q.Named v (r .first) (r .second))
+    asks-accessible g =
+        record {
+          is = λ x. sym (both x ∙ rw (sym d ∙ h, sym f ∙ g));
+          inside = (k .first-in, k .second-in);
+          begin = record { module-at = k .first-at; accessible-at = k .second-at };
+        }
 
 -- ## A whole line
 

@@ -108,18 +108,24 @@ actionOf xs =
     (cond (same xs (bytes "do")) (Named Verb.Execute)
     Unknown)))))))
 
+-- the requests on modules, and on accessibles with the data x
+abbrev pub switchRequest : Switch → Option (List ℕ) → R.Request
+switchRequest On = R.activate
+switchRequest Off = R.deactivate
+
+abbrev pub verbRequest : Verb → List ℕ → List ℕ → List ℕ → R.Request
+verbRequest Verb.Read x m a = R.read m a
+verbRequest Verb.Change x m a = R.change m a x
+verbRequest Verb.Execute x m a = R.execute m a x
+
 -- what the code's answer stands for, on a line xs with the specifier s and the data x
 abbrev pub meaning : List ℕ → List ℕ → List ℕ → Request → R.Request
 meaning xs s x Q.Identify = R.identify
 meaning xs s x Q.Describe = R.describe
 meaning xs s x Q.Ping = R.ping s
-meaning xs s x Q.ActivateAll = R.activate none
-meaning xs s x (Q.Activate m) = R.activate (some (part xs m))
-meaning xs s x Q.DeactivateAll = R.deactivate none
-meaning xs s x (Q.Deactivate m) = R.deactivate (some (part xs m))
-meaning xs s x (Q.Read m a) = R.read (part xs m) (part xs a)
-meaning xs s x (Q.Change m a) = R.change (part xs m) (part xs a) (orNull x)
-meaning xs s x (Q.Execute m a) = R.execute (part xs m) (part xs a) (orNull x)
+meaning xs s x (Q.All v) = switchRequest v none
+meaning xs s x (Q.Scoped v m) = switchRequest v (some (part xs m))
+meaning xs s x (Q.Named v m a) = verbRequest v (orNull x) (part xs m) (part xs a)
 meaning xs s x Q.Malformed = R.malformed
 
 -- the names of a request stand within the line
@@ -127,13 +133,9 @@ abbrev pub Inside : List ℕ → Request → Type 0
 Inside xs Q.Identify = Unit
 Inside xs Q.Describe = Unit
 Inside xs Q.Ping = Unit
-Inside xs Q.ActivateAll = Unit
-Inside xs (Q.Activate m) = Within xs m
-Inside xs Q.DeactivateAll = Unit
-Inside xs (Q.Deactivate m) = Within xs m
-Inside xs (Q.Read m a) = (Within xs m) × (Within xs a)
-Inside xs (Q.Change m a) = (Within xs m) × (Within xs a)
-Inside xs (Q.Execute m a) = (Within xs m) × (Within xs a)
+Inside xs (Q.All v) = Unit
+Inside xs (Q.Scoped v m) = Within xs m
+Inside xs (Q.Named v m a) = (Within xs m) × (Within xs a)
 Inside xs Q.Malformed = Unit
 
 -- the module's name begins with the specifier s, the accessible's after its first `:` (58): what begins there ends with the specifier
@@ -146,28 +148,14 @@ abbrev pub Begin : List ℕ → Part → Request → Type 0
 Begin xs s Q.Identify = Unit
 Begin xs s Q.Describe = Unit
 Begin xs s Q.Ping = Unit
-Begin xs s Q.ActivateAll = Unit
-Begin xs s (Q.Activate m) = m .from ≡ s .from
-Begin xs s Q.DeactivateAll = Unit
-Begin xs s (Q.Deactivate m) = m .from ≡ s .from
-Begin xs s (Q.Read m a) = NamedIn xs s m a
-Begin xs s (Q.Change m a) = NamedIn xs s m a
-Begin xs s (Q.Execute m a) = NamedIn xs s m a
+Begin xs s (Q.All v) = Unit
+Begin xs s (Q.Scoped v m) = m .from ≡ s .from
+Begin xs s (Q.Named v m a) = NamedIn xs s m a
 Begin xs s Q.Malformed = Unit
 
 -- a line's parts, with the data x
 abbrev pub parts : List ℕ → Part → Part → List ℕ → Parts
 parts xs a s x = record { action = part xs a; specifier = part xs s; payload = x }
-
--- the requests on modules, and on accessibles with the data x
-abbrev pub switchRequest : Switch → Option (List ℕ) → R.Request
-switchRequest On = R.activate
-switchRequest Off = R.deactivate
-
-abbrev pub verbRequest : Verb → List ℕ → List ℕ → List ℕ → R.Request
-verbRequest Verb.Read x m a = R.read m a
-verbRequest Verb.Change x m a = R.change m a (orNull x)
-verbRequest Verb.Execute x m a = R.execute m a (orNull x)
 
 -- the answer r, on a line xs, stands for what a specifier asks of modules, whatever the data is
 pub record AsksScoped (xs : List ℕ) (specifier : Part) (v : Switch) (r : Request) : Type 0 where
@@ -177,7 +165,7 @@ pub record AsksScoped (xs : List ℕ) (specifier : Part) (v : Switch) (r : Reque
 
 -- the same of accessibles
 pub record AsksNamed (xs : List ℕ) (specifier : Part) (v : Verb) (r : Request) : Type 0 where
-  pub is : (x : List ℕ) → meaning xs (part xs specifier) x r ≡ named (verbRequest v x) (part xs specifier)
+  pub is : (x : List ℕ) → meaning xs (part xs specifier) x r ≡ named (verbRequest v (orNull x)) (part xs specifier)
   pub inside : Inside xs r
   pub begin : Begin xs specifier r
 

@@ -35,13 +35,13 @@ pub enum Parsed {
 }
 
 // Whether modules are switched on or off.
-enum Switch {
+pub enum Switch {
     On,
     Off,
 }
 
 // What is done with an accessible.
-enum Verb {
+pub enum Verb {
     Read,
     Change,
     Execute,
@@ -57,18 +57,14 @@ enum Action {
     Unknown,
 }
 
-// What a line asks for, with the parts of the line that hold the module's and the accessible's name.
+// What a line asks for, of all modules, of one or of an accessible, with the parts of the line that hold the module's and the accessible's name.
 pub enum Request {
     Identify,
     Describe,
     Ping,
-    ActivateAll,
-    Activate(Part),
-    DeactivateAll,
-    Deactivate(Part),
-    Read(Part, Part),
-    Change(Part, Part),
-    Execute(Part, Part),
+    All(Switch),
+    Scoped(Switch, Part),
+    Named(Verb, Part, Part),
     Malformed,
 }
 
@@ -209,20 +205,14 @@ fn scoped_request(line: &[u8], specifier: Part, switch: Switch) -> Request
 {
     let from = specifier.from;
     if from == specifier.to {
-        return match switch {
-            Switch::On => Request::ActivateAll,
-            Switch::Off => Request::DeactivateAll,
-        };
+        return Request::All(switch);
     }
     let cut = cut_at(line, specifier, b':');
     let name = cut.first;
     if !is_name_part(line, name) {
         return Request::Malformed;
     }
-    match switch {
-        Switch::On => Request::Activate(name),
-        Switch::Off => Request::Deactivate(name),
-    }
+    Request::Scoped(switch, name)
 }
 
 // An accessible, by its module's name before the first `:` and its own up to the second or to the end.
@@ -239,11 +229,7 @@ fn named_request(line: &[u8], specifier: Part, verb: Verb) -> Request
     if !is_name_part(line, accessible) {
         return Request::Malformed;
     }
-    match verb {
-        Verb::Read => Request::Read(module, accessible),
-        Verb::Change => Request::Change(module, accessible),
-        Verb::Execute => Request::Execute(module, accessible),
-    }
+    Request::Named(verb, module, accessible)
 }
 
 // What a line asks for, by its action and specifier.

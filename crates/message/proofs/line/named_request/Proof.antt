@@ -1,6 +1,6 @@
 -- `message::line::named_request` meets its contract. Assumes nothing.
 use borrow.Author.Tests.{not-true, not-false}
-use Rattle.message.proofs.Requests.{first-bad, second-bad, good-read, good-change, good-execute}
+use Rattle.message.proofs.Requests.{first-bad, second-bad, asks-accessible}
 use borrow.Author.Needs.{needs}
 use Rattle.message.proofs.line.named_request.Statement.{statement}
 use Rattle.message.proofs.line.named_request.Tie as tie
@@ -20,23 +20,8 @@ is-name-part-requires-2 c κs = search needs
 returns-2 : tie.Need-returns-2
 returns-2 c = search (second-bad, not-true, not-false)
 
-enum-told : tie.Need-enum-told
-enum-told c = search needs
-
-enum-told-2 : tie.Need-enum-told-2
-enum-told-2 c = search needs
-
-enum-told-3 : tie.Need-enum-told-3
-enum-told-3 c = search needs
-
 returns-3 : tie.Need-returns-3
-returns-3 c = search (good-read, not-false)
-
-returns-4 : tie.Need-returns-4
-returns-4 c = search (good-change, not-false)
-
-returns-5 : tie.Need-returns-5
-returns-5 c = search (good-execute, not-false)
+returns-3 c = search (asks-accessible, not-false)
 
 pub named-request-spec : {M : Type 1} → statement M
 named-request-spec =
@@ -47,9 +32,4 @@ named-request-spec =
     returns
     is-name-part-requires-2
     returns-2
-    enum-told
-    enum-told-2
-    enum-told-3
-    returns-3
-    returns-4
-    returns-5)
+    returns-3)
