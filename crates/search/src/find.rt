@@ -4,7 +4,7 @@ use crate::cursor::NextParameter;
 use crate::cursor::first_cursor;
 use crate::cursor::next_command;
 use crate::cursor::next_parameter;
-use ascii::names::same;
+use ascii::names::compare;
 use table::judge::Kind;
 use table::judge::Named;
 use table::judge::count;
@@ -45,13 +45,15 @@ pub enum FoundCommand {
     Nothing,
 }
 
+// Whether a part of s is a name. Every search of a module or an accessible compares names here, by the one comparison.
 fn part_is(s: &[u8], p: Part, name: &[u8]) -> bool
     requires { ⌜ Inside (now s) p ⌝ }
     ensures { λ r. ⌜ r ≡ same (now (name .entry)) (bytesOf (now (s .entry)) p) ⌝ }
 {
     let from = p.from;
     let to = p.to;
-    same(name, &s[from..to])
+    let c = compare(name, &s[from..to]);
+    c.same
 }
 
 // The first module of a name among those that follow.

@@ -1,24 +1,27 @@
 -- `search::find::part_is` meets its contract. Assumes nothing.
 use borrow.Author.Needs.{needs}
+use mathlib.Core.Path.{ap}
+use Rattle.ascii.specs.declared.names.Compared.{Compared}
+use Rattle.ascii.specs.Compared.{compared}
 use Rattle.table.specs.At.{bytesOf}
 use Rattle.search.proofs.find.part_is.Statement.{statement}
 use Rattle.search.proofs.find.part_is.Tie as tie
 
-sub-same : tie.Need-sub-same
-sub-same c = search needs
+sub-compare : tie.Need-sub-compare
+sub-compare c = search needs
 
-part-same-start : tie.Need-part-same-start
-part-same-start c = search needs
+part-compare-start : tie.Need-part-compare-start
+part-compare-start c = search needs
 
-part-same-end : tie.Need-part-same-end
-part-same-end c = search needs
+part-compare-end : tie.Need-part-compare-end
+part-compare-end c = search needs
 
-same-requires : tie.Need-same-requires
-same-requires c κs = search needs
+compare-requires : tie.Need-compare-requires
+compare-requires c κs = search needs
 
 returns : tie.Need-returns
-unfolding bytesOf
-returns c = c .same .ensures
+unfolding bytesOf compared
+returns c = ap (λ (x : Compared). x .same) (c .compare .ensures)
 
 pub part-is-spec : {M : Type 1} → statement M
-part-is-spec = tie.close (tie.spec sub-same part-same-start part-same-end same-requires returns)
+part-is-spec = tie.close (tie.spec sub-compare part-compare-start part-compare-end compare-requires returns)
