@@ -1,5 +1,5 @@
 -- Demand 3 about the code, as one claim about a history and its second histories; and that who reads the bytes of a history reads the plain
--- node's records. What stands in quotation marks is demand 3's own, or document 01's of its plain node. Assumes nothing.
+-- node's records. What stands in quotation marks is document 01's. Assumes nothing.
 use Prim.Native.Nat.{ℕ, _+_, _≤_}
 use mathlib.Core.List.{List, [], _∷_, _++_, map}
 use mathlib.Core.Logic.{_≢_}
@@ -32,7 +32,7 @@ abbrev pub EachNumber : (ℕ → Type 0) → List Heard → Type 0
 EachNumber P [] = Unit {0}
 EachNumber P (a ∷ l) = P (a .number) × EachNumber P l
 
--- "the answers and the end are those of document 01's plain node": of a history h from the plain node n on, heard as l, that leaves k
+-- the answers and the end are the plain node's: of a history h from the plain node n on, heard as l, that leaves k
 pub record AsPlain (table : List ℕ) (n : Node) (h : List Call) (k : Kit) (l : List Heard) : Type 0 where
   -- numbers, used counts and written bytes
   pub heardAs : l ≡ map heard (answers table n h)
@@ -40,10 +40,10 @@ pub record AsPlain (table : List ℕ) (n : Node) (h : List Call) (k : Kit) (l : 
   pub never9 : EachNumber (λ i. i ≢ 9) l
   -- each client is sent one final reply for each of its line feeds that was used
   pub replies : (d : ℕ) → length (repliesFor d (sent (answers table n h))) ≡ allFeeds d h (answers table n h)
-  -- "open clients, values, times, activations and unfinished lines"
+  -- "who is open; each client's active modules and its bytes since its open or last line feed ..; each parameter's value and time"
   pub end : view table (k .state) (k .values) ≡ finish table n h
 
--- "any other cutting and mingling of the same bytes ..": the same is sent, and the ends are equal
+-- the same bytes, cut and mingled in any other way: the same is sent, and the ends are equal
 pub record AsFirst (table : List ℕ) (k : Kit) (l : List Heard) (k′ : Kit) (l′ : List Heard) : Type 0 where
   pub accepted : EachNumber (λ i. i ≡ 0) l′
   pub sameBytes : allSent l′ ≡ allSent l
@@ -64,7 +64,7 @@ pub record Demanded (table : List ℕ) (time area number : ℕ) (h : List Call) 
   pub asFirst : number ≡ 0 → (area′ number′ : ℕ) (h′ : List Call) (k′ : Kit) (l′ : List Heard) → 16384 ≤ area′
       → Past table time area′ number′ h′ k′ l′ → IsSecond table (started table area time) h h′ → (number′ ≡ 0) × AsFirst table k l k′ l′
 
--- Demand 3, "one claim about a history, not one for each call": "for every history of calls", from any start on.
+-- Demand 3, "one claim about a history, not one for each call": of every history, from any start on.
 abbrev pub Demand3 : Type 0
 Demand3 = (table : List ℕ) (time area number : ℕ) (h : List Call) (k : Kit) (l : List Heard)
     → Past table time area number h k l → Demanded table time area number h k l
