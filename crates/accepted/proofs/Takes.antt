@@ -7,11 +7,13 @@ use mathlib.Core.List.{List, [], _∷_}
 use mathlib.Core.Option.{some}
 use mathlib.Core.Path.{_≡_, refl, sym, ap, _∙_}
 use lib.ListN.{length, take, drop, getElem?}
-use Rattle.ascii.specs.Bytes.{any, isSome}
+use Rattle.ascii.specs.Bytes.{any}
 use Rattle.ascii.specs.Writer.{Puts}
 use Rattle.ascii.proofs.Puts.{puts-length}
-use Rattle.json.specs.Json.{text, storedForm}
-use Rattle.fit.specs.Fit.{isStored}
+use Rattle.datainfo.specs.Layout.{datainfoAt}
+use Rattle.fit.specs.Fit.{storedForm, isStored}
+use Rattle.form.specs.Formed.{FitsAt, PutsForm}
+use Rattle.form.proofs.Stored.{stored, stored-short}
 use Rattle.table.specs.Table.{Parameter, Table}
 use Rattle.table.specs.Layout.{tableOf}
 use Rattle.table.specs.Search.{Placed, parameters}
@@ -27,13 +29,12 @@ use Rattle.plain.specs.Node.{Setting, withSettings, clientNumbers, updatesTo}
 use Rattle.plain.specs.Calls.{Reading, Effect, readingEffect, effect}
 use Rattle.sound.proofs.Lists.{each-at}
 use Rattle.sound.proofs.Accepted.{GoodParameter, accepted}
-use Rattle.sound.proofs.Values.{stored, stored-short}
 use Rattle.sound.proofs.Records.{Fine, name-short, written-to}
 use Rattle.state.specs.declared.Settings.{Settings}
 use Rattle.state.specs.declared.State.{State}
 use Rattle.state.specs.View.{clientAt, view, withStored, withLength, areaWith, settingsWith, outboxAfter, written, nextSettings}
 use Rattle.state.specs.Fit.{clientUnfit, settingsUnfit, isUnfit}
-use Rattle.state.proofs.Forms.{stands, fits-text, form-room}
+use Rattle.state.proofs.Forms.{stands}
 use Rattle.state.proofs.Settled.{Sized}
 use Rattle.state.proofs.Sets.{AllSet, all-set}
 use Rattle.promise.specs.Answer.{doneWith}
@@ -65,30 +66,39 @@ module _ (table : List ℕ) (s : State) (values outbox : List ℕ) (k t : ℕ) (
       let names = each-at GoodParameter (parameters w) (accepted table (g .accepted) .allParameters) k it there .0 in
       record { names = names; small = n; inTime = g .inTime }
 
-  pub read-room : (isSome (text bs) ≡ true) × (256 * k + length (storedForm bs) ≤ length values)
-  read-room =
-      let low = g .low in
-      let area = g .area in
-      (fits-text (g .found .held .datainfo) bs (g .fits), form-room (g .found .held .datainfo) bs values (256 * k) (g .fits) (omega arith))
+  pub read-fits : FitsAt table (q .info) bs
+  read-fits =
+      let h = g .found .held in
+      record { reads = record { within = h .infoWithin; datainfo = h .datainfo; left = h .left; is = h .info }; fits = g .fits }
 
-  module _ (after : List ℕ) (r : ℕ) (x : Puts values (256 * k) (storedForm bs) after r) where
+  pub read-room : 256 * k + 256 ≤ length values
+  read-room = let low = g .low in let area = g .area in omega arith
+
+  -- the stored form of the bytes
+  abbrev form : List ℕ
+  form = storedForm (g .found .held .datainfo) bs
+
+  module _ (after : List ℕ) (r : ℕ) (y : PutsForm (datainfoAt (drop (q .info) table)) bs values (256 * k) after r) where
+    x : Puts values (256 * k) form after r
+    x = y .is (g .found .held .info)
+
+    small : length form ≤ 256
+    small = stored-short (g .found .held .datainfo) bs (g .fits)
+
     -- where the stored form lies
     abbrev value : List ℕ
     value = take (r - 256 * k) (drop (256 * k) after)
 
     room-left : r ≤ length values
-    room-left = let z = x .ends in omega (arith, read-room .1)
+    room-left = let z = y .short in omega (arith, read-room)
 
     pub read-end : r ≤ length after
     read-end = let l = puts-length x in omega (arith, room-left)
 
-    value-is : value ≡ storedForm bs
+    value-is : value ≡ form
     value-is = stands x room-left
 
-    small : length (storedForm bs) ≤ 256
-    small = stored-short (g .found .held .datainfo) bs (g .fits)
-
-    size-is : r - 256 * k ≡ length (storedForm bs)
+    size-is : r - 256 * k ≡ length form
     size-is = let z = x .ends in omega arith
 
     pub read-size : r - 256 * k ≤ 256
@@ -96,14 +106,14 @@ module _ (table : List ℕ) (s : State) (values outbox : List ℕ) (k t : ℕ) (
 
     -- what the plain node does
     abbrev sets : List Setting
-    sets = record { parameter = k; text = storedForm bs; time = t } ∷ []
+    sets = record { parameter = k; text = form; time = t } ∷ []
 
     does : effect w (view table s values) (Reading k bs t)
-        ≡ record { next = withSettings (view table s values) sets; settings = sets; used = 0; records = updates (storedForm bs) }
+        ≡ record { next = withSettings (view table s values) sets; settings = sets; used = 0; records = updates form }
     unfolding effect readingEffect view parameterOf
     does = rw there refl
 
-    is-stored : isStored (it .it .datainfo) (storedForm bs) ≡ true
+    is-stored : isStored (it .it .datainfo) form ≡ true
     unfolding parameterOf
     is-stored = stored (g .found .held .datainfo) bs (g .fits)
 
@@ -115,13 +125,13 @@ module _ (table : List ℕ) (s : State) (values outbox : List ℕ) (k t : ℕ) (
       abbrev sent : List Record
       sent = updatesTo (clientAt (s .clients)) (e .modules - 1) (reportOf m a value t) clientNumbers
 
-      sent-is : sent ≡ updates (storedForm bs)
+      sent-is : sent ≡ updates form
       sent-is = rw (named-module, named, value-is) refl
 
       pub updates-room : (e .modules - 1 < 16) × ((0 + length (encodeAll sent) ≤ length outbox) × (length m + length a + length value ≤ 1024))
       updates-room =
-          let f = fine (storedForm bs) small in
-          let u = written-to (clientAt (s .clients)) (e .modules - 1) (told (storedForm bs)) f clientNumbers .short in
+          let f = fine form small in
+          let u = written-to (clientAt (s .clients)) (e .modules - 1) (told form) f clientNumbers .short in
           let room = g .room in
           let few = accepted table (g .accepted) .fewModules in
           let home = parameter-home w k it there in (
@@ -134,16 +144,16 @@ module _ (table : List ℕ) (s : State) (values outbox : List ℕ) (k t : ℕ) (
 
       module _ (z : Sized (s .settings)) (settings : Settings) (i : settings ≡ withLength (s .settings) k (r - 256 * k) t)
           (outbox′ : List ℕ) (n : ℕ) (p : Puts outbox 0 (encodeAll sent) outbox′ n) where
-        next-is : settings ≡ withLength (s .settings) k (length (storedForm bs)) t
+        next-is : settings ≡ withLength (s .settings) k (length form) t
         next-is = i ∙ ap (λ (m : ℕ). withLength (s .settings) k m t) size-is
 
         abbrev next : State
         next = nextSettings s settings
 
-        puts : Puts outbox 0 (encodeAll (updates (storedForm bs))) outbox′ n
+        puts : Puts outbox 0 (encodeAll (updates form)) outbox′ n
         puts = rw sent-is at p
 
-        area-is : after ≡ withStored values k (storedForm bs)
+        area-is : after ≡ withStored values k form
         unfolding withStored
         area-is = x .is
 
@@ -177,6 +187,6 @@ module _ (table : List ℕ) (s : State) (values outbox : List ℕ) (k t : ℕ) (
 
         pub is-taken : Taken table s values outbox k t bs (doneWith 0 n next) after outbox′
         is-taken =
-            let u = written-to (clientAt (s .clients)) (e .modules - 1) (told (storedForm bs)) (fine (storedForm bs) small) clientNumbers .short in
+            let u = written-to (clientAt (s .clients)) (e .modules - 1) (told form) (fine form small) clientNumbers .short in
             let end = puts .ends in
             record { leaves = is-left; short = omega arith }

@@ -1,5 +1,5 @@
 // A reading that fits its parameter.
-use json::compact::put_compact;
+use form::put_form;
 use promise::Done;
 use search::cursor::Cursor;
 use state::State;
@@ -27,7 +27,7 @@ pub fn take_reading(
 {
     let clients = state.clients;
     let at = 256 * k;
-    let end = put_compact(values, at, bytes);
+    let end = put_form(table, p.info, values, at, bytes);
     let module = bytes_of(table, home.name);
     let name = bytes_of(table, p.name);
     let number = home.modules - 1;

@@ -1,10 +1,10 @@
--- A command's argument: the verdict on it, and the form that is written. Assumes nothing.
+-- A command's argument: the verdict on it, and whether one is declared. Assumes nothing.
 use Prim.Native.Nat.{ℕ}
 use mathlib.Core.Path.{_≡_, refl, sym, ap, _∙_}
 use mathlib.Core.Bool.{Bool, true, false, false≢true}
 use mathlib.Core.List.{List}
 use mathlib.Core.Option.{Option, none, some}
-use Rattle.ascii.specs.Bytes.{_>>=_, isSome}
+use Rattle.ascii.specs.Bytes.{_>>=_}
 use Rattle.datainfo.specs.Datainfo.{Datainfo}
 use Rattle.datainfo.specs.Layout.{datainfoAt}
 use Rattle.fit.specs.Verdict.{meaning, JudgesText}
@@ -44,16 +44,33 @@ module _ (xs text : List ℕ) (r : Verdict) where
             h ∙ ap (λ (y : Option Datainfo × List ℕ). argumentVerdict (y .0) text) q;
       }
 
--- an argument is declared where the table says so
-pub declared-is : (b : Bool) (xs : List ℕ) (a : Option Datainfo) (x : List ℕ) → argumentAt b xs ≡ some (a, x) → isSome a ≡ b
+-- ## What is declared
+
+-- no argument
+pub none-declared : (b : Bool) (xs : List ℕ) → b ≡ false → {a : Option Datainfo} {x : List ℕ} → argumentAt b xs ≡ some (a, x) → a ≡ none
 unfolding argumentAt
-declared-is false xs a x i =
+none-declared true xs e i = absurd (false≢true (sym e))
+none-declared false xs e {a} {x} i =
     let q : _≡_ {A = Option Datainfo × List ℕ} (none, xs) (a, x) = in-some i in
-    ap (λ (y : Option Datainfo × List ℕ). isSome (y .0)) (sym q)
-declared-is true xs a x i = go (datainfoAt xs) i
+    ap (λ (y : Option Datainfo × List ℕ). y .0) (sym q)
+
+-- one, which is the datainfo that is read there
+pub record Declared (xs : List ℕ) (a : Option Datainfo) (x : List ℕ) : Type 0 where
+  pub datainfo : Datainfo
+  pub is : a ≡ some datainfo
+  pub reads : datainfoAt xs ≡ some (datainfo, x)
+
+pub some-declared : (b : Bool) (xs : List ℕ) → b ≡ true → {a : Option Datainfo} {x : List ℕ} → argumentAt b xs ≡ some (a, x) → Declared xs a x
+unfolding argumentAt
+some-declared false xs e i = absurd (false≢true e)
+some-declared true xs e {a} {x} i = go (datainfoAt xs) refl i
   where
-    go : (o : Option (Datainfo × List ℕ)) → (o >>= declared) ≡ some (a, x) → isSome a ≡ true
-    go none i = absurd (never i)
-    go (some p) i =
+    go : (o : Option (Datainfo × List ℕ)) → datainfoAt xs ≡ o → (o >>= declared) ≡ some (a, x) → Declared xs a x
+    go none f i = absurd (never i)
+    go (some p) f i =
         let q : _≡_ {A = Option Datainfo × List ℕ} (some (p .0), p .1) (a, x) = in-some i in
-        ap (λ (y : Option Datainfo × List ℕ). isSome (y .0)) (sym q)
+        record {
+          datainfo = p .0;
+          is = ap (λ (y : Option Datainfo × List ℕ). y .0) (sym q);
+          reads = f ∙ ap (λ (y : List ℕ). some (p .0, y)) (ap (λ (y : Option Datainfo × List ℕ). y .1) q);
+        }

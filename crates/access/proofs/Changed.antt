@@ -13,6 +13,7 @@ use Rattle.fit.specs.Fit as Fit
 use Rattle.fit.specs.Verdict.{meaning, JudgesText}
 use Rattle.fit.specs.declared.Verdict.{Verdict}
 use Rattle.fit.specs.declared.Verdict.the-variants.{Fits}
+use Rattle.form.proofs.Stored.{stored}
 use Rattle.table.specs.declared.layout.ParameterAt.{ParameterAt}
 use Rattle.table.specs.Layout.{tableOf}
 use Rattle.table.specs.Search.{findModule, findParameter}
@@ -26,14 +27,13 @@ use Rattle.outbox.specs.Outbox.{orderChange}
 use Rattle.plain.specs.Node.{clientNumbers, updatesTo}
 use Rattle.plain.specs.Answer as Plain
 use Rattle.plain.specs.Answer.{refused, found, letIn, sets, changes, outcome}
-use Rattle.sound.proofs.Values.{stored}
 use Rattle.state.specs.declared.State.{State}
 use Rattle.state.specs.View.{clientAt, view}
 use Rattle.outcome.specs.Ready.{Ready}
 use Rattle.outcome.specs.Outcome.{Comes}
 use Rattle.outcome.specs.declared.Outcome.{Outcome}
 use Rattle.outcome.specs.declared.Outcome.the-variants.{Refused}
-use Rattle.access.specs.Set.{setRecords, Settable, Accepts, IsSet}
+use Rattle.access.specs.Set.{setRecords, Settable, Accepts, IsSetBy}
 use Rattle.access.proofs.Finding.{ParameterKnown}
 use Rattle.access.proofs.Executed.{past-module}
 
@@ -50,7 +50,7 @@ module _ (s : List ℕ) (st : State) (values out : List ℕ) (c t : ℕ) (m a xs
     module _ (k h : ℕ) (q : ParameterAt) (p : ParameterKnown s m a k h q) where
       -- what is found is changed, unless it is read only
       abbrev lets : Plain.Outcome
-      lets = letIn (Fit.verdict (p .it .it .datainfo) xs) (sets (tableOf s) (view s st values) c t (k, p .it) (storedForm xs))
+      lets = letIn (Fit.verdict (p .it .it .datainfo) xs) (sets (tableOf s) (view s st values) c t (k, p .it) (storedForm (p .it .it .datainfo) xs))
 
       is-changed : outcome (tableOf s) (view s st values) c t (change m a xs) ≡ cond (q .readonly) (refused Error.ReadOnly) lets
       unfolding outcome found changes
@@ -64,20 +64,20 @@ module _ (s : List ℕ) (st : State) (values out : List ℕ) (c t : ℕ) (m a xs
         judged-is = j .is (p .info)
 
         is-let-in : outcome (tableOf s) (view s st values) c t (change m a xs)
-            ≡ letIn (meaning v) (sets (tableOf s) (view s st values) c t (k, p .it) (storedForm xs))
+            ≡ letIn (meaning v) (sets (tableOf s) (view s st values) c t (k, p .it) (storedForm (p .it .it .datainfo) xs))
         is-let-in = is-changed ∙ rw (r, judged-is)
 
         pub change-refused : (u : Verdict) → v ≡ u → (w : Class) → ((o : Plain.Outcome) → letIn (meaning u) o ≡ refused (classOf w))
             → Comes s st values out c t (Refused w) values out (change m a xs)
         change-refused u z w f =
-            record { is = is-let-in ∙ rw z (f (sets (tableOf s) (view s st values) c t (k, p .it) (storedForm xs))); quiet = refl; area = refl }
+            record { is = is-let-in ∙ rw z (f (sets (tableOf s) (view s st values) c t (k, p .it) (storedForm (p .it .it .datainfo) xs))); quiet = refl; area = refl }
 
         module _ (z : v ≡ Fits) where
           fits-it : isFit (Fit.verdict (p .it .it .datainfo) xs) ≡ true
           unfolding isFit severity
           fits-it = rw (← judged-is, z)
 
-          pub change-settable : Ready s st values out c → t ≤ latest → Settable out k h m a t × Accepts values xs
+          pub change-settable : Ready s st values out c → t ≤ latest → Settable out k h m a t × Accepts s (q .info) values xs
           change-settable g l = (
             record {
               low = p .low;
@@ -87,24 +87,33 @@ module _ (s : List ℕ) (st : State) (values out : List ℕ) (c t : ℕ) (m a xs
               inTime = l;
               room = g .lent .room;
             },
-            record { datainfo = p .it .it .datainfo; fits = fits-it; area = g .area },
+            record {
+              fitting =
+                  record {
+                    reads = record { within = p .within; datainfo = p .it .it .datainfo; left = p .left; is = p .info };
+                    fits = fits-it;
+                  };
+              area = g .area;
+            },
           )
 
-          pub change-set : (o : Outcome) (stored-values after : List ℕ) → IsSet (st .clients) c k h m a xs t values out o stored-values after
+          pub change-set : (o : Outcome) (stored-values after : List ℕ)
+              → IsSetBy (datainfoAt (drop (q .info) s)) (st .clients) c k h m a xs t values out o stored-values after
               → Comes s st values out c t o stored-values after (change m a xs)
           unfolding letIn sets setRecords view
-          change-set o stored-values after i =
+          change-set o stored-values after by =
+              let i = by .is (p .info) in
               subst (λ (x : Outcome). Comes s st values out c t x stored-values after (change m a xs)) (sym (i .is))
               (record {
-                text = storedForm xs;
+                text = storedForm (p .it .it .datainfo) xs;
                 parameter = p .it;
                 there = p .there;
                 fits = stored (p .it .it .datainfo) xs fits-it;
                 long = refl;
                 carries =
                     record {
-                      records = orderChange c k (storedForm xs) ∷ updatesTo (clientAt (st .clients)) h (reportOf m a (storedForm xs) t) clientNumbers;
-                      reply = changed (reportOf m a (storedForm xs) t);
+                      records = orderChange c k (storedForm (p .it .it .datainfo) xs) ∷ updatesTo (clientAt (st .clients)) h (reportOf m a (storedForm (p .it .it .datainfo) xs) t) clientNumbers;
+                      reply = changed (reportOf m a (storedForm (p .it .it .datainfo) xs) t);
                       is = is-let-in ∙ rw (z, p .home, p .moduleNamed, p .named);
                       puts = i .puts;
                     };

@@ -8,7 +8,6 @@ use lib.ListN.{drop}
 use Rattle.ascii.specs.Bytes.{isSome}
 use Rattle.ascii.specs.Text.{bytes}
 use Rattle.ascii.specs.Numbers.{latest}
-use Rattle.ascii.specs.Writer.{Puts}
 use Rattle.fit.specs.Fit.{isFit, severity}
 use Rattle.fit.specs.Verdict.{meaning}
 use Rattle.fit.specs.declared.Verdict.{Verdict}
@@ -22,15 +21,13 @@ use Rattle.message.specs.Reply.{done}
 use Rattle.message.specs.Said.{classOf, reportOf}
 use Rattle.message.specs.declared.say.Class.{Class}
 use Rattle.message.specs.declared.say.Class.the-variants as K
-use Rattle.outbox.specs.Outbox.{orderCommand, encodeAll}
+use Rattle.outbox.specs.Outbox.{orderCommand}
 use Rattle.plain.specs.Node.{Node}
-use Rattle.plain.specs.Answer.{Outcome, refused, carried, found, letIn, argumentVerdict, does, outcome}
+use Rattle.plain.specs.Answer.{Outcome, refused, carried, found, letIn, argumentVerdict, argumentForm, does, outcome}
 use Rattle.outcome.specs.Ready.{Lent}
 use Rattle.outcome.specs.Outcome.{ComesAtAny}
 use Rattle.outcome.specs.declared.Outcome.the-variants.{Refused, Sent}
-use Rattle.access.specs.Argument.{JudgesArgument, formOf, Ordered, Reported, orderRecords}
-use Rattle.access.proofs.Arguments.{declared-is}
-use Rattle.access.proofs.Orders.{form-is}
+use Rattle.access.specs.Argument.{JudgesArgument, Ordered, Reported, orderRecords, IsOrdered}
 use Rattle.access.proofs.Finding.{CommandKnown}
 
 pub past-module : {A : Type 0} (e : Error.Class) (o : Option A) (x : Outcome) → isSome o ≡ true → found e o (λ _. x) ≡ x
@@ -57,26 +54,23 @@ module _ (s out : List ℕ) (c t : ℕ) (m a xs : List ℕ) where
       judged-is = j .is (g .argument)
 
       abbrev ordered : Node → Outcome
-      ordered n = carried n [] (orderCommand c k (formOf (q .argument) xs) ∷ []) (done (reportOf m a (bytes "null") t))
+      ordered n = carried n [] (orderCommand c k (argumentForm (g .it .it .argument) xs) ∷ []) (done (reportOf m a (bytes "null") t))
 
       let-in : (n : Node) → outcome (tableOf s) n c t (execute m a xs) ≡ letIn (meaning v) (ordered n)
       unfolding found does
-      let-in n =
-          executes n
-          ∙ rw (g .is, judged-is, form-is (g .it .it .argument) (q .argument) (declared-is (q .argument) (drop (q .info) s) _ _ (g .argument)) xs, g .moduleNamed, g .named)
+      let-in n = executes n ∙ rw (g .is, judged-is, g .moduleNamed, g .named)
 
       pub execute-refused : (u : Verdict) → v ≡ u → (w : Class) → ((o : Outcome) → letIn (meaning u) o ≡ refused (classOf w)) → ComesAtAny s out c t (Refused w) out (execute m a xs)
       execute-refused u z w f n values = record { is = let-in n ∙ rw z (f (ordered n)); quiet = refl; area = refl }
 
-      pub execute-ordered : v ≡ Fits → Lent s out c → t ≤ latest → Ordered out k (q .argument) xs × Reported m a t
+      pub execute-ordered : v ≡ Fits → Lent s out c → t ≤ latest → Ordered s (q .info) out k (q .argument) xs × Reported m a t
       unfolding isFit severity
       execute-ordered z l h = (
         record {
           low = g .low;
           argument =
               record {
-                argument = g .it .it .argument;
-                is = declared-is (q .argument) (drop (q .info) s) _ _ (g .argument);
+                reads = record { within = g .within; argument = g .it .it .argument; left = g .left; is = g .argument };
                 fits = rw (← judged-is, z);
               };
           room = l .room;
@@ -85,17 +79,17 @@ module _ (s out : List ℕ) (c t : ℕ) (m a xs : List ℕ) where
       )
 
       pub execute-sent : v ≡ Fits → (after : List ℕ) (written : ℕ)
-          → Puts out 0 (encodeAll (orderRecords c k (formOf (q .argument) xs) m a t)) after written
+          → IsOrdered (argumentAt (q .argument) (drop (q .info) s)) c k xs m a t out after written
           → ComesAtAny s out c t (Sent written) after (execute m a xs)
       unfolding letIn orderRecords
       execute-sent z after written p n values =
           record {
             carries =
                 record {
-                  records = orderCommand c k (formOf (q .argument) xs) ∷ [];
+                  records = orderCommand c k (argumentForm (g .it .it .argument) xs) ∷ [];
                   reply = done (reportOf m a (bytes "null") t);
                   is = let-in n ∙ rw z;
-                  puts = p;
+                  puts = p .is (g .argument);
                 };
             unstored = refl;
           }

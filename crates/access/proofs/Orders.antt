@@ -3,121 +3,118 @@ use Prim.Native.Nat.{ℕ, _+_, _-_, _≤_}
 use native.Mathlib.Nat.{zero-add}
 use native.Mathlib.Omega.{arith}
 use mathlib.Core.Path.{_≡_, _∙_}
-use mathlib.Core.Bool.{Bool, true, false, not, false≢true}
+use mathlib.Core.Bool.{Bool, true, false, not}
 use mathlib.Core.List.{List, [], _∷_, append-nil}
 use mathlib.Core.Option.{Option, none, some}
-use lib.ListN.{length, take, length-append}
+use lib.ListN.{length, take, drop, length-append}
 use borrow.Author.Tests.{not-true, not-false}
-use Rattle.ascii.specs.Bytes.{isSome}
 use Rattle.ascii.specs.Text.{bytes}
 use Rattle.ascii.specs.Numbers.{twoBytes}
 use Rattle.ascii.specs.Writer.{Puts}
 use Rattle.ascii.proofs.Puts.{puts-length}
-use Rattle.json.specs.Json.{text}
 use Rattle.datainfo.specs.Datainfo.{Datainfo}
-use Rattle.fit.specs.Fit.{verdict, storedForm, isFit}
+use Rattle.datainfo.specs.Layout.{datainfoIn}
+use Rattle.fit.specs.Fit.{storedForm, isFit}
+use Rattle.form.specs.Formed.{FitsAt, PutsForm}
+use Rattle.form.proofs.Stored.{stored-short}
+use Rattle.table.specs.Layout.{argumentAt}
 use Rattle.message.specs.Reply.{done}
 use Rattle.message.specs.Said.{reportOf}
 use Rattle.outbox.specs.Outbox.{Record, final, orderCommand, mark, body, encode, encodeAll}
 use Rattle.outbox.specs.Written.{RoomFor}
 use Rattle.plain.specs.Answer.{argumentVerdict, argumentForm}
-use Rattle.sound.proofs.Values.{stored-short}
 use Rattle.sound.proofs.Records.{Fine, Written, says-done, written-one, written-append, written-final}
 use Rattle.sound.proofs.Room.{room-after, puts-after}
-use Rattle.state.proofs.Forms.{stands, fits-text, form-room}
-use Rattle.access.specs.Argument.{LetIn, formOf, Ordered, Reported, orderRecords}
+use Rattle.state.proofs.Forms.{stands}
+use Rattle.access.specs.Argument.{Ordered, Reported, orderRecords, PutsOrder, IsOrdered}
+use Rattle.access.proofs.Arguments.{none-declared, Declared, some-declared}
 
--- ## The argument
-
-pub form-is : (a : Option Datainfo) (b : Bool) → isSome a ≡ b → (xs : List ℕ) → formOf b xs ≡ argumentForm a xs
-unfolding formOf argumentForm
-form-is none b e xs = rw (← e)
-form-is (some d) b e xs = rw (← e)
-
-form-short : (b : Bool) (xs : List ℕ) → LetIn b xs → length (formOf b xs) ≤ 256
-unfolding formOf argumentVerdict
-form-short false xs l = omega arith
-form-short true xs l = go (l .argument) (l .is) (l .fits)
-  where
-    go : (a : Option Datainfo) → isSome a ≡ true → isFit (argumentVerdict a xs) ≡ true → length (storedForm xs) ≤ 256
-    go none e f = absurd (false≢true e)
-    go (some d) e f = stored-short d xs f
+form-short : (a : Option Datainfo) (xs : List ℕ) → isFit (argumentVerdict a xs) ≡ true → length (argumentForm a xs) ≤ 256
+unfolding argumentForm argumentVerdict
+form-short none xs e = omega arith
+form-short (some d) xs e = stored-short d xs e
 
 -- ## The order
 
-module _ (out : List ℕ) (k : ℕ) (b : Bool) (xs : List ℕ) (o : Ordered out k b xs) (c : ℕ) where
+module _ (table : List ℕ) (info : ℕ) (out : List ℕ) (k : ℕ) (b : Bool) (xs : List ℕ) (o : Ordered table info out k b xs) (c : ℕ) where
+  abbrev read : Option (Option Datainfo × List ℕ)
+  read = argumentAt b (drop info table)
+
   -- whatever the numbers
   pub order-room : (i j : ℕ) (bs : List ℕ) → length bs ≤ 256 → RoomFor out 0 (orderCommand i j bs)
   unfolding encode mark body bytes twoBytes
   order-room i j bs h = let r = o .room in record { fits = simp length-append (omega arith); short = omega arith }
 
-  pub order-none : not b ≡ true → (after : List ℕ) (r : ℕ) → Puts out 0 (encode (orderCommand c k [])) after r
-      → Puts out 0 (encode (orderCommand c k (formOf b xs))) after r
-  unfolding formOf
-  order-none e after r p = rw (not-true b e) p
+  pub order-none : not b ≡ true → (after : List ℕ) (r : ℕ) → Puts out 0 (encode (orderCommand c k [])) after r → PutsOrder read c k xs out after r
+  unfolding argumentForm
+  order-none e after r p = record { is = λ i. rw (none-declared b (drop info table) (not-true b e) i) p }
 
+  -- an argument is declared
   module _ (e : not b ≡ false) where
-    -- of a declared argument that is let in
-    declared : {P : Type 0} → ((d : Datainfo) → isFit (verdict d xs) ≡ true → P) → P
+    declared : {a : Option Datainfo} {x : List ℕ} → read ≡ some (a, x) → Declared (drop info table) a x
+    declared i = some-declared b (drop info table) (not-false b e) i
+
+    pub argument-fits : FitsAt table info xs
     unfolding argumentVerdict
-    declared {P} f = go (o .argument .argument) (o .argument .is ∙ not-false b e) (o .argument .fits)
-      where
-        go : (a : Option Datainfo) → isSome a ≡ true → isFit (argumentVerdict a xs) ≡ true → P
-        go none i g = absurd (false≢true i)
-        go (some d) i g = f d g
+    argument-fits =
+        let l = o .argument in
+        let h = declared (l .reads .is) in
+        record {
+          reads = record { within = l .reads .within; datainfo = h .datainfo; left = l .reads .left; is = h .reads };
+          fits = rw (h .is) at (l .fits);
+        }
 
-    pub argument-text : isSome (text xs) ≡ true
-    argument-text = declared (λ d f. fits-text d xs f)
+    -- its stored form is written to d, and then taken from there
+    module _ (d after : List ℕ) (r : ℕ) (x : PutsForm (datainfoIn 4 (drop info table)) xs d 0 after r) (h : length d ≡ 256) where
+      pub form-within : r ≤ length after
+      form-within = let l = puts-length (x .is (argument-fits .reads .is)) in let s = x .short in omega arith
 
-    pub argument-room : (d : List ℕ) → length d ≡ 256 → 0 + length (storedForm xs) ≤ length d
-    argument-room d h = declared (λ i f. form-room i xs d 0 f (omega arith))
+      form : {i : Datainfo} {y : List ℕ} → datainfoIn 4 (drop info table) ≡ some (i, y) → take r after ≡ storedForm i xs
+      form f =
+          let z : r - 0 ≡ r = omega arith in
+          let p = x .is f in
+          rw z at (stands p (let l = puts-length p in let y = form-within in omega arith))
 
-  -- the stored form is written to d, and then taken from there
-  module _ (e : not b ≡ false) (d after : List ℕ) (r : ℕ) (x : Puts d 0 (storedForm xs) after r) (h : length d ≡ 256) where
-    written-form : Puts d 0 (formOf b xs) after r
-    unfolding formOf
-    written-form = rw (not-false b e) x
+      pub order-slice : r ≡ length (take r after)
+      order-slice = x .is (argument-fits .reads .is) .ends ∙ rw (zero-add, form (argument-fits .reads .is))
 
-    pub form-within : r ≤ length after
-    form-within = let z = x .ends in let l = puts-length x in let y = argument-room e d h in omega arith
+      pub order-room-form : (i j : ℕ) → RoomFor out 0 (orderCommand i j (take r after))
+      order-room-form i j = order-room i j (take r after) (rw (form (argument-fits .reads .is)) (stored-short (argument-fits .reads .datainfo) xs (argument-fits .fits)))
 
-    form : take r after ≡ formOf b xs
-    form = let z : r - 0 ≡ r = omega arith in rw z at (stands written-form (let l = puts-length x in let y = form-within in omega arith))
-
-    pub order-slice : r ≡ length (take r after)
-    order-slice = written-form .ends ∙ rw (zero-add, form)
-
-    pub order-room-form : (i j : ℕ) → RoomFor out 0 (orderCommand i j (take r after))
-    order-room-form i j = order-room i j (take r after) (rw form (form-short b xs (o .argument)))
-
-    pub order-some : (last : List ℕ) (q : ℕ) → Puts out 0 (encode (orderCommand c k (take r after))) last q
-        → Puts out 0 (encode (orderCommand c k (formOf b xs))) last q
-    order-some last q p = rw form at p
+      pub order-some : (last : List ℕ) (q : ℕ) → Puts out 0 (encode (orderCommand c k (take r after))) last q → PutsOrder read c k xs out last q
+      unfolding argumentForm
+      order-some last q p = record { is = λ i. let z = declared i in rw (z .is) (rw (form (z .reads)) at p) }
 
 -- ## The order and the reply
 
-module _ (out : List ℕ) (k : ℕ) (b : Bool) (xs m a : List ℕ) (c t : ℕ) (o : Ordered out k b xs) (n : Reported m a t)
-    (after : List ℕ) (told : ℕ) (x : Puts out 0 (encode (orderCommand c k (formOf b xs))) after told) where
-  abbrev command : Record
-  command = orderCommand c k (formOf b xs)
+module _ (table : List ℕ) (info : ℕ) (out : List ℕ) (k : ℕ) (b : Bool) (xs m a : List ℕ) (c t : ℕ) (o : Ordered table info out k b xs) (n : Reported m a t)
+    (after : List ℕ) (told : ℕ) (x : PutsOrder (argumentAt b (drop info table)) c k xs out after told) where
+  abbrev command : Option Datainfo → Record
+  command d = orderCommand c k (argumentForm d xs)
 
   abbrev reply : Record
   reply = final c (done (reportOf m a (bytes "null") t))
 
-  records-short : Written (command ∷ (reply ∷ [])) 683
+  -- the argument that is declared, or none
+  abbrev argument : Option Datainfo
+  argument = o .argument .reads .argument
+
+  records-short : Written (command argument ∷ (reply ∷ [])) 683
   unfolding body bytes
   records-short =
       let fine : Fine (reportOf m a (bytes "null") t) = record { names = (n .module-name, n .name); small = omega arith; inTime = n .inTime } in
-      let f = form-short b xs (o .argument) in
-      written-append (command ∷ []) (reply ∷ []) 262 421 (written-one command 262 tt (omega arith)) (written-final c _ 415 (says-done _ fine))
+      let f = form-short argument xs (o .argument .fits) in
+      written-append (command argument ∷ []) (reply ∷ []) 262 421 (written-one (command argument) 262 tt (omega arith)) (written-final c _ 415 (says-done _ fine))
 
-  one : Puts out 0 (encodeAll (command ∷ [])) after told
+  one : {d : Option Datainfo} {y : List ℕ} → argumentAt b (drop info table) ≡ some (d, y) → Puts out 0 (encodeAll (command d ∷ [])) after told
   unfolding encodeAll
-  one = rw append-nil x
+  one i = rw append-nil (x .is i)
 
   pub report-room : RoomFor after told reply
-  report-room = let r = o .room in room-after (command ∷ []) reply out after told one (omega (arith, records-short .short)) (omega arith)
+  report-room =
+      let r = o .room in
+      room-after (command argument ∷ []) reply out after told (one (o .argument .reads .is)) (omega (arith, records-short .short)) (omega arith)
 
-  pub order-all : (last : List ℕ) (q : ℕ) → Puts after told (encode reply) last q → Puts out 0 (encodeAll (orderRecords c k (formOf b xs) m a t)) last q
+  pub order-all : (last : List ℕ) (q : ℕ) → Puts after told (encode reply) last q → IsOrdered (argumentAt b (drop info table)) c k xs m a t out last q
   unfolding orderRecords
-  order-all last q y = puts-after (command ∷ []) reply out after told one last q y
+  order-all last q y = record { is = λ {d} i. puts-after (command d ∷ []) reply out after told (one i) last q y }

@@ -2,27 +2,28 @@
 use Prim.Native.Nat.{ℕ, _+_, _*_, _-_, _≤_, _<_}
 use native.Mathlib.Omega.{arith}
 use mathlib.Core.Path.{_≡_, ap}
-use mathlib.Core.Bool.{true}
 use mathlib.Core.List.{List, [], _∷_, _++_}
+use mathlib.Core.Option.{Option, some}
 use lib.ListN.{length, take, drop}
-use Rattle.ascii.specs.Bytes.{isSome}
 use Rattle.ascii.specs.Writer.{Puts}
 use Rattle.ascii.proofs.Puts.{puts-length, puts-both}
-use Rattle.json.specs.Json.{text}
+use Rattle.datainfo.specs.Datainfo.{Datainfo}
+use Rattle.datainfo.specs.Layout.{datainfoIn}
 use Rattle.fit.specs.Fit.{storedForm}
+use Rattle.form.specs.Formed.{FitsAt, PutsForm}
+use Rattle.form.proofs.Stored.{stored-short}
 use Rattle.message.specs.Reply.{Report, changed}
 use Rattle.message.specs.Said.{reportOf}
 use Rattle.outbox.specs.Outbox.{Record, final, orderChange, body, encode, encodeAll}
 use Rattle.outbox.specs.Written.{RoomFor}
 use Rattle.plain.specs.Node.{clientNumbers, updatesTo}
-use Rattle.sound.proofs.Values.{stored-short}
 use Rattle.sound.proofs.Records.{Fine, Written, name-short, says-changed, written-one, written-append, written-final, written-to}
 use Rattle.sound.proofs.Room.{room-after, puts-after, puts-none}
 use Rattle.state.specs.declared.Clients.{Clients}
 use Rattle.state.specs.View.{clientAt, withStored}
-use Rattle.state.proofs.Forms.{fits-text, form-room, stands}
+use Rattle.state.proofs.Forms.{stands}
 use Rattle.outcome.specs.declared.Outcome.the-variants.{Stored}
-use Rattle.access.specs.Set.{setRecords, Settable, Accepts, IsSet}
+use Rattle.access.specs.Set.{setRecords, Settable, Accepts, IsSet, IsSetBy}
 
 -- ## The order, the updates and the reply, with a value of at most 256 bytes
 
@@ -94,36 +95,42 @@ module _ (out : List ℕ) (k h : ℕ) (m a : List ℕ) (t : ℕ) (g : Settable o
 
 -- ## The stored form
 
-module _ (out : List ℕ) (k h : ℕ) (m a : List ℕ) (t : ℕ) (g : Settable out k h m a t) (values xs : List ℕ) (w : Accepts values xs) where
-  pub set-text : isSome (text xs) ≡ true
-  set-text = fits-text (w .datainfo) xs (w .fits)
+module _ (out : List ℕ) (k h : ℕ) (m a : List ℕ) (t : ℕ) (g : Settable out k h m a t) (table : List ℕ) (info : ℕ) (values xs : List ℕ)
+    (w : Accepts table info values xs) where
+  abbrev read : Option (Datainfo × List ℕ)
+  read = datainfoIn 4 (drop info table)
 
-  pub set-room : 256 * k + length (storedForm xs) ≤ length values
-  set-room =
-      let low = g .low in
-      let area = w .area in
-      form-room (w .datainfo) xs values (256 * k) (w .fits) (omega arith)
+  pub set-fits : FitsAt table info xs
+  set-fits = w .fitting
 
-  module _ (after : List ℕ) (r : ℕ) (x : Puts values (256 * k) (storedForm xs) after r) where
+  pub set-room : 256 * k + 256 ≤ length values
+  set-room = let low = g .low in let area = w .area in omega arith
+
+  module _ (after : List ℕ) (r : ℕ) (x : PutsForm read xs values (256 * k) after r) where
     pub set-within : r ≤ length after
-    set-within = let z = x .ends in let l = puts-length x in let y = set-room in omega arith
+    set-within = let l = puts-length (x .is (w .fitting .reads .is)) in let s = x .short in let y = set-room in omega arith
 
-    value-is : take (r - 256 * k) (drop (256 * k) after) ≡ storedForm xs
-    value-is = stands x (let l = puts-length x in let y = set-within in omega arith)
+    -- by the datainfo that is read
+    module _ {d : Datainfo} {y : List ℕ} (e : read ≡ some (d, y)) where
+      value-is : take (r - 256 * k) (drop (256 * k) after) ≡ storedForm d xs
+      value-is = let p = x .is e in stands p (let l = puts-length p in let z = set-within in omega arith)
 
     pub value-settable : Settable out k h m a t × (length (take (r - 256 * k) (drop (256 * k) after)) ≤ 256)
-    value-settable = (g, rw value-is (stored-short (w .datainfo) xs (w .fits)))
+    value-settable = (g, rw (value-is (w .fitting .reads .is)) (stored-short (w .fitting .reads .datainfo) xs (w .fitting .fits)))
 
     pub set-is : (s : Clients) (c : ℕ) (last : List ℕ) (written : ℕ)
         → Puts out 0 (encodeAll (setRecords s c k h (reportOf m a (take (r - 256 * k) (drop (256 * k) after)) t))) last written
-        → IsSet s c k h m a xs t values out (Stored k (r - 256 * k) written) after last
+        → IsSetBy read s c k h m a xs t values out (Stored k (r - 256 * k) written) after last
     unfolding withStored
-    set-is s c last written p =
-        let e = x .ends in
-        let size : r - 256 * k ≡ length (storedForm xs) = omega arith in
-        record {
-          written = written;
-          is = ap (λ (n : ℕ). Stored k n written) size;
-          area = x .is;
-          puts = rw value-is at p;
-        }
+    set-is s c last written p = record { is = λ e. by e }
+      where
+        by : {d : Datainfo} {y : List ℕ} → read ≡ some (d, y) → IsSet d s c k h m a xs t values out (Stored k (r - 256 * k) written) after last
+        by {d} e =
+            let f = x .is e .ends in
+            let size : r - 256 * k ≡ length (storedForm d xs) = omega arith in
+            record {
+              written = written;
+              is = ap (λ (n : ℕ). Stored k n written) size;
+              area = x .is e .is;
+              puts = rw (value-is e) at p;
+            }

@@ -3,12 +3,14 @@ use Prim.Native.Nat.{ℕ, _≤_, _<_}
 use mathlib.Core.Path.{_≡_}
 use mathlib.Core.Bool.{true}
 use mathlib.Core.List.{List, [], _∷_, _++_}
+use mathlib.Core.Option.{Option, some}
 use lib.ListN.{length}
 use Rattle.ascii.specs.Names.{isName}
 use Rattle.ascii.specs.Numbers.{latest}
 use Rattle.ascii.specs.Writer.{Puts}
 use Rattle.datainfo.specs.Datainfo.{Datainfo}
-use Rattle.fit.specs.Fit.{isFit, verdict, storedForm}
+use Rattle.fit.specs.Fit.{storedForm}
+use Rattle.form.specs.Formed.{FitsAt}
 use Rattle.message.specs.Reply.{Report, changed}
 use Rattle.message.specs.Said.{reportOf}
 use Rattle.outbox.specs.Outbox.{Record, final, orderChange, encodeAll}
@@ -31,15 +33,19 @@ pub record Settable (out : List ℕ) (k h : ℕ) (m a : List ℕ) (t : ℕ) : Ty
   pub inTime : t ≤ latest
   pub room : 32768 ≤ length out
 
--- a text that fits a datainfo, and a values area
-pub record Accepts (values xs : List ℕ) : Type 0 where
-  pub datainfo : Datainfo
-  pub fits : isFit (verdict datainfo xs) ≡ true
+-- a text that fits the datainfo at a position of the table, and a values area
+pub record Accepts (table : List ℕ) (info : ℕ) (values xs : List ℕ) : Type 0 where
+  pub fitting : FitsAt table info xs
   pub area : 16384 ≤ length values
 
--- r stands for a setting: the stored form is in the values area, and the records are in the outbox
-pub record IsSet (s : Clients) (c k h : ℕ) (m a xs : List ℕ) (t : ℕ) (values out : List ℕ) (r : Outcome) (stored after : List ℕ) : Type 0 where
+-- r stands for a setting: the stored form by the datainfo d is in the values area, and the records are in the outbox
+pub record IsSet (d : Datainfo) (s : Clients) (c k h : ℕ) (m a xs : List ℕ) (t : ℕ) (values out : List ℕ) (r : Outcome) (stored after : List ℕ) : Type 0 where
   pub written : ℕ
-  pub is : r ≡ Stored k (length (storedForm xs)) written
-  pub area : stored ≡ withStored values k (storedForm xs)
-  pub puts : Puts out 0 (encodeAll (setRecords s c k h (reportOf m a (storedForm xs) t))) after written
+  pub is : r ≡ Stored k (length (storedForm d xs)) written
+  pub area : stored ≡ withStored values k (storedForm d xs)
+  pub puts : Puts out 0 (encodeAll (setRecords s c k h (reportOf m a (storedForm d xs) t))) after written
+
+-- the same by the datainfo that o reads
+pub record IsSetBy (o : Option (Datainfo × List ℕ)) (s : Clients) (c k h : ℕ) (m a xs : List ℕ) (t : ℕ) (values out : List ℕ)
+    (r : Outcome) (stored after : List ℕ) : Type 0 where
+  pub is : {d : Datainfo} {x : List ℕ} → o ≡ some (d, x) → IsSet d s c k h m a xs t values out r stored after

@@ -6,13 +6,11 @@ ghost use Rattle.table.specs.Layout.{argumentAt};
 ghost use Rattle.table.specs.At.{ArgumentReadable};
 ghost use Rattle.fit.specs.Verdict.{meaning};
 ghost use Rattle.plain.specs.Answer.{argumentVerdict};
-ghost use Rattle.ascii.specs.Writer.{Puts};
-ghost use Rattle.outbox.specs.Outbox.{encode, encodeAll, orderCommand};
-ghost use Rattle.access.specs.Argument.{JudgesArgument, Ordered, Reported, formOf, orderRecords};
+ghost use Rattle.access.specs.Argument.{JudgesArgument, Ordered, Reported, PutsOrder, IsOrdered};
 use ascii::byte;
 use fit::Verdict;
 use fit::fit::verdict;
-use json::compact::put_compact;
+use form::put_form;
 use json::read::is_text;
 use json::read::spaces_end;
 use outbox::write::Told;
@@ -45,20 +43,30 @@ pub fn argument_verdict(table: &[u8], argument: bool, info: usize, text: &[u8]) 
 }
 
 // "the argument's stored form, or nothing where none is declared"
-fn put_order(out: &mut [u8], client: u8, k: usize, argument: bool, text: &[u8]) -> usize
-    requires { ⌜ Ordered (now out) k argument (now text) ⌝ }
-    ensures { λ r. ⌜ Puts (now (out .entry)) 0 (encode (orderCommand client k (formOf argument (now (text .entry))))) (now (out .exit)) r ⌝ }
+fn put_order(
+    table: &[u8],
+    info: usize,
+    out: &mut [u8],
+    client: u8,
+    k: usize,
+    argument: bool,
+    text: &[u8],
+) -> usize
+    requires { ⌜ Ordered (now table) info (now out) k argument (now text) ⌝ }
+    ensures { λ r. ⌜ PutsOrder (argumentAt argument (drop info (now (table .entry)))) client k (now (text .entry)) (now (out .entry)) (now (out .exit)) r ⌝ }
 {
     if !argument {
         return put_order_command(out, 0, client, k as u8, b"");
     }
     let mut form = [0u8; 256];
-    let size = put_compact(&mut form, 0, text);
+    let size = put_form(table, info, &mut form, 0, text);
     put_order_command(out, 0, client, k as u8, &form[..size])
 }
 
 // "the driver's order, then `done M:C [null,{"t":now}]`"
 pub fn order(
+    table: &[u8],
+    info: usize,
     out: &mut [u8],
     client: u8,
     time: u64,
@@ -68,9 +76,9 @@ pub fn order(
     name: &[u8],
     text: &[u8],
 ) -> usize
-    requires { ⌜ Ordered (now out) k argument (now text) × Reported (now «module») (now name) time ⌝ }
-    ensures { λ r. ⌜ Puts (now (out .entry)) 0 (encodeAll (orderRecords client k (formOf argument (now (text .entry))) (now («module» .entry)) (now (name .entry)) time)) (now (out .exit)) r ⌝ }
+    requires { ⌜ Ordered (now table) info (now out) k argument (now text) × Reported (now «module») (now name) time ⌝ }
+    ensures { λ r. ⌜ IsOrdered (argumentAt argument (drop info (now (table .entry)))) client k (now (text .entry)) (now («module» .entry)) (now (name .entry)) time (now (out .entry)) (now (out .exit)) r ⌝ }
 {
-    let told = put_order(out, client, k, argument, text);
+    let told = put_order(table, info, out, client, k, argument, text);
     put_final_report(out, told, client, Told::Done, module, name, b"null", time)
 }

@@ -83,6 +83,8 @@ pub fn change(
     let info = p.info;
     match verdict(table, info, text) {
         Verdict::Fits => set(
+            table,
+            info,
             values,
             out,
             clients,
@@ -122,7 +124,18 @@ pub fn execute(
     let argument = c.argument;
     let info = c.info;
     match argument_verdict(table, argument, info, text) {
-        Verdict::Fits => Outcome::Sent(order(out, client, time, k, argument, module, name, text)),
+        Verdict::Fits => Outcome::Sent(order(
+            table,
+            info,
+            out,
+            client,
+            time,
+            k,
+            argument,
+            module,
+            name,
+            text,
+        )),
         Verdict::RangeError => Outcome::Refused(Class::RangeError),
         Verdict::WrongType => Outcome::Refused(Class::WrongType),
         Verdict::BadJson => Outcome::Refused(Class::BadJSON),

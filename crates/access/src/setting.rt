@@ -1,11 +1,12 @@
 // A parameter is set by a client.
 ghost use Prim.Native.Nat.{_≤_};
-ghost use lib.ListN.{length};
+ghost use lib.ListN.{length, drop};
 ghost use Rattle.ascii.specs.Writer.{Puts};
+ghost use Rattle.datainfo.specs.Layout.{datainfoIn};
 ghost use Rattle.message.specs.Said.{reportOf};
 ghost use Rattle.outbox.specs.Outbox.{encodeAll};
-ghost use Rattle.access.specs.Set.{Settable, Accepts, IsSet, setRecords};
-use json::compact::put_compact;
+ghost use Rattle.access.specs.Set.{Settable, Accepts, IsSetBy, setRecords};
+use form::put_form;
 use outbox::write::Told;
 use outbox::write::put_final_report;
 use outbox::write::put_order_change;
@@ -35,6 +36,8 @@ fn put_set(
 
 // "An accepted setting writes its stored form ..": to the front of the parameter's place in the values area, and then the records.
 pub fn set(
+    table: &[u8],
+    info: usize,
     values: &mut [u8],
     out: &mut [u8],
     clients: Clients,
@@ -46,11 +49,11 @@ pub fn set(
     name: &[u8],
     text: &[u8],
 ) -> Outcome
-    requires { ⌜ Settable (now out) k home (now «module») (now name) time × Accepts (now values) (now text) ⌝ }
-    ensures { λ r. ⌜ IsSet clients client k home (now («module» .entry)) (now (name .entry)) (now (text .entry)) time (now (values .entry)) (now (out .entry)) r (now (values .exit)) (now (out .exit)) ⌝ }
+    requires { ⌜ Settable (now out) k home (now «module») (now name) time × Accepts (now table) info (now values) (now text) ⌝ }
+    ensures { λ r. ⌜ IsSetBy (datainfoIn 4 (drop info (now (table .entry)))) clients client k home (now («module» .entry)) (now (name .entry)) (now (text .entry)) time (now (values .entry)) (now (out .entry)) r (now (values .exit)) (now (out .exit)) ⌝ }
 {
     let at = 256 * k;
-    let end = put_compact(values, at, text);
+    let end = put_form(table, info, values, at, text);
     let value = &values[at..end];
     let written = put_set(out, clients, client, time, k, home, module, name, value);
     Outcome::Stored(k, end - at, written)

@@ -8,13 +8,14 @@ use mathlib.Core.Option.{Option, none, some}
 use lib.ListN.{length, drop}
 use lib.Dec.{eqb, leb}
 use borrow.Author.Tests.{eq-eqb}
+use Rattle.ascii.proofs.Lists.{same-self}
 use Rattle.ascii.specs.Bytes.{isSome, isSpace, same}
 use Rattle.ascii.specs.Reader.{Left}
-use Rattle.json.specs.Json.{Json, skip, bare, value, text, compact}
+use Rattle.json.specs.Json.{Json, skip, bare, value, text, compact, compactOf, compactText}
 use Rattle.json.proofs.Strip.{insideAfter, escapedAfter, strip, strip-short}
-use Rattle.json.proofs.Copied.{stripped-form}
+use Rattle.json.proofs.Copied.{stripped-text}
 use Rattle.datainfo.specs.Datainfo.{Datainfo}
-use Rattle.fit.specs.Fit.{badJSON, severity, inRange, worse, valueVerdict, verdictOf, verdict, storedOf, storedForm, isFit, isStored}
+use Rattle.fit.specs.Fit.{badJSON, severity, inRange, worse, valueVerdict, verdictOf, verdict, formOf, storedForm, isFit, isStored}
 use Rattle.fit.specs.Verdict.{meaning, Judges, JudgesText, TellsStored}
 use Rattle.fit.specs.declared.Verdict.{Verdict}
 use Rattle.fit.specs.declared.Verdict.the-variants.{BadJson}
@@ -32,6 +33,15 @@ text-value {S} xs {j} e f = steps (value 8 xs) _ e λ p a e. go (eqb (length (p 
     go true p a e = f (p .1) (a ∙ ap (λ j. some (j, p .1)) (just e))
     go false p a e = absurd (nothing e)
 
+-- the stored form is the compact text
+pub form-compact : (d : Datainfo) (xs : List ℕ) → storedForm d xs ≡ compactText xs
+unfolding storedForm formOf compactText compactOf
+form-compact d xs = go (text xs)
+  where
+    go : (o : Option Json) → formOf d o ≡ compactOf o
+    go none = refl
+    go (some v) = refl
+
 pub told-text : (v : List ℕ) (t : Bool) → t ≡ isSome (text v) → t ≡ true → isSome (text v) ≡ true
 told-text v t g z = sym g ∙ z
 
@@ -44,9 +54,9 @@ module _ (o : Option (Datainfo × List ℕ)) (v : List ℕ) (t : Bool) (g : t �
       go d none e = refl
       go d (some j) e = absurd (let z : _≡_ {A = ℕ} 0 1 = cc in omega arith)
 
-  pub verdict-good : t ≡ true → (n p : ℕ) (a b r : Verdict) → n ≡ length (storedForm v) → Left v p (skip (drop 0 v)) → Judges o (bare 8 (drop p v)) a → meaning b ≡ inRange (leb n 256)
+  pub verdict-good : t ≡ true → (n p : ℕ) (a b r : Verdict) → n ≡ length (compactText v) → Left v p (skip (drop 0 v)) → Judges o (bare 8 (drop p v)) a → meaning b ≡ inRange (leb n 256)
       → meaning r ≡ worse (meaning a) (meaning b) → JudgesText o v r
-  unfolding verdict verdictOf valueVerdict storedForm storedOf
+  unfolding verdict verdictOf valueVerdict formOf compactText compactOf
   verdict-good z n p a b r c l m h k = record { is = λ e. go e (text v) refl (sym g ∙ z) }
     where
       go : {d : Datainfo} {x : List ℕ} → o ≡ some (d, x) → (q : Option Json) → text v ≡ q → isSome q ≡ true → meaning r ≡ verdictOf d q
@@ -69,11 +79,6 @@ strip-same (b ∷ bs) i e h =
     go true k next s f h = ap (λ z. b ∷ z) (f (omega arith))
     go false true next s f h = absurd (omega arith)
     go false false next s f h = ap (λ z. b ∷ z) (f (omega arith))
-
-same-self : (xs : List ℕ) → same xs xs ≡ true
-unfolding same
-same-self [] = refl
-same-self (x ∷ xs) = rw (eq-eqb x x refl) (same-self xs)
 
 same-long : (xs ys : List ℕ) → (length xs ≡ length ys → ⊥) → same xs ys ≡ false
 unfolding same
@@ -103,23 +108,23 @@ module _ (o : Option (Datainfo × List ℕ)) (v : List ℕ) (t : Bool) (g : t �
       go d none f e = rw f
       go d (some j) f e = absurd (let z : _≡_ {A = ℕ} 0 1 = cc in omega arith)
 
-  module _ (z : t ≡ true) (n : ℕ) (c : n ≡ length (storedForm v)) where
+  module _ (z : t ≡ true) (n : ℕ) (c : n ≡ length (compactText v)) where
     pub stored-short : (n ≡ length v → ⊥) → TellsStored o v false
     unfolding isStored
     stored-short h = record { is = λ e. go _ }
       where
         go : (d : Datainfo) → false ≡ isStored d v
-        go d = rw (same-long (storedForm v) v (λ z. h (c ∙ z))) (and-false (isFit (verdict d v)))
+        go d = rw (same-long (storedForm d v) v (λ z. h (c ∙ ap length (sym (form-compact d v)) ∙ z))) (and-false (isFit (verdict d v)))
 
     pub stored-whole : n ≡ length v → (a : Verdict) (b : Bool) → JudgesText o v a → b ≡ isFit (meaning a) → TellsStored o v b
     unfolding isStored
     stored-whole h a b m k = record { is = λ e. k ∙ ap isFit (m .is e) ∙ go _ }
       where
-        whole : storedForm v ≡ v
-        whole = let s = stripped-form v (sym g ∙ z) in sym s ∙ strip-same v false false (ap length s ∙ sym c ∙ h)
+        whole : (d : Datainfo) → storedForm d v ≡ v
+        whole d = let s = stripped-text v (sym g ∙ z) in form-compact d v ∙ sym s ∙ strip-same v false false (ap length s ∙ sym c ∙ h)
 
         go : (d : Datainfo) → isFit (verdict d v) ≡ isStored d v
-        go d = rw (whole, same-self v) (and-true (isFit (verdict d v)))
+        go d = rw (whole d, same-self v) (and-true (isFit (verdict d v)))
 
 pub fit-is : (a : Verdict) (n : ℕ) → n ≡ severity (meaning a) → eqb n 0 ≡ isFit (meaning a)
 unfolding isFit

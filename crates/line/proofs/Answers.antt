@@ -28,7 +28,7 @@ use Rattle.plain.specs.Node.{Node, Setting, clientNumbers}
 use Rattle.plain.specs.Answer as Plain
 use Rattle.plain.specs.Answer.{refused, carried, settingsOf, outcome, conclude, answerParts, partsSet}
 use Rattle.sound.proofs.Accepted.{accepted}
-use Rattle.sound.proofs.Values.{short-stored}
+use Rattle.form.proofs.Stored.{short-stored}
 use Rattle.state.specs.declared.Clients.{Clients}
 use Rattle.state.specs.declared.Settings.{Settings}
 use Rattle.state.specs.declared.State.{State}

@@ -85,7 +85,7 @@ pub record Kinds (w : Table) (m n : Node) (c now : ℕ) (Q : Request → Outcome
   pub deactivating : (s : Option (List ℕ)) (wanted : ℕ → Bool) → Scope w s wanted
       → Q (deactivate s) (deactivates w m c now wanted s) (deactivates w n c now wanted s)
   pub setting : (k : ℕ × Placed Parameter) (v : List ℕ) → LetIn w k v
-      → Q (change (k .1 .moduleName) (k .1 .it .name) v) (sets w m c now k (storedForm v)) (sets w n c now k (storedForm v))
+      → Q (change (k .1 .moduleName) (k .1 .it .name) v) (sets w m c now k (storedForm (k .1 .it .datainfo) v)) (sets w n c now k (storedForm (k .1 .it .datainfo) v))
   pub doing : (k : ℕ × Placed Command) (v : List ℕ) → Allowed w k v
       → Q (execute (k .1 .moduleName) (k .1 .it .name) v) (ordering m c now k v) (ordering n c now k v)
 

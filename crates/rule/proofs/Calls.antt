@@ -71,8 +71,8 @@ pub data Did (w : Table) (n : Node) : Event → Node → List Record → Type 0 
   received : {c : ℕ} {bs : List ℕ} {t : ℕ} → hasFeed bs ≡ false → Did w n (Piece c bs t) (withClient n c (receive (n .clients c) (beforeFeed bs))) []
   read : {k : ℕ} {bs : List ℕ} {t : ℕ} (p : Placed Parameter) → getElem? (parameters w) k ≡ some p
       → verdict (p .it .datainfo) bs ≡ fits
-      → Did w n (Reading k bs t) (withValue n k (showing (storedForm bs) t))
-      (updatesTo (n .clients) (p .home) (reportOf p (showing (storedForm bs) t)) clientNumbers)
+      → Did w n (Reading k bs t) (withValue n k (showing (storedForm (p .it .datainfo) bs) t))
+      (updatesTo (n .clients) (p .home) (reportOf p (showing (storedForm (p .it .datainfo) bs) t)) clientNumbers)
   line : {c : ℕ} {bs : List ℕ} {t : ℕ} {m : Node} {rs : List Record} → hasFeed bs ≡ true → Answered w n c bs t m rs
       → Did w n (Piece c bs t) m rs
 

@@ -79,7 +79,7 @@ found-some e (some a) o h = refl
 
 module _ (w : Table) (n : Node) (c t : ℕ) where
   good-set : (m a v : List ℕ) (k : ℕ × Placed Parameter) → findParameter w m a ≡ some k → k .1 .it .readonly ≡ false
-      → verdict (k .1 .it .datainfo) v ≡ fits → outcome w n c t (change m a v) ≡ sets w n c t k (storedForm v)
+      → verdict (k .1 .it .datainfo) v ≡ fits → outcome w n c t (change m a v) ≡ sets w n c t k (storedForm (k .1 .it .datainfo) v)
   unfolding outcome changes found letIn
   good-set m a v k e o f = found-some NoSuchModule (findModule w m) _ (parameter-module w m a k e) ∙ rw (e, o, f) refl
 
@@ -121,7 +121,7 @@ comes-to {w} {n} {m} {rs} {c} {bs} {t} h q x e f =
 
 pub good-changes-are-made : GoodChangesAreMade
 good-changes-are-made table n c m x v k p e r g bs t l z f q =
-    answered-change _ n _ c t (k, p) (storedForm v) _ (parameter-there _ m x (k, p) e) bs
+    answered-change _ n _ c t (k, p) (storedForm (p .it .datainfo) v) _ (parameter-there _ m x (k, p) e) bs
     (ended-line (accepted-call table n (record { event = Piece c bs t; lent = l }) z) f)
     (ap (outcome _ (idle n c) c t) q ∙ good-set _ (idle n c) c t m x v (k, p) e r g)
 

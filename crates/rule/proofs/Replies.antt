@@ -76,7 +76,7 @@ reading-replies : (n : Node) (k : ℕ) (o : Option (Placed Parameter)) (bs : Lis
 unfolding readingEffect repliesFor
 reading-replies n k none bs t d = refl
 reading-replies n k (some p) bs t d =
-    let r : Report = reportOf p (showing (storedForm bs) t) in
+    let r : Report = reportOf p (showing (storedForm (p .it .datainfo) bs) t) in
     ap
     length
     (no-final-replies

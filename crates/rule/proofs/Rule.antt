@@ -85,7 +85,7 @@ set-sent w n m k p v rs t e u =
 reading-sets : {w : Table} {n m : Node} {rs : List Record} {k : ℕ} {bs : List ℕ} {t : ℕ} → Did w n (Reading k bs t) m rs
     → ReadingSets w n m k bs t rs
 reading-sets {w} {n} {k = k} {bs} {t} (read p q f) =
-    let v : Value = showing (storedForm bs) t in
+    let v : Value = showing (storedForm (p .it .datainfo) bs) t in
     record {
       p = p;
       fitting = f;
@@ -102,8 +102,8 @@ record Changing (w : Table) (n : Node) (c now : ℕ) (q : Request) (o : Outcome)
   v : List ℕ
   asked : q ≡ change (k .1 .moduleName) (k .1 .it .name) v
   let-in : LetIn w k v
-  tells : r ≡ reportOf (k .1) (showing (storedForm v) now)
-  is : o ≡ sets w n c now k (storedForm v)
+  tells : r ≡ reportOf (k .1) (showing (storedForm (k .1 .it .datainfo) v) now)
+  is : o ≡ sets w n c now k (storedForm (k .1 .it .datainfo) v)
 
 changed-is : (x y : Report) → changed x ≡ changed y → x ≡ y
 changed-is x y e = cc
@@ -129,9 +129,9 @@ changing w n c now p =
       doing = λ k v h r e. apart (changed r) _ (λ z. omega arith) e;
     })
   where
-    set-tells : (k : ℕ × Placed Parameter) (v : List ℕ) (r : Report) → changed r ≡ replyTo p (sets w n c now k (storedForm v))
-        → r ≡ reportOf (k .1) (showing (storedForm v) now)
-    set-tells k v r e = changed-is r _ (e ∙ sets-reply w n c now p k (storedForm v))
+    set-tells : (k : ℕ × Placed Parameter) (v : List ℕ) (r : Report) → changed r ≡ replyTo p (sets w n c now k (storedForm (k .1 .it .datainfo) v))
+        → r ≡ reportOf (k .1) (showing (storedForm (k .1 .it .datainfo) v) now)
+    set-tells k v r e = changed-is r _ (e ∙ sets-reply w n c now p k (storedForm (k .1 .it .datainfo) v))
 
 no-updates : (d : ℕ) (rs : List Record) (c : ℕ) (r : Reply) → updatesFor d (rs ++ (final c r ∷ [])) ≡ updatesFor d rs
 unfolding updatesFor
@@ -192,7 +192,7 @@ changed-line {w} {n} {m} {rs} {c} r (line-of {bs = bs} {t = t} h q) =
       writable = g .let-in .writable;
       fitting = g .let-in .fitting;
       tells = g .tells;
-      changed = answered-change w n m c t (g .k) (storedForm (g .v)) rs (g .let-in .there) bs h (g .is);
+      changed = answered-change w n m c t (g .k) (storedForm (g .k .1 .it .datainfo) (g .v)) rs (g .let-in .there) bs h (g .is);
     })
 
 pub changes-are-sent-to-all : ChangesAreSentToAll
@@ -212,7 +212,7 @@ alters w n c now p =
       telling = λ q f h. inl refl;
       activating = λ m f h. inl refl;
       deactivating = λ m f h. inl refl;
-      setting = λ k v h. inr (reportOf (k .1) (showing (storedForm v) now), sets-reply w n c now p k (storedForm v));
+      setting = λ k v h. inr (reportOf (k .1) (showing (storedForm (k .1 .it .datainfo) v) now), sets-reply w n c now p k (storedForm (k .1 .it .datainfo) v));
       doing = λ k v h. inl refl;
     })
 
@@ -469,8 +469,8 @@ to-actives w n c now o =
       deactivating = λ m f h d r l. absurd (List·Memᴰ·not-nil l);
       setting = λ k v h d r l.
           ⊎-elim
-          (λ e. absurd (not-update d r (orderChange c (k .0) (storedForm v)) refl e))
-          (λ m. set-active w n (k .0) (k .1) (showing (storedForm v) now) (h .there) d r m)
+          (λ e. absurd (not-update d r (orderChange c (k .0) (storedForm (k .1 .it .datainfo) v)) refl e))
+          (λ m. set-active w n (k .0) (k .1) (showing (storedForm (k .1 .it .datainfo) v) now) (h .there) d r m)
           (List·Memᴰ·cases-cons l);
       doing = λ k v h d r l. absurd (not-update d r _ refl (List·Memᴰ·eq-of-singleton l));
     })
@@ -492,7 +492,7 @@ did-active opened d r k = absurd (List·Memᴰ·not-nil k)
 did-active shut d r k = absurd (List·Memᴰ·not-nil k)
 did-active (received f) d r k = absurd (List·Memᴰ·not-nil k)
 did-active {w} {n} (read {k = i} {bs = bs} {t = t} p q f) d r k =
-    set-active w n i p (showing (storedForm bs) t) q d r k
+    set-active w n i p (showing (storedForm (p .it .datainfo) bs) t) q d r k
 did-active {w} {n} (line {c = c} {bs = bs} {t = t} {m = m} {rs = rs} f h) d r k = line-active w n m c bs t rs h d r k
 
 pub updates-go-to-active-clients : UpdatesGoToActiveClients

@@ -52,8 +52,8 @@ pub record Set (w : Table) (n m : Node) (k : ℕ) (p : Placed Parameter) (v : Va
 pub record ReadingSets (w : Table) (n m : Node) (k : ℕ) (bs : List ℕ) (t : ℕ) (rs : List Record) : Type 0 where
   pub p : Placed Parameter
   pub fitting : verdict (p .it .datainfo) bs ≡ fits
-  pub set : Set w n m k p (showing (storedForm bs) t) rs
-  pub records : rs ≡ updatesTo (n .clients) (p .home) (reportOf p (showing (storedForm bs) t)) clientNumbers
+  pub set : Set w n m k p (showing (storedForm (p .it .datainfo) bs) t) rs
+  pub records : rs ≡ updatesTo (n .clients) (p .home) (reportOf p (showing (storedForm (p .it .datainfo) bs) t)) clientNumbers
 
 abbrev pub ReadingsAreSentToAll : Type 0
 ReadingsAreSentToAll = (table : List ℕ) (n : Node) (k : ℕ) (bs : List ℕ) (t : ℕ) (lent : Lent)
@@ -82,8 +82,8 @@ pub record ChangeSets (w : Table) (n m : Node) (c : ℕ) (bs : List ℕ) (t : �
   pub asked : requestOf n c bs ≡ change (p .moduleName) (p .it .name) offered
   pub writable : p .it .readonly ≡ false
   pub fitting : verdict (p .it .datainfo) offered ≡ fits
-  pub tells : r ≡ reportOf p (showing (storedForm offered) t)
-  pub changed : Changed w n m c k p (showing (storedForm offered) t) rs
+  pub tells : r ≡ reportOf p (showing (storedForm (p .it .datainfo) offered) t)
+  pub changed : Changed w n m c k p (showing (storedForm (p .it .datainfo) offered) t) rs
 
 -- what holds of a piece of client c, by its bytes and its time
 pub data OfPiece (c : ℕ) (P : List ℕ → ℕ → Type 0) : Event → Type 0 where
@@ -103,7 +103,7 @@ WhenAsked table n c q P = (bs : List ℕ) (t : ℕ) (lent : Lent) → let r = st
 abbrev pub GoodChangesAreMade : Type 0
 GoodChangesAreMade = (table : List ℕ) (n : Node) (c : ℕ) (m x offered : List ℕ) (k : ℕ) (p : Placed Parameter)
     → findParameter (tableOf table) m x ≡ some (k, p) → p .it .readonly ≡ false → verdict (p .it .datainfo) offered ≡ fits
-    → WhenAsked table n c (change m x offered) λ t y rs. Changed (tableOf table) n y c k p (showing (storedForm offered) t) rs
+    → WhenAsked table n c (change m x offered) λ t y rs. Changed (tableOf table) n y c k p (showing (storedForm (p .it .datainfo) offered) t) rs
 
 -- No other call alters a value: of a call that alters one, either it is an accepted reading, or its line was replied to by `changed`.
 pub data BySetting : Event → Answer → Type 0 where

@@ -104,7 +104,7 @@ module _ (w : Table) where
           ≡ (weave (readingEffect n p o bs t .next) s, readingEffect n p o bs t .records)
       go none = refl
       go (some q) =
-          let x : Value = showing (storedForm bs) t in
+          let x : Value = showing (storedForm (q .it .datainfo) bs) t in
           λ i. (weave (withValue n p x) s, updates-woven (n .clients) s (q .home) (reportOf q x) clientNumbers i)
 
   -- the lines that are seen

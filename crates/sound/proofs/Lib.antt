@@ -1,6 +1,5 @@
 pub mod Lists
 pub mod Accepted
-pub mod Values
 pub mod Room
 pub mod Records
 pub mod Lines

@@ -13,6 +13,7 @@ use Rattle.ascii.specs.Bytes.{all}
 use Rattle.ascii.specs.Numbers.{latest}
 use Rattle.datainfo.specs.Datainfo.{Datainfo}
 use Rattle.fit.specs.Fit.{Verdict, fits, severity, verdict, storedForm, isFit}
+use Rattle.form.proofs.Stored.{stored, stored-short, short-stored}
 use Rattle.message.specs.Line.{Parts, content, partsOf}
 use Rattle.message.specs.Request.{Request, request}
 use Rattle.message.specs.Reply.{Reply, identification, pong, active, inactive, reply, changed, done, error}
@@ -33,7 +34,6 @@ use Rattle.plain.proofs.Outcomes.{Tells, by-identify, by-describe, by-ping, by-
 use Rattle.sound.specs.Theorems.{ValueHeld, Sound}
 use Rattle.sound.proofs.Lists.{each-at}
 use Rattle.sound.proofs.Accepted.{Accepted, GoodParameter, GoodCommand, client-low, time-low}
-use Rattle.sound.proofs.Values.{stored, stored-short, short-stored}
 use Rattle.sound.proofs.Records.{Fine, Says, says-within, says-identification, says-describing, says-pong, says-active, says-inactive, says-reply, says-changed, says-done, says-error, Written, written-none, written-one, written-append, written-within, written-final, written-to, written-of}
 use Rattle.sound.proofs.Lines.{before-feed, received, content-short, ShortWord, parts-words, Asked, asked}
 use Rattle.sound.proofs.Held.{with-client, with-value, line-held, emptied-held, more-active, less-active}
@@ -68,7 +68,7 @@ module _ (w : Table) (a : Accepted w) (n : Node) (s : Sound w n) where
   module _ (k : ℕ) (p : Placed Parameter) (e : getElem? (parameters w) k ≡ some p) (bs : List ℕ)
       (f : isFit (verdict (p .it .datainfo) bs) ≡ true) (t : ℕ) (h : t ≤ latest) where
     abbrev new : Value
-    new = showing (storedForm bs) t
+    new = showing (storedForm (p .it .datainfo) bs) t
 
     new-value : ValueHeld (p .it) new
     new-value = (stored (p .it .datainfo) bs f, h)
@@ -124,17 +124,17 @@ module _ (w : Table) (a : Accepted w) (n : Node) (s : Sound w n) where
     unfolding reads
     comes-reads k e = comes-tells _ _ (by-read k e) tt
 
-    comes-sets : (k : ℕ × Placed Parameter) (v : List ℕ) → LetIn w k v → Comes w c (sets w n c t k (storedForm v))
+    comes-sets : (k : ℕ × Placed Parameter) (v : List ℕ) → LetIn w k v → Comes w c (sets w n c t k (storedForm (k .1 .it .datainfo) v))
     unfolding sets body
     comes-sets k v i =
         let f = fit-is (verdict (k .1 .it .datainfo) v) (i .fitting) in
         let e = i .there in
-        let x : Value = showing (storedForm v) t in
+        let x : Value = showing (storedForm (k .1 .it .datainfo) v) t in
         let r = reportOf (k .1) x in
-        let order = orderChange c (k .0) (storedForm v) in
+        let order = orderChange c (k .0) (storedForm (k .1 .it .datainfo) v) in
         let updates = updatesTo (n .clients) (k .1 .home) r clientNumbers in
         let told = written-one order 262 tt (omega (arith, stored-short (k .1 .it .datainfo) v f)) in
-        comes (withValue n (k .0) x) (record { parameter = k .0; text = storedForm v; time = t } ∷ []) (order ∷ updates) (changed r) 3622 415
+        comes (withValue n (k .0) x) (record { parameter = k .0; text = storedForm (k .1 .it .datainfo) v; time = t } ∷ []) (order ∷ updates) (changed r) 3622 415
         (new-node (k .0) (k .1) e v f t h)
         (written-append (order ∷ []) updates 262 3360 told (new-updates (k .0) (k .1) e v f t h))
         (says-changed r (fine (k .0) (k .1) e x (new-value (k .0) (k .1) e v f t h)))

@@ -9,17 +9,17 @@ use lib.ListN.{length, getElem?, length-set}
 use lib.Seq.{length-sets}
 use Rattle.ascii.specs.Numbers.{latest}
 use Rattle.fit.specs.Fit.{isStored}
+use Rattle.form.proofs.Stored.{short-stored, some-stored}
 use Rattle.table.specs.Table.{Parameter, Table}
 use Rattle.table.specs.Layout.{tableOf}
 use Rattle.table.specs.Search.{Placed, parameters}
 use Rattle.plain.specs.Node.{Node, Setting, settingValue, withValue, withSettings}
 use Rattle.sound.proofs.Lists.{there-low}
-use Rattle.sound.proofs.Values.{short-stored}
 use Rattle.state.specs.declared.Settings.{Settings}
 use Rattle.state.specs.declared.State.{State}
 use Rattle.state.specs.View.{view, withStored, withLength, areaWith, settingsWith, nextSettings}
 use Rattle.state.specs.Fit.{settingsUnfit}
-use Rattle.state.proofs.Settled.{Sized, some-stored, stored-fit}
+use Rattle.state.proofs.Settled.{Sized, stored-fit}
 use Rattle.state.proofs.Views.{value-view}
 
 -- a setting of a parameter that is there, to a stored form that fits it, at a time within the limit

@@ -3,7 +3,7 @@ use Prim.Native.Nat.{ℕ, zero, suc, _+_, _*_, _-_, _≤_, _<_}
 use native.Mathlib.Nat.{add-zero, add-suc, suc-add, zero-add}
 use native.Mathlib.Omega.{arith}
 use mathlib.Core.Path.{_≡_, refl, sym, ap, subst, _∙_}
-use mathlib.Core.Bool.{Bool, true, false, cond, not, _&&_, _||_, false≢true}
+use mathlib.Core.Bool.{Bool, true, false, cond, not, _&&_, _||_}
 use mathlib.Core.List.{List, [], _∷_}
 use mathlib.Core.Option.{Option, none, some}
 use lib.Dec.{eqb, ltb}
@@ -13,11 +13,7 @@ use borrow.Author.Tests.{eqb-true, eqb-false, ne-eqb, ltb-false, le-ltb}
 use denote.Shadow.{shadow}
 use mir.Val.{Val}
 use Rattle.ascii.specs.Numbers.{latest}
-use Rattle.ascii.specs.Bytes.{head, dropWhile, isIn}
-use Rattle.decimal.specs.Token.{digits, minus, int, number}
-use Rattle.json.specs.Json.{text, spaced, bare, scalar}
-use Rattle.datainfo.specs.Datainfo.{Datainfo}
-use Rattle.fit.specs.Fit.{isStored, isFit, severity, verdict, verdictOf}
+use Rattle.fit.specs.Fit.{isStored}
 use Rattle.table.specs.Table.{Parameter}
 use Rattle.table.specs.Search.{Placed}
 use Rattle.table.specs.declared.layout.Part.{Part}
@@ -87,12 +83,6 @@ fit-parts s values p x h =
     let a = neither (ltb 256 n || (not (eqb n 0) && not (isStored (x .it .datainfo) (storedText s values p)))) _ h in
     let b = neither (ltb 256 n) _ (a .0) in
     record { short = ltb-false 256 n (b .0); form = b .1; inTime = ltb-false latest (getD (s .time) p 0) (a .1) }
-
--- a stored value is at least a byte
-pub some-stored : (d : Datainfo) (xs : List ℕ) → isStored d xs ≡ true → 0 < length xs
-unfolding isStored isFit severity verdict verdictOf text spaced bare scalar head dropWhile number int minus digits isIn
-some-stored d [] h = absurd (false≢true h)
-some-stored d (x ∷ xs) h = omega arith
 
 -- ## A value is stored
 

@@ -6,20 +6,21 @@ use fit::Verdict;
 use libc::STDIN_FILENO;
 use libc::STDOUT_FILENO;
 ghost use Rattle.datainfo.specs.Layout.{ReadableAt};
+ghost use Rattle.form.specs.Formed.{FitsAt};
 
 fn number(high: u8, low: u8) -> usize {
     high as usize * 256 + low as usize
 }
 
-// A text that fits is JSON and has a short stored form, so both tests pass.
-fn write_fit(text: &[u8], stored: &mut [u8]) {
-    if json::read::is_text(text) {
-        if json::compact::compact_length(text) <= stored.len() {
-            let n = json::compact::put_compact(stored, 0, text);
-            io::write_all(STDOUT_FILENO, b"fits ");
-            io::write_all(STDOUT_FILENO, &stored[..n]);
-            io::write_all(STDOUT_FILENO, b"\n");
-        }
+// The buffer has room for the 256 bytes of a stored form, so the test passes.
+fn write_fit(info: &[u8], text: &[u8], stored: &mut [u8])
+    requires { ⌜ FitsAt (now info) 0 (now text) ⌝ }
+{
+    if 256 <= stored.len() {
+        let n = form::put_form(info, 0, stored, 0, text);
+        io::write_all(STDOUT_FILENO, b"fits ");
+        io::write_all(STDOUT_FILENO, &stored[..n]);
+        io::write_all(STDOUT_FILENO, b"\n");
     }
 }
 
@@ -28,7 +29,7 @@ fn write_verdict(info: &[u8], text: &[u8], stored: &mut [u8])
 {
     match fit::fit::verdict(info, 0, text) {
         Verdict::Fits => {
-            write_fit(text, stored);
+            write_fit(info, text, stored);
         }
         Verdict::RangeError => {
             io::write_all(STDOUT_FILENO, b"RangeError\n");

@@ -1,18 +1,11 @@
 -- `values::write_fit` is safe: the stored form was written where it has room. Assumes nothing.
 use borrow.Author.Needs.{needs}
-use Rattle.fit.proofs.Stored.{told-text}
 use Rattle.values.proofs.Cases.{form-within, form-length}
 use Rattle.values.proofs.write_fit.Statement.{statement}
 use Rattle.values.proofs.write_fit.Tie as tie
 
-is-text-requires : tie.Need-is-text-requires
-is-text-requires c κs = search needs
-
-compact-length-requires : tie.Need-compact-length-requires
-compact-length-requires c κs = search told-text
-
-put-compact-requires : tie.Need-put-compact-requires
-put-compact-requires c κs = (search told-text, search needs)
+put-form-requires : tie.Need-put-form-requires
+put-form-requires c κs = search needs
 
 slice-aggregate-write-all : tie.Need-slice-aggregate-write-all
 slice-aggregate-write-all c = search needs
@@ -44,16 +37,11 @@ returns c = search needs
 returns-2 : tie.Need-returns-2
 returns-2 c = search needs
 
-returns-3 : tie.Need-returns-3
-returns-3 c = search needs
-
 pub write-fit-spec : {M : Type 1} → statement M
 write-fit-spec =
     tie.close
     (tie.spec
-    is-text-requires
-    compact-length-requires
-    put-compact-requires
+    put-form-requires
     slice-aggregate-write-all
     write-all-requires
     slice-reshare-prefix-write-all
@@ -63,5 +51,4 @@ write-fit-spec =
     write-all-requires-3
     same-length
     returns
-    returns-2
-    returns-3)
+    returns-2)

@@ -1,15 +1,15 @@
 -- `accepted::readings::take_reading` meets its contract. Assumes nothing.
 use borrow.Author.Needs.{needs}
 use Rattle.state.proofs.Settled.{settings-sized}
-use Rattle.accepted.proofs.Takes.{read-room, read-end, updates-room, read-size, is-taken}
+use Rattle.accepted.proofs.Takes.{read-fits, read-room, read-end, updates-room, read-size, is-taken}
 use Rattle.accepted.proofs.readings.take_reading.Statement.{statement}
 use Rattle.accepted.proofs.readings.take_reading.Tie as tie
 
 mul-at : tie.Need-mul-at
 mul-at c = search needs
 
-put-compact-requires : tie.Need-put-compact-requires
-put-compact-requires c κs = search read-room
+put-form-requires : tie.Need-put-form-requires
+put-form-requires c κs = (search read-fits, search read-room)
 
 bytes-of-requires : tie.Need-bytes-of-requires
 bytes-of-requires c κs = search needs
@@ -31,7 +31,7 @@ part-put-updates-to-end c = search read-end
 
 put-updates-to-requires : tie.Need-put-updates-to-requires
 put-updates-to-requires c κs =
-    updates-room _ (c .before .before .before .before .before .before .before .before .before .before .before .before .before .before .before .args .state) _ _ _ _ _ _ _ (c .before .before .before .before .before .before .before .before .before .before .before .before .before .before .before .pre) _ _ (c .before .before .before .before .before .before .before .before .put-compact .ensures) _ _ (c .before .before .before .before .before .bytes-of .ensures) (c .before .before .before .before .bytes-of2 .ensures)
+    updates-room _ (c .before .before .before .before .before .before .before .before .before .before .before .before .before .before .before .args .state) _ _ _ _ _ _ _ (c .before .before .before .before .before .before .before .before .before .before .before .before .before .before .before .pre) _ _ (c .before .before .before .before .before .before .before .before .put-form .ensures) _ _ (c .before .before .before .before .before .bytes-of .ensures) (c .before .before .before .before .bytes-of2 .ensures)
 
 sub-stored : tie.Need-sub-stored
 sub-stored c = search needs
@@ -49,14 +49,14 @@ returns : tie.Need-returns
 returns c =
     let start = c .before .before .before .before .before .before .before .before .before .before .before .before .before .before .before .before .before .before .before in
     let z = settings-sized (start .args .state .settings) (start .good .1 .1 .1 .0 .1 .1 .1 .0) in
-    is-taken _ (start .args .state) _ _ _ _ _ _ _ (start .pre) _ _ (c .before .before .before .before .before .before .before .before .before .before .before .before .put-compact .ensures) _ _ (c .before .before .before .before .before .before .before .before .before .bytes-of .ensures) (c .before .before .before .before .before .before .before .before .bytes-of2 .ensures) z _ (c .stored .ensures) _ _ (c .before .before .before .put-updates-to .ensures)
+    is-taken _ (start .args .state) _ _ _ _ _ _ _ (start .pre) _ _ (c .before .before .before .before .before .before .before .before .before .before .before .before .put-form .ensures) _ _ (c .before .before .before .before .before .before .before .before .before .bytes-of .ensures) (c .before .before .before .before .before .before .before .before .bytes-of2 .ensures) z _ (c .stored .ensures) _ _ (c .before .before .before .put-updates-to .ensures)
 
 pub take-reading-spec : {M : Type 1} → statement M
 take-reading-spec =
     tie.close
     (tie.spec
     mul-at
-    put-compact-requires
+    put-form-requires
     bytes-of-requires
     bytes-of-requires-2
     sub-number

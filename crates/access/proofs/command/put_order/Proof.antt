@@ -2,7 +2,7 @@
 use borrow.Author.Needs.{needs}
 use native.Mathlib.Omega.{arith}
 use mathlib.Core.List.{[]}
-use Rattle.access.proofs.Orders.{order-room, order-none, argument-text, argument-room, form-within, order-slice, order-room-form, order-some}
+use Rattle.access.proofs.Orders.{order-room, order-none, argument-fits, form-within, order-slice, order-room-form, order-some}
 use Rattle.access.proofs.command.put_order.Statement.{statement}
 use Rattle.access.proofs.command.put_order.Tie as tie
 
@@ -14,7 +14,7 @@ slice-aggregate-put-order-command c = search needs
 
 put-order-command-requires : tie.Need-put-order-command-requires
 put-order-command-requires c κs =
-    order-room _ _ _ _ (c .before .before .before .before .before .pre) 0 _ _ [] (omega arith)
+    order-room _ _ _ _ _ _ (c .before .before .before .before .before .before .pre) 0 _ _ [] (omega arith)
 
 same-length : tie.Need-same-length
 same-length c = search needs
@@ -22,11 +22,11 @@ same-length c = search needs
 returns : tie.Need-returns
 returns c = search order-none
 
-slice-aggregate-put-compact : tie.Need-slice-aggregate-put-compact
-slice-aggregate-put-compact c = search needs
+slice-aggregate-put-form : tie.Need-slice-aggregate-put-form
+slice-aggregate-put-form c = search needs
 
-put-compact-requires : tie.Need-put-compact-requires
-put-compact-requires c κs = (search argument-text, search (argument-room, needs))
+put-form-requires : tie.Need-put-form-requires
+put-form-requires c κs = (search argument-fits, search needs)
 
 cast-put-order-command-2 : tie.Need-cast-put-order-command-2
 cast-put-order-command-2 c = search needs
@@ -55,8 +55,8 @@ put-order-spec =
     put-order-command-requires
     same-length
     returns
-    slice-aggregate-put-compact
-    put-compact-requires
+    slice-aggregate-put-form
+    put-form-requires
     cast-put-order-command-2
     array-share-prefix-form
     slice-aggregate-put-order-command-2

@@ -1,5 +1,5 @@
 -- `access::setting::set` meets its contract. Assumes nothing.
-use Rattle.access.proofs.Sets.{set-text, set-room, set-within, value-settable, set-is}
+use Rattle.access.proofs.Sets.{set-fits, set-room, set-within, value-settable, set-is}
 use borrow.Author.Needs.{needs}
 use Rattle.access.proofs.setting.set.Statement.{statement}
 use Rattle.access.proofs.setting.set.Tie as tie
@@ -7,8 +7,8 @@ use Rattle.access.proofs.setting.set.Tie as tie
 mul-at : tie.Need-mul-at
 mul-at c = search needs
 
-put-compact-requires : tie.Need-put-compact-requires
-put-compact-requires c κs = (search set-text, search set-room)
+put-form-requires : tie.Need-put-form-requires
+put-form-requires c κs = (search set-fits, search set-room)
 
 sub-value : tie.Need-sub-value
 sub-value c = search needs
@@ -21,10 +21,10 @@ part-value-end c = search set-within
 
 put-set-requires : tie.Need-put-set-requires
 put-set-requires c κs =
-    value-settable _ _ _ _ _ _ (c .before .before .before .before .before .before .before .before .before .before .before .before .pre .0) _ _ (c .before .before .before .before .before .before .before .before .before .before .before .before .pre .1) _ _ (c .before .before .before .before .before .put-compact .ensures)
+    value-settable _ _ _ _ _ _ (c .before .before .before .before .before .before .before .before .before .before .before .before .before .pre .0) _ _ _ _ (c .before .before .before .before .before .before .before .before .before .before .before .before .before .pre .1) _ _ (c .before .before .before .before .before .put-form .ensures)
 
-sub-t18 : tie.Need-sub-t18
-sub-t18 c = search needs
+sub-t20 : tie.Need-sub-t20
+sub-t20 c = search needs
 
 same-length : tie.Need-same-length
 same-length c = search needs
@@ -34,19 +34,19 @@ same-length-2 c = search needs
 
 returns : tie.Need-returns
 returns c =
-    set-is _ _ _ _ _ _ (c .before .before .before .before .before .before .before .before .before .before .before .before .before .before .before .pre .0) _ _ (c .before .before .before .before .before .before .before .before .before .before .before .before .before .before .before .pre .1) _ _ (c .before .before .before .before .before .before .before .before .put-compact .ensures) _ _ _ _ (c .before .before .put-set .ensures)
+    set-is _ _ _ _ _ _ (c .before .before .before .before .before .before .before .before .before .before .before .before .before .before .before .before .pre .0) _ _ _ _ (c .before .before .before .before .before .before .before .before .before .before .before .before .before .before .before .before .pre .1) _ _ (c .before .before .before .before .before .before .before .before .put-form .ensures) _ _ _ _ (c .before .before .put-set .ensures)
 
 pub set-spec : {M : Type 1} → statement M
 set-spec =
     tie.close
     (tie.spec
     mul-at
-    put-compact-requires
+    put-form-requires
     sub-value
     part-value-start
     part-value-end
     put-set-requires
-    sub-t18
+    sub-t20
     same-length
     same-length-2
     returns)
