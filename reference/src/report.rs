@@ -18,20 +18,17 @@ pub fn write(table: &Table) -> Vec<u8> {
     ])
 }
 
+/// A module's note is not told.
 fn module_report(module: &Module) -> Vec<u8> {
     let accessibles = module
         .accessibles
         .iter()
         .map(|accessible| (&accessible.name[..], accessible_report(accessible)));
-    let mut members = vec![
+    object([
         (&b"interface_classes"[..], b"[]".to_vec()),
         (b"description", quoted(&module.description)),
-    ];
-    if let Some(note) = &module.note {
-        members.push((b"_note", quoted(note)));
-    }
-    members.push((b"accessibles", object(accessibles)));
-    object(members)
+        (b"accessibles", object(accessibles)),
+    ])
 }
 
 /// A command's report has no `readonly`.

@@ -51,6 +51,7 @@ fn rooms() -> Table {
         .parameter("target", "set point in K", Access::Write, &kelvin, "77")
         .command("stop", "stay at this temperature", None)
         .module("compressor", "helium compressor of both stages")
+        .note("oil changed in May")
         .parameter(
             "value",
             "pressure in bar",

@@ -12,13 +12,12 @@ use Rattle.ascii.specs.Text.{bytes}
 use Rattle.ascii.specs.Bytes.{_>>=_}
 use Rattle.ascii.specs.Reader.{Ends, rest}
 use Rattle.ascii.specs.Writer.{Puts}
-use Rattle.json.specs.Json.{Members, object, no-members, member, quoted, compact, compactItems, compactMembers, moreMembers}
+use Rattle.json.specs.Json.{quoted, compact, compactItems, compactMembers, moreMembers}
 use Rattle.datainfo.specs.Datainfo.{Datainfo}
 use Rattle.datainfo.specs.Layout.{datainfoIn}
 use Rattle.table.specs.Table as Table
 use Rattle.table.specs.Layout.{begins, argumentAt, accessiblesAt, moduleAt, modulesAt, Readable, tableOf}
 use Rattle.table.specs.At.{bytesOf, Inside, accessibleBegins, accessibleAt, accessiblesFrom, modulesFrom, parameterOf, commandOf, moduleOf, AccessibleIs, HeadingIs, headingAt, HeadRead}
-use Rattle.table.specs.declared.layout.Part.{Part}
 use Rattle.table.specs.declared.layout.ParameterAt.{ParameterAt}
 use Rattle.table.specs.declared.layout.CommandAt.{CommandAt}
 use Rattle.table.specs.declared.layout.ModuleAt.{ModuleAt}
@@ -29,11 +28,11 @@ use Rattle.table.specs.declared.layout.Head as Head
 use Rattle.table.proofs.Enough.{before, accessibles-stop, accessibles-more, modules-stop, modules-more}
 use Rattle.table.proofs.Modules.{withAccessibles, module-is}
 use Rattle.table.proofs.Whole.{opened, unread, readable-whole, members-headless}
-use Rattle.report.specs.Report.{argumentMember, accessibleMember, accessibleMembers, noteMember, moduleMembers, reportValue, report}
+use Rattle.report.specs.Report.{argumentMember, accessibleMember, accessibleMembers, moduleMembers, reportValue, report}
 use Rattle.emit.specs.Emitted.{capped, Emits, comma, told, Says}
 use Rattle.describe.specs.Room.{RoomFor}
 use Rattle.infos.specs.Texts.{datainfoText}
-use Rattle.describe.specs.Texts.{readonlyText, argumentText, accessibleText, accessiblesText, noteText, moduleText, modulesText, textsText}
+use Rattle.describe.specs.Texts.{readonlyText, argumentText, accessibleText, accessiblesText, moduleText, modulesText, textsText}
 use Rattle.emit.proofs.Pieces.{both, after, nothing}
 use Rattle.emit.proofs.Says.{says-nothing, says-text, mapped, retold, told-same, rest-told, Leads, parts-none, parts-more}
 use Rattle.emit.proofs.Listed.{listed, listed-first, listed-member, list-step}
@@ -190,36 +189,17 @@ module _ (s : List ℕ) (j : ℕ) (first : Bool) (o : Option (List ℕ × List �
 
 -- ## Modules
 
-module _ (s : List ℕ) (noted : Bool) (note : Part) {d e : List ℕ} {at r : ℕ} where
-  pub note-none : noted ≡ false → Emits d at (bytes ",\"accessibles\":{") e r → Emits d at (noteText (cond noted (some (bytesOf s note)) none) ++ bytes ",\"accessibles\":{") e r
-  unfolding noteText noteMember moreMembers
-  note-none z x = rw z x
-
-  pub note-some : noted ≡ true → {f : List ℕ} {p : ℕ} → Emits d at (bytes ",\"_note\":" ++ quoted (bytesOf s note)) f p → Emits f p (bytes ",\"accessibles\":{") e r → Emits d at (noteText (cond noted (some (bytesOf s note)) none) ++ bytes ",\"accessibles\":{") e r
-  unfolding noteText noteMember moreMembers compact quoted bytes
-  note-some z x y = rw z (both (both x (after x)) y)
-
--- a note and the members after it
-note-then : (n : Option (List ℕ)) (ms : Members) → moreMembers (noteMember n ms) ≡ noteText n ++ moreMembers ms
-unfolding noteText noteMember moreMembers compact quoted bytes
-note-then none ms = refl
-note-then (some x) ms = ap (λ (l : List ℕ). bytes ",\"_note\":" ++ l) (go (quoted x) (moreMembers ms))
-  where
-    go : (a b : List ℕ) → a ++ b ≡ a ++ [] ++ b
-    go a b = rw (append-nil a)
-
-module-pieces : (k l q n a t y z : List ℕ) → k ++ (l ++ q) ++ (n ++ a) ++ t ++ (y ++ z) ≡ k ++ (l ++ (q ++ (n ++ (a ++ (t ++ y ++ [])))) ++ z) ++ []
-module-pieces k l q n a t y z = simp (append-assoc, append-nil)
+module-pieces : (k l q a t y z : List ℕ) → k ++ (l ++ q) ++ a ++ t ++ (y ++ z) ≡ k ++ (l ++ (q ++ (a ++ (t ++ y ++ []))) ++ z) ++ []
+module-pieces k l q a t y z = simp (append-assoc, append-nil)
 
 module _ {d0 d1 d2 d3 d4 : List ℕ} {p0 p1 p2 p3 p4 : ℕ} where
-  module-join : (k l q n a t y z w : List ℕ) → w ≡ n ++ (a ++ (t ++ y ++ [])) → Emits d0 p0 (k ++ (l ++ q)) d1 p1 → Emits d1 p1 (n ++ a) d2 p2 → Emits d2 p2 t d3 p3 → Emits d3 p3 (y ++ z) d4 p4 → Emits d0 p0 (k ++ (l ++ (q ++ w) ++ z) ++ []) d4 p4
-  module-join k l q n a t y z w e b c f g = rw e (rw (module-pieces k l q n a t y z) at (both (both (both b c) f) g))
+  module-join : (k l q a t y z : List ℕ) → Emits d0 p0 (k ++ (l ++ q)) d1 p1 → Emits d1 p1 a d2 p2 → Emits d2 p2 t d3 p3 → Emits d3 p3 (y ++ z) d4 p4 → Emits d0 p0 (k ++ (l ++ (q ++ (a ++ (t ++ y ++ []))) ++ z) ++ []) d4 p4
+  module-join k l q a t y z b c f g = rw (module-pieces k l q a t y z) at (both (both (both b c) f) g)
 
-  module-text : (m : Table.Module) → Emits d0 p0 (quoted (m .name) ++ bytes ":" ++ (bytes "{\"interface_classes\":[],\"description\":" ++ quoted (m .description))) d1 p1 → Emits d1 p1 (noteText (m .note) ++ bytes ",\"accessibles\":{") d2 p2 → Emits d2 p2 (accessiblesText (m .accessibles)) d3 p3 → Emits d3 p3 (bytes "}}") d4 p4 → Emits d0 p0 (moduleText m) d4 p4
+  module-text : (m : Table.Module) → Emits d0 p0 (quoted (m .name) ++ bytes ":" ++ (bytes "{\"interface_classes\":[],\"description\":" ++ quoted (m .description))) d1 p1 → Emits d1 p1 (bytes ",\"accessibles\":{") d2 p2 → Emits d2 p2 (accessiblesText (m .accessibles)) d3 p3 → Emits d3 p3 (bytes "}}") d4 p4 → Emits d0 p0 (moduleText m) d4 p4
   unfolding moduleText moduleMembers accessiblesText compact compactItems compactMembers moreMembers quoted bytes
   module-text m w x y v =
-      module-join (quoted (m .name) ++ bytes ":") (bytes "{\"interface_classes\":[],\"description\":") (quoted (m .description)) (noteText (m .note)) (bytes ",\"accessibles\":{") (accessiblesText (m .accessibles)) (bytes "}") (bytes "}") _
-      (note-then (m .note) (member (bytes "accessibles") (object (accessibleMembers (m .accessibles))) no-members)) w x y v
+      module-join (quoted (m .name) ++ bytes ":") (bytes "{\"interface_classes\":[],\"description\":") (quoted (m .description)) (bytes ",\"accessibles\":{") (accessiblesText (m .accessibles)) (bytes "}") (bytes "}") w x y v
 
 module _ (s : List ℕ) (i : ℕ) (h : H.Heading) (hh : HeadingIs s h (headingAt (drop i s))) where
   pub module-bad : {d e : List ℕ} {at r : ℕ} → h ≡ H.the-variants.Bad → Says (told moduleText (moduleAt (length s) (drop i s))) d at e r
@@ -232,13 +212,10 @@ module _ (s : List ℕ) (i : ℕ) (h : H.Heading) (hh : HeadingIs s h (headingAt
     pub module-description : Inside s (m .description)
     module-description = (rw z at hh) .description
 
-    pub module-note : Inside s (m .note)
-    module-note = (rw z at hh) .note
-
     pub module-next : m .next ≤ length s
     module-next = (rw z at hh) .nextWithin
 
-    pub module-told : {d0 d1 d2 d3 d4 : List ℕ} {p0 p1 p2 p3 p4 : ℕ} → Emits d0 p0 (quoted (bytesOf s (m .name)) ++ bytes ":" ++ (bytes "{\"interface_classes\":[],\"description\":" ++ quoted (bytesOf s (m .description)))) d1 p1 → Emits d1 p1 (noteText (cond (m .noted) (some (bytesOf s (m .note))) none) ++ bytes ",\"accessibles\":{") d2 p2 → Says (told accessiblesText (accessiblesFrom s (m .next))) d2 p2 d3 p3 → Emits d3 p3 (bytes "}}") d4 p4 → Says (told moduleText (moduleAt (length s) (drop i s))) d0 p0 d4 p4
+    pub module-told : {d0 d1 d2 d3 d4 : List ℕ} {p0 p1 p2 p3 p4 : ℕ} → Emits d0 p0 (quoted (bytesOf s (m .name)) ++ bytes ":" ++ (bytes "{\"interface_classes\":[],\"description\":" ++ quoted (bytesOf s (m .description)))) d1 p1 → Emits d1 p1 (bytes ",\"accessibles\":{") d2 p2 → Says (told accessiblesText (accessiblesFrom s (m .next))) d2 p2 d3 p3 → Emits d3 p3 (bytes "}}") d4 p4 → Says (told moduleText (moduleAt (length s) (drop i s))) d0 p0 d4 p4
     unfolding moduleOf
     module-told w x y v =
         rw (module-is s i h hh m z)

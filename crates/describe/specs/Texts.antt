@@ -7,7 +7,7 @@ use Rattle.ascii.specs.Text.{bytes}
 use Rattle.json.specs.Json.{no-members, quoted, compactMembers, moreMembers}
 use Rattle.datainfo.specs.Datainfo.{Datainfo}
 use Rattle.table.specs.Table.{Accessible, Module}
-use Rattle.report.specs.Report.{argumentMember, accessibleMember, accessibleMembers, noteMember, moduleMembers}
+use Rattle.report.specs.Report.{argumentMember, accessibleMember, accessibleMembers, moduleMembers}
 
 -- whether a parameter is read only, after the member before it, and the key of its datainfo
 unfoldable pub readonlyText : Bool → List ℕ
@@ -23,10 +23,6 @@ accessibleText a = compactMembers (accessibleMember a no-members)
 
 unfoldable pub accessiblesText : List Accessible → List ℕ
 accessiblesText xs = compactMembers (accessibleMembers xs)
-
--- a module's note, after the member before it
-unfoldable pub noteText : Option (List ℕ) → List ℕ
-noteText n = moreMembers (noteMember n no-members)
 
 -- a module with its name
 unfoldable pub moduleText : Module → List ℕ

@@ -19,9 +19,7 @@ use table::layout::is_accessible;
 use table::layout::is_module;
 use table::layout::module_end;
 ghost use mathlib.Core.Path.{_≡_};
-ghost use mathlib.Core.Bool.{cond};
 ghost use mathlib.Core.List.{_++_};
-ghost use mathlib.Core.Option.{none, some};
 ghost use Prim.Native.Nat.{_≤_};
 ghost use lib.ListN.{length, drop};
 ghost use Rattle.ascii.specs.Text.{bytes};
@@ -33,7 +31,7 @@ ghost use Rattle.table.specs.Layout.{argumentAt, moduleAt, Readable, tableOf};
 ghost use Rattle.table.specs.At.{bytesOf, Inside, accessibleAt, accessiblesFrom, modulesFrom, parameterOf, commandOf};
 ghost use Rattle.report.specs.Report.{report};
 ghost use Rattle.emit.specs.Emitted.{capped, Emits, told, Says};
-ghost use Rattle.describe.specs.Texts.{readonlyText, argumentText, accessibleText, accessiblesText, noteText, moduleText, modulesText, textsText};
+ghost use Rattle.describe.specs.Texts.{readonlyText, argumentText, accessibleText, accessiblesText, moduleText, modulesText, textsText};
 ghost use Rattle.describe.specs.Room.{RoomFor};
 
 // A part of the table as a key.
@@ -160,18 +158,7 @@ fn emit_accessibles(out: &mut [u8], at: usize, s: &[u8], i: usize) -> usize
     p
 }
 
-// A module's note, if it has one, up to its accessibles.
-fn emit_note(out: &mut [u8], at: usize, s: &[u8], noted: bool, note: Part) -> usize
-    requires { ⌜ Inside (now s) note ⌝ }
-    ensures { λ r. ⌜ Emits (now (out .entry)) at (noteText (cond noted (some (bytesOf (now (s .entry)) note)) none) ++ bytes ",\"accessibles\":{") (now (out .exit)) r ⌝ }
-{
-    if noted {
-        let a = emit_text(out, at, b",\"_note\":", s, note);
-        return emit(out, a, b",\"accessibles\":{");
-    }
-    emit(out, at, b",\"accessibles\":{")
-}
-
+// A module, without its note.
 fn emit_module(out: &mut [u8], at: usize, s: &[u8], i: usize) -> usize
     requires { ⌜ i ≤ length (now s) ⌝ }
     ensures { λ r. ⌜ Says (told moduleText (moduleAt (length (now (s .entry))) (drop i (now (s .entry))))) (now (out .entry)) at (now (out .exit)) r ⌝ }
@@ -181,11 +168,10 @@ fn emit_module(out: &mut [u8], at: usize, s: &[u8], i: usize) -> usize
     };
     let name = m.name;
     let description = m.description;
-    let note = m.note;
     let next = m.next;
     let label = b"{\"interface_classes\":[],\"description\":";
     let a = emit_named(out, at, label, s, name, description);
-    let b = emit_note(out, a, s, m.noted, note);
+    let b = emit(out, a, b",\"accessibles\":{");
     let c = emit_accessibles(out, b, s, next);
     emit(out, c, b"}}")
 }

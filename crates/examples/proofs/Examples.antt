@@ -1,5 +1,6 @@
 -- The examples, by computing. Assumes nothing.
 use mathlib.Core.Path.{_≡_, refl}
+use Rattle.report.specs.Notes.{noteMember, notedMembers, notedValue, notedReport}
 use Rattle.examples.specs.Demo.{demo, noted, stage, oneModule, reported, onOff, kelvin, initial, small, counted}
 use Rattle.examples.specs.Theorems.{examples, exchanges, changing, pieceCalls, repliesTo, lastWritten, ExamplesAreRight, FiveMilliseconds, WholeReport, NotedReport, TablesAreGood, OutboxExample, ExchangesAreRight}
 use Rattle.examples.proofs.Computed.{computed}
@@ -22,8 +23,8 @@ unfolding computed demo oneModule reported onOff kelvin initial small counted
 whole-report = refl
 
 pub noted-report : NotedReport
-unfolding computed noted oneModule reported onOff kelvin initial small counted
-noted-report = refl
+unfolding computed noteMember notedMembers notedValue notedReport noted oneModule reported onOff kelvin initial small counted
+noted-report = (refl, refl)
 
 pub tables-are-good : TablesAreGood
 unfolding computed demo noted stage oneModule reported onOff kelvin initial small counted

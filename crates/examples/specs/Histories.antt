@@ -995,6 +995,27 @@ history-42 =
 unfoldable pub history-43 : History
 history-43 =
     record {
+      table = bytes "ND\u{1}s\0MO\u{2}t1\0NO\u{c}mind the gapPA\u{1}p\0\0\u{2}\0\0\0\0\0\0\0\0\0\0\0\0\0\0\0\t\0\u{1}3MO\u{2}mf\0NO\0EN";
+      area = 16384;
+      time = 1000;
+      start = 0;
+      calls =
+          withArea (Open 0 2000) 16384
+          ∷ withOutbox (Piece 0 (bytes "describe\n") 3000) 16384 32768
+          ∷ withOutbox (Piece 0 (bytes "activate t1\n") 4000) 16384 32768
+          ∷ withOutbox (Piece 0 (bytes "change t1:p 4\n") 5000) 16384 32768
+          ∷ [];
+      due =
+          record { number = 0; used = 0; written = bytes "" }
+          ∷ record { number = 0; used = 9; written = bytes "RP\0\u{1}\u{10}describing . {\"modules\":{\"t1\":{\"interface_classes\":[],\"description\":\"\",\"accessibles\":{\"p\":{\"description\":\"\",\"readonly\":false,\"datainfo\":{\"type\":\"int\",\"min\":0,\"max\":9}}}},\"mf\":{\"interface_classes\":[],\"description\":\"\",\"accessibles\":{}}},\"equipment_id\":\"s\",\"description\":\"\"}\n" }
+          ∷ record { number = 0; used = 12; written = bytes "UP\0\0\u{1c}update t1:p [3,{\"t\":1.000}]\nRP\0\0\nactive t1\n" }
+          ∷ record { number = 0; used = 14; written = bytes "DR\0\0\u{2}\04UP\0\0\u{1c}update t1:p [4,{\"t\":5.000}]\nRP\0\0\u{1d}changed t1:p [4,{\"t\":5.000}]\n" }
+          ∷ [];
+    }
+
+unfoldable pub history-44 : History
+history-44 =
+    record {
       table = bytes "ND\u{1}s\0MO\u{2}t1\0ENEN";
       area = 16384;
       time = 1000;
@@ -1007,8 +1028,8 @@ history-43 =
           ∷ [];
     }
 
-unfoldable pub history-44 : History
-history-44 =
+unfoldable pub history-45 : History
+history-45 =
     record {
       table = bytes "ND\u{1}s\0EN";
       area = 16384;
@@ -1022,8 +1043,8 @@ history-44 =
           ∷ [];
     }
 
-unfoldable pub history-45 : History
-history-45 =
+unfoldable pub history-46 : History
+history-46 =
     record {
       table = bytes "ND\u{1}s\0MO\u{2}9x\0EN";
       area = 16384;
@@ -1037,8 +1058,8 @@ history-45 =
           ∷ [];
     }
 
-unfoldable pub history-46 : History
-history-46 =
+unfoldable pub history-47 : History
+history-47 =
     record {
       table = bytes "ND\u{1}s\0MO\u{2}t1\0CM\u{1}c\0\u{1}\u{2}\0\0\0\0\0\0\0\u{1}\0\0\0\0\0\0\0\0EN";
       area = 16384;
@@ -1052,8 +1073,8 @@ history-46 =
           ∷ [];
     }
 
-unfoldable pub history-47 : History
-history-47 =
+unfoldable pub history-48 : History
+history-48 =
     record {
       table = bytes "ND\u{1}s\0MO\u{2}t1\0PA\u{1}p\0\0\u{2}\0\0\0\0\0\0\0\0\0\0\0\0\0\0\0\t\0\u{2}3 EN";
       area = 16384;
@@ -1067,8 +1088,8 @@ history-47 =
           ∷ [];
     }
 
-unfoldable pub history-48 : History
-history-48 =
+unfoldable pub history-49 : History
+history-49 =
     record {
       table = bytes "ND\u{1}s\0MO\u{2}9x\0CM\u{1}c\0\u{2}EN";
       area = 16384;
@@ -1082,8 +1103,8 @@ history-48 =
           ∷ [];
     }
 
-unfoldable pub history-49 : History
-history-49 =
+unfoldable pub history-50 : History
+history-50 =
     record {
       table = bytes "ND\u{1}s\u{1}\"EN";
       area = 16384;
@@ -1097,8 +1118,8 @@ history-49 =
           ∷ [];
     }
 
-unfoldable pub history-50 : History
-history-50 =
+unfoldable pub history-51 : History
+history-51 =
     record {
       table = bytes "ND\u{1}s\0MO\u{2}t1\0CM\u{1}c\0\u{1}\u{4}\u{2}\u{1}a\0\0\0\0\u{1}A\0\0\0\0EN";
       area = 16384;
@@ -1112,8 +1133,8 @@ history-50 =
           ∷ [];
     }
 
-unfoldable pub history-51 : History
-history-51 =
+unfoldable pub history-52 : History
+history-52 =
     record {
       table = bytes "ND\u{1}s\0MO\u{2}t1\0PA\u{1}p\0\0\u{5}\0\u{1}\0\0\0\u{1}2EN";
       area = 16384;
@@ -1127,8 +1148,8 @@ history-51 =
           ∷ [];
     }
 
-unfoldable pub history-52 : History
-history-52 =
+unfoldable pub history-53 : History
+history-53 =
     record {
       table = bytes "ND\u{1}s\0MO\u{2}t1\0PA\u{1}p\0\0\u{2}\0\0\0\0\0\0\0\0\0\0\0\0\0\0\0\t\0\u{2}3 EN";
       area = 16383;
@@ -1143,4 +1164,4 @@ history-52 =
     }
 
 unfoldable pub histories : List History
-histories = history-1 ∷ history-2 ∷ history-3 ∷ history-4 ∷ history-5 ∷ history-6 ∷ history-7 ∷ history-8 ∷ history-9 ∷ history-10 ∷ history-11 ∷ history-12 ∷ history-13 ∷ history-14 ∷ history-15 ∷ history-16 ∷ history-17 ∷ history-18 ∷ history-19 ∷ history-20 ∷ history-21 ∷ history-22 ∷ history-23 ∷ history-24 ∷ history-25 ∷ history-26 ∷ history-27 ∷ history-28 ∷ history-29 ∷ history-30 ∷ history-31 ∷ history-32 ∷ history-33 ∷ history-34 ∷ history-35 ∷ history-36 ∷ history-37 ∷ history-38 ∷ history-39 ∷ history-40 ∷ history-41 ∷ history-42 ∷ history-43 ∷ history-44 ∷ history-45 ∷ history-46 ∷ history-47 ∷ history-48 ∷ history-49 ∷ history-50 ∷ history-51 ∷ history-52 ∷ []
+histories = history-1 ∷ history-2 ∷ history-3 ∷ history-4 ∷ history-5 ∷ history-6 ∷ history-7 ∷ history-8 ∷ history-9 ∷ history-10 ∷ history-11 ∷ history-12 ∷ history-13 ∷ history-14 ∷ history-15 ∷ history-16 ∷ history-17 ∷ history-18 ∷ history-19 ∷ history-20 ∷ history-21 ∷ history-22 ∷ history-23 ∷ history-24 ∷ history-25 ∷ history-26 ∷ history-27 ∷ history-28 ∷ history-29 ∷ history-30 ∷ history-31 ∷ history-32 ∷ history-33 ∷ history-34 ∷ history-35 ∷ history-36 ∷ history-37 ∷ history-38 ∷ history-39 ∷ history-40 ∷ history-41 ∷ history-42 ∷ history-43 ∷ history-44 ∷ history-45 ∷ history-46 ∷ history-47 ∷ history-48 ∷ history-49 ∷ history-50 ∷ history-51 ∷ history-52 ∷ history-53 ∷ []

@@ -11,6 +11,7 @@ use Rattle.fit.specs.Fit.{Verdict, fits, rangeError, wrongType, badJSON, verdic
 use Rattle.message.specs.Reply.{replyLine}
 use Rattle.table.specs.Layout.{tableOf}
 use Rattle.report.specs.Report.{report}
+use Rattle.report.specs.Notes.{notedReport}
 use Rattle.report.specs.Judge.{tableNumber}
 use Rattle.plain.specs.Node.{begin}
 use Rattle.plain.specs.Calls.{Open, Piece, Call, withArea, withOutbox}
@@ -78,8 +79,11 @@ FiveMilliseconds = seconds 5 ≡ bytes "0.005"
 abbrev pub WholeReport : Type 0
 WholeReport = report (tableOf demo) ≡ bytes "{\"modules\":{\"t1\":{\"interface_classes\":[],\"description\":\"stage\",\"accessibles\":{\"value\":{\"description\":\"reading\",\"readonly\":true,\"datainfo\":{\"type\":\"double\",\"min\":0,\"max\":300}},\"mode\":{\"description\":\"heater\",\"readonly\":false,\"datainfo\":{\"type\":\"enum\",\"members\":{\"off\":0,\"on\":1}}},\"stop\":{\"description\":\"stop\",\"datainfo\":{\"type\":\"command\"}}}}},\"equipment_id\":\"demo\",\"description\":\"one stage\"}"
 
+-- a note is left out (M-109); before, it stood after the module's description
 abbrev pub NotedReport : Type 0
-NotedReport = report (tableOf noted) ≡ bytes "{\"modules\":{\"t1\":{\"interface_classes\":[],\"description\":\"stage\",\"_note\":\"mind the gap\",\"accessibles\":{\"value\":{\"description\":\"reading\",\"readonly\":true,\"datainfo\":{\"type\":\"double\",\"min\":0,\"max\":300}},\"mode\":{\"description\":\"heater\",\"readonly\":false,\"datainfo\":{\"type\":\"enum\",\"members\":{\"off\":0,\"on\":1}}},\"stop\":{\"description\":\"stop\",\"datainfo\":{\"type\":\"command\"}}}}},\"equipment_id\":\"demo\",\"description\":\"one stage\"}"
+NotedReport =
+    (report (tableOf noted) ≡ bytes "{\"modules\":{\"t1\":{\"interface_classes\":[],\"description\":\"stage\",\"accessibles\":{\"value\":{\"description\":\"reading\",\"readonly\":true,\"datainfo\":{\"type\":\"double\",\"min\":0,\"max\":300}},\"mode\":{\"description\":\"heater\",\"readonly\":false,\"datainfo\":{\"type\":\"enum\",\"members\":{\"off\":0,\"on\":1}}},\"stop\":{\"description\":\"stop\",\"datainfo\":{\"type\":\"command\"}}}}},\"equipment_id\":\"demo\",\"description\":\"one stage\"}")
+    × (notedReport (tableOf noted) ≡ bytes "{\"modules\":{\"t1\":{\"interface_classes\":[],\"description\":\"stage\",\"_note\":\"mind the gap\",\"accessibles\":{\"value\":{\"description\":\"reading\",\"readonly\":true,\"datainfo\":{\"type\":\"double\",\"min\":0,\"max\":300}},\"mode\":{\"description\":\"heater\",\"readonly\":false,\"datainfo\":{\"type\":\"enum\",\"members\":{\"off\":0,\"on\":1}}},\"stop\":{\"description\":\"stop\",\"datainfo\":{\"type\":\"command\"}}}}},\"equipment_id\":\"demo\",\"description\":\"one stage\"}")
 
 -- the tables of the examples are accepted
 abbrev pub TablesAreGood : Type 0

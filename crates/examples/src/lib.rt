@@ -25,7 +25,7 @@ pub fn whole_report() -> bool
     true
 }
 
-// The same report with a note.
+// The same report of a table with a note, which is left out; and as it was before.
 pub fn noted_report() -> bool
     ensures { λ r. ⌜ (r ≡ true) × NotedReport ⌝ }
 {

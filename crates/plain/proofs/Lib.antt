@@ -2,3 +2,4 @@ pub mod Numbers
 pub mod Put
 pub mod Clients
 pub mod Outcomes
+pub mod Notes

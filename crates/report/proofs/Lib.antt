@@ -5,3 +5,4 @@ pub mod Trees
 pub mod Plain
 pub mod Told
 pub mod Alike
+pub mod Notes

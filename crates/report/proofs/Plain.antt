@@ -18,7 +18,7 @@ use Rattle.datainfo.specs.Rules.{goodNames, elementsNamesGood, fieldsNamesGood}
 use Rattle.table.specs.Table.{Accessible, parameter, command, Module, Table}
 use Rattle.table.specs.Rules.{accessibleName, ifAny, noteGood, accessibleNamesGood, moduleNamesGood, namesGood}
 use Rattle.report.specs.Report.{variantValues, datainfoValue, elementValues, fieldValues, argumentMember, accessibleMember, accessibleMembers}
-use Rattle.report.specs.Report.{noteMember, moduleMembers, reportValue}
+use Rattle.report.specs.Report.{moduleMembers, reportValue}
 use Rattle.report.specs.Judge.{treeNumber}
 use Rattle.report.proofs.Faults.{no-fault, lowest-none}
 use Rattle.report.proofs.Numbers.{natural-number, integer-number, decimal-number}
@@ -104,11 +104,6 @@ accessibles-plain (a ∷ l) g h =
     let p = all-parts accessibleNamesGood a l h in
     accessible-plain a (q .0) (p .0) (accessibleMembers l) (accessibles-plain l (q .1) (p .1))
 
-note-plain : (o : Option (List ℕ)) → noteGood o ≡ true → (rest : Members) → PlainMembers rest → PlainMembers (noteMember o rest)
-unfolding noteMember noteGood all bytes
-note-plain none h rest r = r
-note-plain (some x) h rest r = (refl, text-lacks x h, r)
-
 modules-plain : (ms : List Module) → all isName (map (λ (m : Module). m .name) ms) ≡ true → all moduleNamesGood ms ≡ true
     → PlainMembers (moduleMembers ms)
 unfolding moduleMembers moduleNamesGood all bytes
@@ -122,7 +117,7 @@ modules-plain (m ∷ ms) g h =
     let c = both (isText (m .description)) (noteGood (m .note)) (b .0) in
     let inner = accessibles-plain l (names-all (map accessibleName l) (b .1)) (a .1) in (
       name-lacks (m .name) (q .0),
-      (refl, tt, (refl, text-lacks (m .description) (c .0), note-plain (m .note) (c .1) _ (refl, inner, tt))),
+      (refl, tt, (refl, text-lacks (m .description) (c .0), (refl, inner, tt))),
       modules-plain ms (q .1) (p .1),
     )
 

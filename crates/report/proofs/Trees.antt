@@ -14,7 +14,7 @@ use Rattle.datainfo.specs.Datainfo.{Variant, Datainfo, double, int, bool, enum,
 use Rattle.fit.specs.Fit.{asNumber, asBoolean, asString, asArray, asObject}
 use Rattle.table.specs.Table.{Accessible, parameter, command, Module, Table}
 use Rattle.report.specs.Report.{variantValues, datainfoValue, elementValues, fieldValues, argumentMember, accessibleMember, accessibleMembers}
-use Rattle.report.specs.Report.{keyed, noteMember, moduleMembers, reportValue}
+use Rattle.report.specs.Report.{keyed, moduleMembers, reportValue}
 use Rattle.report.specs.Theorems.{enforcedAccessible, enforcedModule, enforced}
 use Rattle.report.proofs.Numbers.{naturalOf, natural-back, integerOf, integer-back, decimalOf, decimal-back}
 
@@ -168,17 +168,8 @@ accessiblesFrom : ℕ → Members → List Accessible
 accessiblesFrom n no-members = []
 accessiblesFrom n (member k v ms) = accessibleOf n k (members v) ∷ accessiblesFrom n ms
 
--- its note, if there is one, stands before its accessibles
 moduleOf : ℕ → List ℕ → Members → Module
-moduleOf n k ms =
-    cond (same (keyAt 2 ms) (bytes "_note"))
-    (record {
-      name = k;
-      description = text (at 1 ms);
-      note = some (text (at 2 ms));
-      accessibles = accessiblesFrom n (members (at 3 ms));
-    })
-    (record { name = k; description = text (at 1 ms); note = none; accessibles = accessiblesFrom n (members (at 2 ms)) })
+moduleOf n k ms = record { name = k; description = text (at 1 ms); note = none; accessibles = accessiblesFrom n (members (at 2 ms)) }
 
 modulesFrom : ℕ → Members → List Module
 modulesFrom n no-members = []
@@ -228,21 +219,20 @@ unfolding accessiblesFrom accessibleMembers accessiblesLevels
 accessibles-back [] n h = refl
 accessibles-back (a ∷ l) n h = rw (accessible-back a n (omega arith) (accessibleMembers l), accessibles-back l n (omega arith))
 
-module-back : (k d : List ℕ) (o : Option (List ℕ)) (l : List Accessible) (n : ℕ) → accessiblesLevels l ≤ n
+module-back : (k d : List ℕ) (l : List Accessible) (n : ℕ) → accessiblesLevels l ≤ n
     → moduleOf n k
     (keyed "interface_classes" (Json.array no-items)
-    (keyed "description" (Json.string d) (noteMember o (keyed "accessibles" (Json.object (accessibleMembers l)) no-members))))
-    ≡ record { name = k; description = d; note = o; accessibles = map enforcedAccessible l }
-unfolding noteMember moduleOf at keyAt same bytes asObject asString
-module-back k d none l n h = rw (accessibles-back l n h)
-module-back k d (some x) l n h = rw (accessibles-back l n h)
+    (keyed "description" (Json.string d) (keyed "accessibles" (Json.object (accessibleMembers l)) no-members)))
+    ≡ record { name = k; description = d; note = none; accessibles = map enforcedAccessible l }
+unfolding moduleOf at asObject asString
+module-back k d l n h = rw (accessibles-back l n h)
 
 modules-back : (l : List Module) (n : ℕ) → modulesLevels l ≤ n → modulesFrom n (moduleMembers l) ≡ map enforcedModule l
 unfolding modulesFrom moduleMembers modulesLevels enforcedModule asObject
 modules-back [] n h = refl
 modules-back (m ∷ l) n h =
     ap₂ (λ (x : Module) (xs : List Module). x ∷ xs)
-    (module-back (m .name) (m .description) (m .note) (m .accessibles) n (omega arith)) (modules-back l n (omega arith))
+    (module-back (m .name) (m .description) (m .accessibles) n (omega arith)) (modules-back l n (omega arith))
 
 pub told-back : (t : Table) (n : ℕ) → tableLevels t ≤ n → told n (reportValue t) ≡ enforced t
 unfolding told reportValue tableLevels enforced at asObject asString

@@ -1,4 +1,4 @@
--- What the structure report tells: the table that is enforced, but for initial values and their places. Assumes nothing.
+-- What the structure report tells: the table that is enforced, but for notes, initial values and their places. Assumes nothing.
 use Prim.Native.Nat.{ℕ}
 use mathlib.Core.Bool.{Bool}
 use mathlib.Core.List.{List, [], map}
@@ -28,19 +28,20 @@ unfoldable pub enforcedAccessible : Accessible → Accessible
 enforcedAccessible (parameter p) = parameter (enforcedParameter p)
 enforcedAccessible (command c) = command c
 
+-- a module with its note forgotten
 unfoldable pub enforcedModule : Module → Module
 enforcedModule m = record {
   name = m .name;
   description = m .description;
-  note = m .note;
+  note = none;
   accessibles = map enforcedAccessible (m .accessibles);
 }
 
--- all of a table but initial values and their places
+-- all of a table but notes, initial values and their places
 unfoldable pub enforced : Table → Table
 enforced t = record { equipmentId = t .equipmentId; description = t .description; modules = map enforcedModule (t .modules) }
 
--- Two accepted tables with the same structure report are the same table, but for initial values and their places.
+-- Two accepted tables with the same structure report are the same table, but for notes, initial values and their places.
 abbrev pub ReportsTell : Type 0
 ReportsTell = (t u : Table) → treeNumber t ≡ 0 → treeNumber u ≡ 0 → report t ≡ report u → enforced t ≡ enforced u
 

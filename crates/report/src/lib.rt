@@ -1,10 +1,11 @@
 ghost use mathlib.Core.Bool.{true};
 ghost use mathlib.Core.Path.{_≡_};
 ghost use Rattle.report.specs.Theorems.{ReportsTell, ReportsTellVerdicts};
+ghost use Rattle.report.specs.Notes.{NotesAreGone};
 
 // Each function here promises a theorem about the definitions. Nothing is run.
 
-// Accepted tables with the same structure report are the same, but for initial values and their places.
+// Accepted tables with the same structure report are the same, but for notes, initial values and their places.
 pub fn reports_tell() -> bool
     ensures { λ r. ⌜ (r ≡ true) × ReportsTell ⌝ }
 {
@@ -14,6 +15,13 @@ pub fn reports_tell() -> bool
 // So they find the same parameters and commands by name, and come to the same verdict on every value and every text.
 pub fn reports_tell_verdicts() -> bool
     ensures { λ r. ⌜ (r ≡ true) × ReportsTellVerdicts ⌝ }
+{
+    true
+}
+
+// The report is what it was for the table without its notes; it is never longer than with them, so a table that was accepted still is.
+pub fn notes_are_gone() -> bool
+    ensures { λ r. ⌜ (r ≡ true) × NotesAreGone ⌝ }
 {
     true
 }

@@ -41,6 +41,8 @@ pub fn all() -> Vec<Border> {
     add("initial value of 257 bytes", &with_initial(257), 5);
     add("report of 32,000 bytes", &with_report(32_000), 0);
     add("report of 32,001 bytes", &with_report(32_001), 6);
+    add("32,000 bytes and a note", &noted_report(32_000), 0);
+    add("32,001 bytes and a note", &noted_report(32_001), 6);
     for (name, datainfo, number) in arguments() {
         add(name, &table(vec![command("c", Some(datainfo))]), number);
     }
@@ -163,6 +165,13 @@ fn with_report(length: usize) -> Table {
     table.modules[0].accessibles.extend(more);
     let missing = length - report::write(&table).len();
     lengthen_descriptions(&mut table, missing);
+    table
+}
+
+/// The same with the longest note, which the report doesn't tell.
+fn noted_report(length: usize) -> Table {
+    let mut table = with_report(length);
+    table.modules[0].note = Some(vec![b'n'; 255]);
     table
 }
 

@@ -59,6 +59,7 @@ fn over_good_tables() -> Vec<(&'static str, Script)> {
         ("pieces of two clients", mingled_pieces()),
         ("several lines in one piece", several_lines()),
         ("times that go back", earlier_times()),
+        ("notes that are not told", notes()),
     ]
 }
 
@@ -379,6 +380,17 @@ fn earlier_times() -> Script {
         .line(0, "read t1:p")
         .at(5)
         .line(0, "ping")
+}
+
+/// A note is read with its module, and nothing tells it.
+fn notes() -> Script {
+    let mut modules = vec![module("t1", vec![three()]), module("mf", Vec::new())];
+    modules[0].note = Some(b"mind the gap".to_vec());
+    modules[1].note = Some(Vec::new());
+    Script::over(encode::table(&table(modules)))
+        .start()
+        .open(0)
+        .lines(&["describe", "activate t1", "change t1:p 4"])
 }
 
 /// One table for each of the numbers 1 to 5, then tables with two faults. An

@@ -567,6 +567,26 @@ fn times_that_go_back() {
     );
 }
 
+#[test]
+fn notes_that_are_not_told() {
+    assert_course(
+        "notes that are not told",
+        r#"
+        @1000 start
+        @2000 open 0
+        @3000 0 > describe\n
+        0 < describing . {"modules":{"t1":{"interface_classes":[],"description":"","accessibles":{"p":{"description":"","readonly":false,"datainfo":{"type":"int","min":0,"max":9}}}},"mf":{"interface_classes":[],"description":"","accessibles":{}}},"equipment_id":"s","description":""}
+        @4000 0 > activate t1\n
+        0 * update t1:p [3,{"t":1.000}]
+        0 < active t1
+        @5000 0 > change t1:p 4\n
+        0 DR 0 4
+        0 * update t1:p [4,{"t":5.000}]
+        0 < changed t1:p [4,{"t":5.000}]
+        "#,
+    );
+}
+
 /// The course of a start and an open that both answer with the number.
 fn assert_faulty(name: &str, table: &[&[u8]], number: u8) {
     assert_eq!(history(name).table, table.concat(), "{name}");

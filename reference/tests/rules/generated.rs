@@ -214,6 +214,29 @@ fn histories_hold_together() {
     assert_records_of_all_kinds(&all.records);
 }
 
+/// Where a table has notes, a node answers and ends as on the table without
+/// them.
+#[test]
+fn notes_alter_no_answer() {
+    let mut count = 0;
+    for history in some_histories() {
+        let Ok(mut table) = Table::judge(&history.table) else {
+            continue;
+        };
+        if table.modules.iter().all(|module| module.note.is_none()) {
+            continue;
+        }
+        table.modules.iter_mut().for_each(|one| one.note = None);
+        let without = History {
+            table: encode::table(&table),
+            calls: history.calls.clone(),
+        };
+        assert_eq!(history.run(), without.run());
+        count += 1;
+    }
+    assert!(count > 50, "only {count} tables have notes");
+}
+
 fn assert_records_of_all_kinds(records: &[Record]) {
     for mark in [
         Mark::Reply,

@@ -35,8 +35,8 @@ fn describe_sends_the_report_whatever_follows() {
 }
 
 #[test]
-fn a_note_stands_after_the_description_of_its_module() {
-    let bytes = table(&[
+fn notes_are_left_out() {
+    let noted = table(&[
         mo("a", "first"),
         no("mind the gap"),
         mo("B", ""),
@@ -44,8 +44,10 @@ fn a_note_stands_after_the_description_of_its_module() {
         mo("c", ""),
         cm("x", "y"),
     ]);
-    let expected = r#"{"modules":{"a":{"interface_classes":[],"description":"first","_note":"mind the gap","accessibles":{}},"B":{"interface_classes":[],"description":"","_note":"","accessibles":{}},"c":{"interface_classes":[],"description":"","accessibles":{"x":{"description":"y","datainfo":{"type":"command"}}}}},"equipment_id":"demo","description":"one stage"}"#;
-    assert_eq!(report_of(&bytes), expected);
+    let expected = r#"{"modules":{"a":{"interface_classes":[],"description":"first","accessibles":{}},"B":{"interface_classes":[],"description":"","accessibles":{}},"c":{"interface_classes":[],"description":"","accessibles":{"x":{"description":"y","datainfo":{"type":"command"}}}}},"equipment_id":"demo","description":"one stage"}"#;
+    assert_eq!(report_of(&noted), expected);
+    let plain = table(&[mo("a", "first"), mo("B", ""), mo("c", ""), cm("x", "y")]);
+    assert_eq!(report_of(&plain), expected);
 }
 
 #[test]

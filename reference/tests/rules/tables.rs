@@ -369,13 +369,14 @@ fn number_6_reports_over_32_000_bytes() {
     };
     // Three arguments of four levels and one of two, and three commas.
     let fixed = outside + module + 3 * command(10_308) + command(156) + 3;
-    let with_padding = |length: usize| {
+    let with_note = |note: Vec<u8>, length: usize| {
         let padding = length - fixed;
         let first = "x".repeat(padding / 4);
         let last = "x".repeat(padding - 3 * (padding / 4));
         [
             nd("", ""),
             mo("m", ""),
+            note,
             cm_with("a", &first, &bulky_argument(4)),
             cm_with("b", &first, &bulky_argument(4)),
             cm_with("c", &first, &bulky_argument(4)),
@@ -384,10 +385,16 @@ fn number_6_reports_over_32_000_bytes() {
         ]
         .concat()
     };
+    let with_padding = |length| with_note(Vec::new(), length);
     let read = Table::read(&with_padding(32_000)).expect("the layout");
     assert_eq!(report::write(&read).len(), 32_000);
     assert_eq!(number(&with_padding(32_000)), 0);
     assert_eq!(number(&with_padding(32_001)), 6);
+
+    // A note is not told, so its length doesn't matter.
+    let longest = no(&"n".repeat(255));
+    assert_eq!(number(&with_note(longest.clone(), 32_000)), 0);
+    assert_eq!(number(&with_note(longest, 32_001)), 6);
 
     // The longest reply: 5 + 13 + 32,000 + 1 bytes.
     let mut node = started(&with_padding(32_000), &[7], 0);

@@ -37,6 +37,14 @@ impl Table {
         self.record(b"MO", name, description)
     }
 
+    /// `NO`: a note on the module, straight after its `MO`. It is judged as a
+    /// text, and the structure report leaves it out.
+    pub fn note(mut self, text: &str) -> Table {
+        self.bytes.extend_from_slice(b"NO");
+        self.bytes.extend(counted(text));
+        self
+    }
+
     /// `PA`: a parameter with the value that it shows until it is set.
     pub fn parameter(
         mut self,

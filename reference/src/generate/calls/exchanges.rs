@@ -117,7 +117,7 @@ fn reports(course: &mut Course) {
     whole.modules[0].note = Some(b"a note".to_vec());
     whole.modules.push(module("t2", Vec::new()));
     whole.modules[1].note = Some(Vec::new());
-    course.started("a report with notes", &encode::table(&whole));
+    course.started("a report that leaves notes out", &encode::table(&whole));
     course.open(0);
     course.line(0, "describe");
     let keys = encode::table(&table(vec![module("m", of_each_type())]));

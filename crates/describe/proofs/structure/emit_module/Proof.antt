@@ -1,5 +1,5 @@
 -- `describe::structure::emit_module` meets its contract. Assumes nothing.
-use Rattle.describe.proofs.Reported.{module-bad, module-name, module-description, module-note, module-next, module-told}
+use Rattle.describe.proofs.Reported.{module-bad, module-name, module-description, module-next, module-told}
 use Rattle.ascii.specs.Text.{bytes}
 use borrow.Author.Needs.{needs}
 use Rattle.describe.proofs.structure.emit_module.Statement.{statement}
@@ -20,17 +20,20 @@ returns c = search module-bad
 emit-named-requires : tie.Need-emit-named-requires
 emit-named-requires c κs = (search module-name, search module-description)
 
-emit-note-requires : tie.Need-emit-note-requires
-emit-note-requires c κs = search module-note
-
-emit-accessibles-requires : tie.Need-emit-accessibles-requires
-emit-accessibles-requires c κs = search module-next
-
 slice-aggregate-emit : tie.Need-slice-aggregate-emit
 slice-aggregate-emit c = search needs
 
 emit-requires : tie.Need-emit-requires
 emit-requires c κs = search needs
+
+emit-accessibles-requires : tie.Need-emit-accessibles-requires
+emit-accessibles-requires c κs = search module-next
+
+slice-aggregate-emit-2 : tie.Need-slice-aggregate-emit-2
+slice-aggregate-emit-2 c = search needs
+
+emit-requires-2 : tie.Need-emit-requires-2
+emit-requires-2 c κs = search needs
 
 same-length : tie.Need-same-length
 same-length c = search needs
@@ -48,9 +51,10 @@ emit-module-spec =
     enum-told
     returns
     emit-named-requires
-    emit-note-requires
-    emit-accessibles-requires
     slice-aggregate-emit
     emit-requires
+    emit-accessibles-requires
+    slice-aggregate-emit-2
+    emit-requires-2
     same-length
     returns-2)
