@@ -3,7 +3,8 @@
 use crate::decimal::Decimal;
 use crate::name::are_good_names;
 
-/// A limit of a double: a whole number times a power of ten.
+/// A limit of a double or the scale of a scaled: a whole number times a power
+/// of ten.
 #[derive(Clone, Copy, Debug, PartialEq)]
 pub struct Limit {
     pub mantissa: i64,
@@ -34,6 +35,15 @@ pub enum Datainfo {
     },
     Tuple(Vec<Datainfo>),
     Struct(Vec<(Vec<u8>, Datainfo)>),
+    Scaled {
+        scale: Limit,
+        min: i64,
+        max: i64,
+    },
+    Blob {
+        minbytes: u16,
+        maxbytes: u16,
+    },
 }
 
 impl Limit {
@@ -84,6 +94,10 @@ impl Datainfo {
             Datainfo::Array { minlen, maxlen, .. } => minlen <= maxlen,
             Datainfo::Tuple(members) => (1..=8).contains(&members.len()),
             Datainfo::Struct(members) => (1..=8).contains(&members.len()),
+            Datainfo::Scaled { scale, min, max } => {
+                scale.keeps_its_rules() && scale.decimal() > Decimal::whole(0) && min <= max
+            }
+            Datainfo::Blob { minbytes, maxbytes } => minbytes <= maxbytes,
         };
         own_rules && self.inner().into_iter().all(Datainfo::keeps_its_rules)
     }

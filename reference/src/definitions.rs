@@ -103,8 +103,7 @@ fn bytes(bytes: &[u8]) -> String {
 
 fn character(byte: u8) -> String {
     match byte {
-        0 => "\\0".to_string(),
         b'\'' => "'".to_string(),
-        _ => char::from(byte).escape_default().to_string(),
+        _ => char::from(byte).escape_debug().to_string(),
     }
 }

@@ -6,7 +6,7 @@
 //!
 //! * [`table`] reads and judges the table, [`report`] writes its structure
 //!   report;
-//! * [`json`], [`decimal`], [`datainfo`] and [`value`] judge values;
+//! * [`json`], [`decimal`], [`base64`], [`datainfo`] and [`value`] judge values;
 //! * [`mod@line`] parts a request, [`error`] names the error classes, [`outbox`]
 //!   holds the records that are sent;
 //! * [`node`] is the plain node itself;
@@ -16,6 +16,7 @@
 //!   changes of it, for a program that reads them from its standard input;
 //! * [`random`] and [`generate`] make tables, values and histories.
 
+pub mod base64;
 pub mod datainfo;
 pub mod decimal;
 pub mod definitions;

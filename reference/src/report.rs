@@ -109,6 +109,21 @@ fn type_and_keys(datainfo: &Datainfo) -> (&'static [u8], Members) {
                 .map(|(name, member)| (&name[..], datainfo_report(member)));
             (b"struct", vec![(b"members", object(members))])
         }
+        Datainfo::Scaled { scale, min, max } => (
+            b"scaled",
+            vec![
+                (b"scale", limit(scale)),
+                (b"min", number(min)),
+                (b"max", number(max)),
+            ],
+        ),
+        Datainfo::Blob { minbytes, maxbytes } => (
+            b"blob",
+            vec![
+                (b"minbytes", number(minbytes)),
+                (b"maxbytes", number(maxbytes)),
+            ],
+        ),
     }
 }
 

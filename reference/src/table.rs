@@ -315,6 +315,15 @@ impl<'a> Layout<'a> {
             8 => Datainfo::Struct(
                 self.counted(|layout| Some((layout.text()?, layout.datainfo(inner_levels)?)))?,
             ),
+            9 => Datainfo::Scaled {
+                scale: self.limit()?,
+                min: self.i64()?,
+                max: self.i64()?,
+            },
+            10 => Datainfo::Blob {
+                minbytes: self.u16()?,
+                maxbytes: self.u16()?,
+            },
             _ => return None,
         })
     }

@@ -1,5 +1,6 @@
 //! Which values fit a datainfo, and what is stored of them.
 
+use crate::base64;
 use crate::datainfo::Datainfo;
 use crate::decimal::Decimal;
 use crate::json::{self, Json, Number, Text};
@@ -60,7 +61,9 @@ fn verdict(datainfo: &Datainfo, value: &Json) -> Verdict {
         (Datainfo::Double { min, max }, Json::Number(number)) => number_verdict(number, |value| {
             (min.decimal()..=max.decimal()).contains(&value)
         }),
-        (Datainfo::Int { min, max }, Json::Number(number)) if number.is_whole() => {
+        (Datainfo::Int { min, max } | Datainfo::Scaled { min, max, .. }, Json::Number(number))
+            if number.is_whole() =>
+        {
             number_verdict(number, |value| (whole(*min)..=whole(*max)).contains(&value))
         }
         (Datainfo::Enum(members), Json::Number(number)) if number.is_whole() => {
@@ -72,6 +75,9 @@ fn verdict(datainfo: &Datainfo, value: &Json) -> Verdict {
         }
         (Datainfo::String { minchars, maxchars }, Json::String(text)) => {
             string_verdict(text, *minchars, *maxchars)
+        }
+        (Datainfo::Blob { minbytes, maxbytes }, Json::String(text)) => {
+            blob_verdict(text, *minbytes, *maxbytes)
         }
         (
             Datainfo::Array {
@@ -118,7 +124,7 @@ fn is_within(count: usize, min: u16, max: u16) -> bool {
     (usize::from(min)..=usize::from(max)).contains(&count)
 }
 
-/// For the three number types alike: the token's length, its written power,
+/// For all number types alike: the token's length, its written power,
 /// then the value.
 fn number_verdict(number: &Number, fits: impl Fn(Decimal) -> bool) -> Verdict {
     let short_enough = number.token.len() <= MAX_TOKEN;
@@ -129,6 +135,14 @@ fn string_verdict(text: &Text, minchars: u16, maxchars: u16) -> Verdict {
     let characters = text.characters();
     let all_ascii = characters.iter().all(|&character| character <= 0x7F);
     in_range(all_ascii && is_within(characters.len(), minchars, maxchars))
+}
+
+/// The text between the quotes, as it is written, must be the base64 of some
+/// bytes: with an escape in it, it is none.
+fn blob_verdict(text: &Text, minbytes: u16, maxbytes: u16) -> Verdict {
+    base64::decode(&text.raw).map_or(Verdict::WrongType, |blob| {
+        in_range(is_within(blob.len(), minbytes, maxbytes))
+    })
 }
 
 /// A struct's member must be among the keys sent, raw byte by raw byte. As

@@ -764,6 +764,93 @@ history-33 =
 unfoldable pub history-34 : History
 history-34 =
     record {
+      table = bytes "ND\u{1}s\0MO\u{2}t1\0PA\u{1}s\0\0\t\0\0\0\0\0\0\0\u{19}üÿÿÿÿÿÿÿû\u{7f}ÿÿÿÿÿÿÿ\0\u{2}-0EN";
+      area = 16384;
+      time = 1000;
+      start = 0;
+      calls =
+          withArea (Open 0 2000) 16384
+          ∷ withOutbox (Piece 0 (bytes "change t1:s -5\n") 3000) 16384 32768
+          ∷ withOutbox (Piece 0 (bytes "change t1:s 9223372036854775807\n") 4000) 16384 32768
+          ∷ withOutbox (Piece 0 (bytes "change t1:s -6\n") 5000) 16384 32768
+          ∷ withOutbox (Piece 0 (bytes "change t1:s 9223372036854775808\n") 6000) 16384 32768
+          ∷ withOutbox (Piece 0 (bytes "change t1:s 1.0\n") 7000) 16384 32768
+          ∷ withOutbox (Piece 0 (bytes "change t1:s 1e0\n") 8000) 16384 32768
+          ∷ withOutbox (Piece 0 (bytes "change t1:s \"1\"\n") 9000) 16384 32768
+          ∷ withOutbox (Piece 0 (bytes "read t1:s\n") 10000) 16384 32768
+          ∷ [];
+      due =
+          record { number = 0; used = 0; written = bytes "" }
+          ∷ record { number = 0; used = 15; written = bytes "DR\0\0\u{3}\0-5RP\0\0\u{1e}changed t1:s [-5,{\"t\":3.000}]\n" }
+          ∷ record { number = 0; used = 32; written = bytes "DR\0\0\u{14}\09223372036854775807RP\0\0/changed t1:s [9223372036854775807,{\"t\":4.000}]\n" }
+          ∷ record { number = 0; used = 15; written = bytes "RP\0\0<error_change t1:s [\"RangeError\",\"value is out of range\",{}]\n" }
+          ∷ record { number = 0; used = 32; written = bytes "RP\0\0<error_change t1:s [\"RangeError\",\"value is out of range\",{}]\n" }
+          ∷ record { number = 0; used = 16; written = bytes "RP\0\0>error_change t1:s [\"WrongType\",\"value has the wrong type\",{}]\n" }
+          ∷ record { number = 0; used = 16; written = bytes "RP\0\0>error_change t1:s [\"WrongType\",\"value has the wrong type\",{}]\n" }
+          ∷ record { number = 0; used = 16; written = bytes "RP\0\0>error_change t1:s [\"WrongType\",\"value has the wrong type\",{}]\n" }
+          ∷ record { number = 0; used = 10; written = bytes "RP\0\0-reply t1:s [9223372036854775807,{\"t\":4.000}]\n" }
+          ∷ [];
+    }
+
+unfoldable pub history-35 : History
+history-35 =
+    record {
+      table = bytes "ND\u{1}s\0MO\u{2}t1\0PA\u{1}b\0\0\n\0\u{1}\0\u{4}\0\u{6}\"AAAA\"EN";
+      area = 16384;
+      time = 1000;
+      start = 0;
+      calls =
+          withArea (Open 0 2000) 16384
+          ∷ withOutbox (Piece 0 (bytes "change t1:b \"Zg==\"\n") 3000) 16384 32768
+          ∷ withOutbox (Piece 0 (bytes "change t1:b \"Zm9vYg==\"\n") 4000) 16384 32768
+          ∷ withOutbox (Piece 0 (bytes "change t1:b \"Zm9vYmE=\"\n") 5000) 16384 32768
+          ∷ withOutbox (Piece 0 (bytes "change t1:b \"\"\n") 6000) 16384 32768
+          ∷ withOutbox (Piece 0 (bytes "change t1:b \"Zh==\"\n") 7000) 16384 32768
+          ∷ withOutbox (Piece 0 (bytes "change t1:b \"Zg\"\n") 8000) 16384 32768
+          ∷ withOutbox (Piece 0 (bytes "change t1:b \"\\u005Ag==\"\n") 9000) 16384 32768
+          ∷ withOutbox (Piece 0 (bytes "change t1:b 1\n") 10000) 16384 32768
+          ∷ withOutbox (Piece 0 (bytes "read t1:b\n") 11000) 16384 32768
+          ∷ [];
+      due =
+          record { number = 0; used = 0; written = bytes "" }
+          ∷ record { number = 0; used = 19; written = bytes "DR\0\0\u{7}\0\"Zg==\"RP\0\0\"changed t1:b [\"Zg==\",{\"t\":3.000}]\n" }
+          ∷ record { number = 0; used = 23; written = bytes "DR\0\0\u{b}\0\"Zm9vYg==\"RP\0\0&changed t1:b [\"Zm9vYg==\",{\"t\":4.000}]\n" }
+          ∷ record { number = 0; used = 23; written = bytes "RP\0\0<error_change t1:b [\"RangeError\",\"value is out of range\",{}]\n" }
+          ∷ record { number = 0; used = 15; written = bytes "RP\0\0<error_change t1:b [\"RangeError\",\"value is out of range\",{}]\n" }
+          ∷ record { number = 0; used = 19; written = bytes "RP\0\0>error_change t1:b [\"WrongType\",\"value has the wrong type\",{}]\n" }
+          ∷ record { number = 0; used = 17; written = bytes "RP\0\0>error_change t1:b [\"WrongType\",\"value has the wrong type\",{}]\n" }
+          ∷ record { number = 0; used = 24; written = bytes "RP\0\0>error_change t1:b [\"WrongType\",\"value has the wrong type\",{}]\n" }
+          ∷ record { number = 0; used = 14; written = bytes "RP\0\0>error_change t1:b [\"WrongType\",\"value has the wrong type\",{}]\n" }
+          ∷ record { number = 0; used = 10; written = bytes "RP\0\0$reply t1:b [\"Zm9vYg==\",{\"t\":4.000}]\n" }
+          ∷ [];
+    }
+
+unfoldable pub history-36 : History
+history-36 =
+    record {
+      table = bytes "ND\u{1}s\0MO\u{2}t1\0CM\u{2}go\0\u{1}\u{8}\u{2}\u{1}s\t\0\0\0\0\0\0\0\u{1}\u{2}\0\0\0\0\0\0\0\0\0\0\0\0\0\0\0\t\u{1}b\u{6}\0\u{1}\0\u{2}\n\0\0\0\u{2}EN";
+      area = 16384;
+      time = 1000;
+      start = 0;
+      calls =
+          withArea (Open 0 2000) 16384
+          ∷ withOutbox (Piece 0 (bytes "describe\n") 3000) 16384 32768
+          ∷ withOutbox (Piece 0 (bytes "do t1:go {\"b\":[\"\",\"Zm8=\"],\"s\":9}\n") 4000) 16384 32768
+          ∷ withOutbox (Piece 0 (bytes "do t1:go {\"s\":10,\"b\":[\"Zm9=\"]}\n") 5000) 16384 32768
+          ∷ withOutbox (Piece 0 (bytes "do t1:go {\"s\":9,\"b\":[\"Zm9v\"]}\n") 6000) 16384 32768
+          ∷ [];
+      due =
+          record { number = 0; used = 0; written = bytes "" }
+          ∷ record { number = 0; used = 9; written = bytes "RP\0\u{1}ndescribing . {\"modules\":{\"t1\":{\"interface_classes\":[],\"description\":\"\",\"accessibles\":{\"go\":{\"description\":\"\",\"datainfo\":{\"type\":\"command\",\"argument\":{\"type\":\"struct\",\"members\":{\"s\":{\"type\":\"scaled\",\"scale\":1e2,\"min\":0,\"max\":9},\"b\":{\"type\":\"array\",\"minlen\":1,\"maxlen\":2,\"members\":{\"type\":\"blob\",\"minbytes\":0,\"maxbytes\":2}}}}}}}}},\"equipment_id\":\"s\",\"description\":\"\"}\n" }
+          ∷ record { number = 0; used = 33; written = bytes "DC\0\0\u{18}\0{\"b\":[\"\",\"Zm8=\"],\"s\":9}RP\0\0\u{1e}done t1:go [null,{\"t\":4.000}]\n" }
+          ∷ record { number = 0; used = 31; written = bytes "RP\0\0;error_do t1:go [\"WrongType\",\"value has the wrong type\",{}]\n" }
+          ∷ record { number = 0; used = 30; written = bytes "RP\0\09error_do t1:go [\"RangeError\",\"value is out of range\",{}]\n" }
+          ∷ [];
+    }
+
+unfoldable pub history-37 : History
+history-37 =
+    record {
       table = bytes "ND\u{1}s\0MO\u{2}t1\0EN";
       area = 16384;
       time = 1000;
@@ -794,8 +881,8 @@ history-34 =
           ∷ [];
     }
 
-unfoldable pub history-35 : History
-history-35 =
+unfoldable pub history-38 : History
+history-38 =
     record {
       table = bytes "ND\u{1}s\0MO\u{2}t1\0EN";
       area = 16384;
@@ -821,8 +908,8 @@ history-35 =
           ∷ [];
     }
 
-unfoldable pub history-36 : History
-history-36 =
+unfoldable pub history-39 : History
+history-39 =
     record {
       table = bytes "ND\u{1}s\0MO\u{2}t1\0PA\u{1}p\0\0\u{2}\0\0\0\0\0\0\0\0\0\0\0\0\0\0\0\t\0\u{1}3EN";
       area = 16384;
@@ -852,8 +939,8 @@ history-36 =
           ∷ [];
     }
 
-unfoldable pub history-37 : History
-history-37 =
+unfoldable pub history-40 : History
+history-40 =
     record {
       table = bytes "ND\u{1}s\0MO\u{2}t1\0PA\u{1}p\0\0\u{2}\0\0\0\0\0\0\0\0\0\0\0\0\0\0\0\t\0\u{1}3EN";
       area = 16384;
@@ -881,8 +968,8 @@ history-37 =
           ∷ [];
     }
 
-unfoldable pub history-38 : History
-history-38 =
+unfoldable pub history-41 : History
+history-41 =
     record {
       table = bytes "ND\u{1}s\0MO\u{2}t1\0PA\u{1}p\0\0\u{2}\0\0\0\0\0\0\0\0\0\0\0\0\0\0\0\t\0\u{1}3EN";
       area = 16384;
@@ -900,8 +987,8 @@ history-38 =
           ∷ [];
     }
 
-unfoldable pub history-39 : History
-history-39 =
+unfoldable pub history-42 : History
+history-42 =
     record {
       table = bytes "ND\u{1}s\0MO\u{2}t1\0PA\u{1}p\0\0\u{2}\0\0\0\0\0\0\0\0\0\0\0\0\0\0\0\t\0\u{1}3EN";
       area = 16383;
@@ -919,8 +1006,8 @@ history-39 =
           ∷ [];
     }
 
-unfoldable pub history-40 : History
-history-40 =
+unfoldable pub history-43 : History
+history-43 =
     record {
       table = bytes "ND\u{1}s\0MO\u{2}t1\0EN";
       area = 16384;
@@ -942,8 +1029,8 @@ history-40 =
           ∷ [];
     }
 
-unfoldable pub history-41 : History
-history-41 =
+unfoldable pub history-44 : History
+history-44 =
     record {
       table = bytes "ND\u{1}s\0MO\u{2}t1\0EN";
       area = 16384;
@@ -965,8 +1052,8 @@ history-41 =
           ∷ [];
     }
 
-unfoldable pub history-42 : History
-history-42 =
+unfoldable pub history-45 : History
+history-45 =
     record {
       table = bytes "ND\u{1}s\0MO\u{2}t1\0PA\u{1}p\0\0\u{2}\0\0\0\0\0\0\0\0\0\0\0\0\0\0\0\t\0\u{1}3EN";
       area = 16384;
@@ -992,8 +1079,8 @@ history-42 =
           ∷ [];
     }
 
-unfoldable pub history-43 : History
-history-43 =
+unfoldable pub history-46 : History
+history-46 =
     record {
       table = bytes "ND\u{1}s\0MO\u{2}t1\0NO\u{c}mind the gapPA\u{1}p\0\0\u{2}\0\0\0\0\0\0\0\0\0\0\0\0\0\0\0\t\0\u{1}3MO\u{2}mf\0NO\0EN";
       area = 16384;
@@ -1013,8 +1100,8 @@ history-43 =
           ∷ [];
     }
 
-unfoldable pub history-44 : History
-history-44 =
+unfoldable pub history-47 : History
+history-47 =
     record {
       table = bytes "ND\u{1}s\0MO\u{2}t1\0ENEN";
       area = 16384;
@@ -1028,8 +1115,8 @@ history-44 =
           ∷ [];
     }
 
-unfoldable pub history-45 : History
-history-45 =
+unfoldable pub history-48 : History
+history-48 =
     record {
       table = bytes "ND\u{1}s\0EN";
       area = 16384;
@@ -1043,8 +1130,8 @@ history-45 =
           ∷ [];
     }
 
-unfoldable pub history-46 : History
-history-46 =
+unfoldable pub history-49 : History
+history-49 =
     record {
       table = bytes "ND\u{1}s\0MO\u{2}9x\0EN";
       area = 16384;
@@ -1058,8 +1145,8 @@ history-46 =
           ∷ [];
     }
 
-unfoldable pub history-47 : History
-history-47 =
+unfoldable pub history-50 : History
+history-50 =
     record {
       table = bytes "ND\u{1}s\0MO\u{2}t1\0CM\u{1}c\0\u{1}\u{2}\0\0\0\0\0\0\0\u{1}\0\0\0\0\0\0\0\0EN";
       area = 16384;
@@ -1073,8 +1160,23 @@ history-47 =
           ∷ [];
     }
 
-unfoldable pub history-48 : History
-history-48 =
+unfoldable pub history-51 : History
+history-51 =
+    record {
+      table = bytes "ND\u{1}s\0MO\u{2}t1\0CM\u{1}c\0\u{1}\t\0\0\0\0\0\0\0\0\0\0\0\0\0\0\0\0\0\0\0\0\0\0\0\0\u{1}EN";
+      area = 16384;
+      time = 1000;
+      start = 4;
+      calls =
+          withArea (Open 0 2000) 16384
+          ∷ [];
+      due =
+          record { number = 4; used = 0; written = bytes "" }
+          ∷ [];
+    }
+
+unfoldable pub history-52 : History
+history-52 =
     record {
       table = bytes "ND\u{1}s\0MO\u{2}t1\0PA\u{1}p\0\0\u{2}\0\0\0\0\0\0\0\0\0\0\0\0\0\0\0\t\0\u{2}3 EN";
       area = 16384;
@@ -1088,8 +1190,8 @@ history-48 =
           ∷ [];
     }
 
-unfoldable pub history-49 : History
-history-49 =
+unfoldable pub history-53 : History
+history-53 =
     record {
       table = bytes "ND\u{1}s\0MO\u{2}9x\0CM\u{1}c\0\u{2}EN";
       area = 16384;
@@ -1103,8 +1205,8 @@ history-49 =
           ∷ [];
     }
 
-unfoldable pub history-50 : History
-history-50 =
+unfoldable pub history-54 : History
+history-54 =
     record {
       table = bytes "ND\u{1}s\u{1}\"EN";
       area = 16384;
@@ -1118,8 +1220,8 @@ history-50 =
           ∷ [];
     }
 
-unfoldable pub history-51 : History
-history-51 =
+unfoldable pub history-55 : History
+history-55 =
     record {
       table = bytes "ND\u{1}s\0MO\u{2}t1\0CM\u{1}c\0\u{1}\u{4}\u{2}\u{1}a\0\0\0\0\u{1}A\0\0\0\0EN";
       area = 16384;
@@ -1133,8 +1235,8 @@ history-51 =
           ∷ [];
     }
 
-unfoldable pub history-52 : History
-history-52 =
+unfoldable pub history-56 : History
+history-56 =
     record {
       table = bytes "ND\u{1}s\0MO\u{2}t1\0PA\u{1}p\0\0\u{5}\0\u{1}\0\0\0\u{1}2EN";
       area = 16384;
@@ -1148,8 +1250,8 @@ history-52 =
           ∷ [];
     }
 
-unfoldable pub history-53 : History
-history-53 =
+unfoldable pub history-57 : History
+history-57 =
     record {
       table = bytes "ND\u{1}s\0MO\u{2}t1\0PA\u{1}p\0\0\u{2}\0\0\0\0\0\0\0\0\0\0\0\0\0\0\0\t\0\u{2}3 EN";
       area = 16383;
@@ -1164,4 +1266,4 @@ history-53 =
     }
 
 unfoldable pub histories : List History
-histories = history-1 ∷ history-2 ∷ history-3 ∷ history-4 ∷ history-5 ∷ history-6 ∷ history-7 ∷ history-8 ∷ history-9 ∷ history-10 ∷ history-11 ∷ history-12 ∷ history-13 ∷ history-14 ∷ history-15 ∷ history-16 ∷ history-17 ∷ history-18 ∷ history-19 ∷ history-20 ∷ history-21 ∷ history-22 ∷ history-23 ∷ history-24 ∷ history-25 ∷ history-26 ∷ history-27 ∷ history-28 ∷ history-29 ∷ history-30 ∷ history-31 ∷ history-32 ∷ history-33 ∷ history-34 ∷ history-35 ∷ history-36 ∷ history-37 ∷ history-38 ∷ history-39 ∷ history-40 ∷ history-41 ∷ history-42 ∷ history-43 ∷ history-44 ∷ history-45 ∷ history-46 ∷ history-47 ∷ history-48 ∷ history-49 ∷ history-50 ∷ history-51 ∷ history-52 ∷ history-53 ∷ []
+histories = history-1 ∷ history-2 ∷ history-3 ∷ history-4 ∷ history-5 ∷ history-6 ∷ history-7 ∷ history-8 ∷ history-9 ∷ history-10 ∷ history-11 ∷ history-12 ∷ history-13 ∷ history-14 ∷ history-15 ∷ history-16 ∷ history-17 ∷ history-18 ∷ history-19 ∷ history-20 ∷ history-21 ∷ history-22 ∷ history-23 ∷ history-24 ∷ history-25 ∷ history-26 ∷ history-27 ∷ history-28 ∷ history-29 ∷ history-30 ∷ history-31 ∷ history-32 ∷ history-33 ∷ history-34 ∷ history-35 ∷ history-36 ∷ history-37 ∷ history-38 ∷ history-39 ∷ history-40 ∷ history-41 ∷ history-42 ∷ history-43 ∷ history-44 ∷ history-45 ∷ history-46 ∷ history-47 ∷ history-48 ∷ history-49 ∷ history-50 ∷ history-51 ∷ history-52 ∷ history-53 ∷ history-54 ∷ history-55 ∷ history-56 ∷ history-57 ∷ []

@@ -25,13 +25,13 @@ use Rattle.ascii.specs.Reader.{Ends, rest}
 use Rattle.ascii.specs.Read.{ReadsUnsigned, ReadsSigned}
 use Rattle.decimal.specs.Token.{isWhole}
 use Rattle.decimal.specs.Token as Token
-use Rattle.decimal.specs.Decimal.{between, exactly, isWithinLimits}
+use Rattle.decimal.specs.Decimal.{Decimal, between, exactly, isWithinLimits}
 use Rattle.decimal.specs.Exact.{decimal}
 use Rattle.json.specs.Json.{Json, null, boolean, bare, upTo}
 use Rattle.json.specs.Json as Json
 use Rattle.json.proofs.ReadAgain.{of-some, number-takes}
-use Rattle.datainfo.specs.Datainfo.{Datainfo, Variant, double, int, enum, bool}
-use Rattle.datainfo.specs.Layout.{limit, doubleAt, intAt, counted, variants, enumAt, stringAt}
+use Rattle.datainfo.specs.Datainfo.{Datainfo, Variant, double, int, enum, bool, scaled}
+use Rattle.datainfo.specs.Layout.{limit, doubleAt, intAt, counted, variants, enumAt, stringAt, scaledAt, blobAt}
 use Rattle.datainfo.specs.Kept.{ReadsLimit}
 use Rattle.datainfo.specs.declared.rules.Limit as L
 use Rattle.datainfo.specs.declared.rules.Limit.{Limit}
@@ -99,6 +99,25 @@ module _ (s : List ℕ) (at : ℕ) (t : List ℕ) (r : Verdict) (u : Signed) (k 
     pub int-good : (hi : ℤ) (b : ℕ) → w ≡ S.the-variants.Read hi b → SFits w64 lo → SFits w64 hi → meaning r ≡ wholeFit (betweenIntegers (back w64 lo) (back w64 hi)) t → Judges (intAt (drop at s)) (some (Json.number t, [])) r
     unfolding intAt fit expect asNumber
     int-good hi b f i1 i2 h = judges-is {d = int lo hi} {x = drop b s} (simp ((rw e at k) .0, (rw f at l) .0)) refl (rw (toZ-ofZ i1, toZ-ofZ i2) at h)
+
+-- ## scaled: a scale, and the limits of an int
+
+scaled-some : {S : Type 0} (xs : List ℕ) {d : Datainfo} {x : List ℕ} → scaledAt xs ≡ some (d, x)
+    → ((m : Decimal) (y : List ℕ) (lo hi : ℤ) → limit xs ≡ some (m, y) → intAt y ≡ some (int lo hi, x) → d ≡ scaled m lo hi → S) → S
+unfolding scaledAt intAt
+scaled-some xs e f =
+    steps (limit xs) _ e λ o a e. steps (signed 8 (o .1)) _ e λ p b e. steps (signed 8 (p .1)) _ e λ q c e.
+    f (o .0) (o .1) (p .0) (q .0) a (rw (b, c, ap (λ p. p .1) (just e))) (sym (ap (λ p. p .0) (just e)))
+
+module _ (s : List ℕ) (at : ℕ) (t : List ℕ) (r : Verdict) (u : Limit) (k : ReadsLimit s u (limit (drop at s))) where
+  pub scaled-short : u ≡ L.the-variants.Short → Judges (scaledAt (drop at s)) (some (Json.number t, [])) r
+  unfolding scaledAt
+  scaled-short e = judges-none (simp (rw e at k))
+
+  pub scaled-int : (m p : ℤ) (a : ℕ) → u ≡ L.the-variants.Read m p a → Judges (intAt (drop a s)) (some (Json.number t, [])) r
+      → Judges (scaledAt (drop at s)) (some (Json.number t, [])) r
+  unfolding fit
+  scaled-int m p a e h = judges-of refl λ d x f. scaled-some (drop at s) f λ n y lo hi g i z. rw z (h .is (rw (same-left g ((rw e at k) .0)) at i) refl)
 
 -- ## enum: the members
 
@@ -213,7 +232,7 @@ pub enum-whole : (s : List ℕ) (at : ℕ) (t : List ℕ) (o : Bool) (r : Verdic
     → Judges (enumAt (drop at s)) (some (Json.number t, [])) r
 enum-whole s at t o r e h f = f (sym e ∙ h)
 
--- ## The three types
+-- ## The four types
 
 module _ (k : ℕ) (xs : List ℕ) (q : Option (Json × List ℕ)) (r : Verdict) where
   pub token-double : k ≡ 1 → Judges (doubleAt xs) q r → Judges (numeric k xs) q r
@@ -224,9 +243,13 @@ module _ (k : ℕ) (xs : List ℕ) (q : Option (Json × List ℕ)) (r : Verdict)
   unfolding numeric
   token-int e h = rw e h
 
-  pub token-enum : (k ≡ 1 → ⊥) → (k ≡ 2 → ⊥) → Judges (enumAt xs) q r → Judges (numeric k xs) q r
+  pub token-scaled : k ≡ 9 → Judges (scaledAt xs) q r → Judges (numeric k xs) q r
   unfolding numeric
-  token-enum n1 n2 h = simp (ne-eqb k 1 n1, ne-eqb k 2 n2) (go (eqb k 4))
+  token-scaled e h = rw e h
+
+  pub token-enum : (k ≡ 1 → ⊥) → (k ≡ 2 → ⊥) → (k ≡ 9 → ⊥) → Judges (enumAt xs) q r → Judges (numeric k xs) q r
+  unfolding numeric
+  token-enum n1 n2 n9 h = simp (ne-eqb k 1 n1, ne-eqb k 2 n2, ne-eqb k 9 n9) (go (eqb k 4))
     where
       go : (b : Bool) → Judges (cond b (enumAt xs) none) q r
       go true = h
@@ -242,11 +265,16 @@ module _ (j : Json) (n : asNumber j ≡ none) where
   unfolding intAt fit expect
   int-wrong xs e = steps (signed 8 xs) _ e λ p a e. steps (signed 8 (p .1)) _ e λ q b e. rw (← (ap (λ p. p .0) (just e)), n)
 
+  scaled-wrong : (xs : List ℕ) {d : Datainfo} {x : List ℕ} → scaledAt xs ≡ some (d, x) → wrongType ≡ fit d j
+  unfolding fit expect
+  scaled-wrong xs e = scaled-some xs e λ m y lo hi a b z. rw (z, n)
+
   numeric-wrong : (k : ℕ) (xs : List ℕ) {d : Datainfo} {x : List ℕ} → numeric k xs ≡ some (d, x) → wrongType ≡ fit d j
   unfolding numeric fit expect
   numeric-wrong k xs e =
       either k 1 _ _ e (λ _ e. double-wrong xs e) λ _ e.
       either k 2 _ _ e (λ _ e. int-wrong xs e) λ _ e.
+      either k 9 _ _ e (λ _ e. scaled-wrong xs e) λ _ e.
       either k 4 _ _ e (λ _ e. enum-some xs e λ m r vs a b z. rw (z, n)) λ _ e. absurd (nothing e)
 
 number-from : (j : Json) {t : List ℕ} → asNumber j ≡ some t → j ≡ Json.number t
@@ -295,6 +323,10 @@ module _ (k : ℕ) (xs : List ℕ) (q : Option (Json × List ℕ)) (r : Verdict)
   unfolding plain
   plain-string e h = rw e h
 
-  pub plain-number : (k ≡ 3 → ⊥) → (k ≡ 5 → ⊥) → Judges (numeric k xs) q r → Judges (plain k xs) q r
+  pub plain-blob : k ≡ 10 → Judges (blobAt xs) q r → Judges (plain k xs) q r
   unfolding plain
-  plain-number n3 n5 h = simp (ne-eqb k 3 n3, ne-eqb k 5 n5) h
+  plain-blob e h = rw e h
+
+  pub plain-number : (k ≡ 3 → ⊥) → (k ≡ 5 → ⊥) → (k ≡ 10 → ⊥) → Judges (numeric k xs) q r → Judges (plain k xs) q r
+  unfolding plain
+  plain-number n3 n5 n10 h = simp (ne-eqb k 3 n3, ne-eqb k 5 n5, ne-eqb k 10 n10) h

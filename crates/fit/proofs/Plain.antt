@@ -4,22 +4,26 @@ use mathlib.Core.Logic.{_⊎_, inl, inr, ⊎-elim}
 use mathlib.Core.Path.{_≡_, refl, sym, ap, _∙_}
 use mathlib.Core.Bool.{Bool, true, false}
 use mathlib.Core.List.{List, []}
-use mathlib.Core.Option.{some}
+use mathlib.Core.Option.{Option, some}
 use lib.ListN.{length, drop}
 use lib.Dec.{leb}
 use Rattle.ascii.specs.declared.Unsigned as U
 use Rattle.ascii.specs.declared.Unsigned.{Unsigned}
-use Rattle.ascii.specs.Bytes.{all, head}
+use Rattle.ascii.specs.Bytes.{_>>=_, all, head}
 use Rattle.ascii.specs.Numbers.{unsigned}
 use Rattle.ascii.specs.Reader.{ByteAt}
 use Rattle.ascii.specs.Read.{ReadsUnsigned}
 use Rattle.json.specs.Json.{Json, bare}
 use Rattle.json.specs.Json as Json
 use Rattle.json.specs.Characters.{characters}
-use Rattle.datainfo.specs.Datainfo.{Datainfo, bool, string}
-use Rattle.datainfo.specs.Layout.{stringAt}
+use Rattle.base64.specs.Base64.{blobSize}
+use Rattle.base64.specs.Answer as Answer
+use Rattle.base64.specs.declared.Size.{Size}
+use Rattle.base64.specs.declared.Size.the-variants.{Of, Bad}
+use Rattle.datainfo.specs.Datainfo.{Datainfo, bool, string, blob}
+use Rattle.datainfo.specs.Layout.{stringAt, blobAt}
 use Rattle.datainfo.specs.Rules.{isBetween}
-use Rattle.fit.specs.Fit.{inRange, expect, asString, stringFit, fit}
+use Rattle.fit.specs.Fit.{inRange, expect, asString, stringFit, blobFit, fit}
 use Rattle.fit.specs.Verdict.{meaning, Judges, Limits}
 use Rattle.fit.specs.Walk.{Quoted}
 use Rattle.fit.specs.declared.Verdict.{Verdict}
@@ -64,13 +68,23 @@ module _ (s : List ℕ) (at n : ℕ) (r : Verdict) (u : Unsigned) (k : ReadsUnsi
     pub limits-good : (hi b : ℕ) → w ≡ U.the-variants.Read hi b → meaning r ≡ inRange (isBetween lo hi n) → Limits (drop at s) n r
     limits-good hi b h i = record { is = λ f g. rw (same-read f ((rw e at k) .0), same-read (rw (past f) at g) ((rw h at l) .0)) i }
 
--- ## string
+-- two limits that are made into a datainfo
+module _ {S : Type 0} (make : ℕ → ℕ → Datainfo) (xs : List ℕ) {d : Datainfo} {x : List ℕ} where
+  limits-some : (unsigned 2 xs >>= λ p. _>>=_ {B = Datainfo × List ℕ} (unsigned 2 (p .1)) (λ q. some (make (p .0) (q .0), q .1))) ≡ some (d, x)
+      → ((lo hi : ℕ) (y : List ℕ) → unsigned 2 xs ≡ some (lo, y) → unsigned 2 y ≡ some (hi, x) → d ≡ make lo hi → S) → S
+  limits-some e f = steps (unsigned 2 xs) _ e λ p h k. steps (unsigned 2 (p .1)) _ k λ q g l.
+      f (p .0) (q .0) (p .1) h (g ∙ ap (λ y. some (q .0, y)) (ap (λ p. p .1) (just l))) (sym (ap (λ p. p .0) (just l)))
 
-string-some : {S : Type 0} (xs : List ℕ) {d : Datainfo} {x : List ℕ} → stringAt xs ≡ some (d, x)
-    → ((lo hi : ℕ) (y : List ℕ) → unsigned 2 xs ≡ some (lo, y) → unsigned 2 y ≡ some (hi, x) → d ≡ string lo hi → S) → S
-unfolding stringAt
-string-some xs e f = steps (unsigned 2 xs) _ e λ p h k. steps (unsigned 2 (p .1)) _ k λ q g l.
-    f (p .0) (q .0) (p .1) h (g ∙ ap (λ y. some (q .0, y)) (ap (λ p. p .1) (just l))) (sym (ap (λ p. p .0) (just l)))
+module _ {S : Type 0} (xs : List ℕ) {d : Datainfo} {x : List ℕ} where
+  string-some : stringAt xs ≡ some (d, x) → ((lo hi : ℕ) (y : List ℕ) → unsigned 2 xs ≡ some (lo, y) → unsigned 2 y ≡ some (hi, x) → d ≡ string lo hi → S) → S
+  unfolding stringAt
+  string-some e f = limits-some string xs e f
+
+  blob-some : blobAt xs ≡ some (d, x) → ((lo hi : ℕ) (y : List ℕ) → unsigned 2 xs ≡ some (lo, y) → unsigned 2 y ≡ some (hi, x) → d ≡ blob lo hi → S) → S
+  unfolding blobAt
+  blob-some e f = limits-some blob xs e f
+
+-- ## string
 
 module _ (xs t : List ℕ) (f : Bool) (g : f ≡ all (λ c. leb c 127) (characters t)) where
   pub string-high : f ≡ false → Judges (stringAt xs) (some (Json.string t, [])) RangeError
@@ -81,15 +95,54 @@ module _ (xs t : List ℕ) (f : Bool) (g : f ≡ all (λ c. leb c 127) (characte
   unfolding fit expect asString stringFit
   string-low h n r m i = judges-of refl λ d x e. string-some xs e λ lo hi y a b z. rw (z, ← g, h, ← m) (i .is a b)
 
--- the string at p, with the bytes t between its quotes
+-- ## blob
+
+-- z is what the code sizes the bytes t at
+module _ (xs t : List ℕ) (z : Size) (g : Answer.meaning z ≡ blobSize t) where
+  pub blob-bad : z ≡ Bad → Judges (blobAt xs) (some (Json.string t, [])) WrongType
+  unfolding fit expect asString blobFit
+  blob-bad h = judges-of refl λ d x e. blob-some xs e λ lo hi y a b w. rw (w, ← g, h)
+
+  pub blob-sized : (n : ℕ) → z ≡ Of n → (r : Verdict) → Limits xs n r → Judges (blobAt xs) (some (Json.string t, [])) r
+  unfolding fit expect asString blobFit
+  blob-sized n h r i = judges-of refl λ d x e. blob-some xs e λ lo hi y a b w. rw (w, ← g, h) (i .is a b)
+
+-- ## Strings, each judged by the bytes t between its quotes
+
+-- of the datainfo that o reads, if any, the values are strings
+pub record Strings (o : Option (Datainfo × List ℕ)) : Type 0 where
+  pub are : {d : Datainfo} {x : List ℕ} → o ≡ some (d, x) → (j : Json) → fit d j ≡ expect (asString j) (λ t. fit d (Json.string t))
+
+pub string-strings : (xs : List ℕ) → Strings (stringAt xs)
+unfolding fit expect asString
+string-strings xs = record { are = λ e j. string-some xs e λ lo hi y a b z. rw z refl }
+
+pub blob-strings : (xs : List ℕ) → Strings (blobAt xs)
+unfolding fit expect asString
+blob-strings xs = record { are = λ e j. blob-some xs e λ lo hi y a b z. rw z refl }
+
+module _ (o : Option (Datainfo × List ℕ)) (w : Strings o) (v : List ℕ) (p b : ℕ) (x : ByteAt v p b) (depth : ℕ) where
+  other : (b ≡ 34 → ⊥) → Judges o (bare depth (drop p v)) WrongType
+  unfolding expect
+  other h = record { is = λ e k. sym (w .are e _ ∙ rw (tells-no (as-string (shape depth (drop p v) k)) (λ g. h (x .is ∙ g)))) }
+
+  within : b ≡ 34 → (t : List ℕ) (r : Verdict) → Quoted (drop p v) t → Judges o (some (Json.string t, [])) r → Judges o (bare depth (drop p v)) r
+  unfolding expect
+  within h t r q g = record {
+    is = λ e k. tells-yes (as-string (shape depth (drop p v) k)) (sym (x .is) ∙ h) λ a i u.
+        sym (w .are e _ ∙ rw (i, u .1, ← (q .is (sym (x .is) ∙ h) (u .0))) (sym (g .is e refl)));
+  }
+
+-- the string at p
 module _ (s : List ℕ) (at : ℕ) (v : List ℕ) (p b : ℕ) (x : ByteAt v p b) (depth : ℕ) where
   pub string-other : (b ≡ 34 → ⊥) → Judges (stringAt (drop at s)) (bare depth (drop p v)) WrongType
-  unfolding fit expect
-  string-other h = record { is = λ e k. string-some (drop at s) e λ lo hi y c f z. rw (z, tells-no (as-string (shape depth (drop p v) k)) (λ g. h (x .is ∙ g))) }
+  string-other h = other (stringAt (drop at s)) (string-strings (drop at s)) v p b x depth h
 
   pub string-quoted : b ≡ 34 → (t : List ℕ) (r : Verdict) → Quoted (drop p v) t → Judges (stringAt (drop at s)) (some (Json.string t, [])) r → Judges (stringAt (drop at s)) (bare depth (drop p v)) r
-  unfolding fit expect asString
-  string-quoted h t r q g = record {
-    is = λ e k. string-some (drop at s) e λ lo hi y c f z. tells-yes (as-string (shape depth (drop p v) k)) (sym (x .is) ∙ h) λ a i w.
-        rw (z, i, w .1, ← (q .is (sym (x .is) ∙ h) (w .0))) (rw z at (g .is e refl));
-  }
+  string-quoted h t r q g = within (stringAt (drop at s)) (string-strings (drop at s)) v p b x depth h t r q g
+
+  pub blob-other : (b ≡ 34 → ⊥) → Judges (blobAt (drop at s)) (bare depth (drop p v)) WrongType
+  blob-other h = other (blobAt (drop at s)) (blob-strings (drop at s)) v p b x depth h
+
+  pub blob-quoted : b ≡ 34 → (t : List ℕ) (r : Verdict) → Quoted (drop p v) t → Judges (blobAt (drop at s)) (some (Json.string t, [])) r → Judges (blobAt (drop at s)) (bare depth (drop p v)) r
+  blob-quoted h t r q g = within (blobAt (drop at s)) (blob-strings (drop at s)) v p b x depth h t r q g

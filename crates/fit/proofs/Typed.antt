@@ -25,9 +25,17 @@ module _ (f : List ℕ → Option (Datainfo × List ℕ)) (k : ℕ) (xs : List �
   unfolding typed plain numeric
   typed-plain = one (eqb k 1) refl
     where
+      ten : (b : Bool) → eqb k 10 ≡ b → eqb k 1 ≡ false → eqb k 2 ≡ false → eqb k 3 ≡ false → eqb k 4 ≡ false → eqb k 5 ≡ false → eqb k 9 ≡ false → typed f k xs ≡ plain k xs
+      ten true h a b c d e g = rw (eqb-true k 10 h)
+      ten false h a b c d e g = rw (a, b, c, d, e, g, h, ne-eqb k 6 n6, ne-eqb k 7 n7, ne-eqb k 8 n8)
+
+      nine : (b : Bool) → eqb k 9 ≡ b → eqb k 1 ≡ false → eqb k 2 ≡ false → eqb k 3 ≡ false → eqb k 4 ≡ false → eqb k 5 ≡ false → typed f k xs ≡ plain k xs
+      nine true h a b c d e = rw (eqb-true k 9 h)
+      nine false h a b c d e = ten (eqb k 10) refl a b c d e h
+
       five : (b : Bool) → eqb k 5 ≡ b → eqb k 1 ≡ false → eqb k 2 ≡ false → eqb k 3 ≡ false → eqb k 4 ≡ false → typed f k xs ≡ plain k xs
       five true h a b c d = rw (eqb-true k 5 h)
-      five false h a b c d = rw (a, b, c, d, h, ne-eqb k 6 n6, ne-eqb k 7 n7, ne-eqb k 8 n8)
+      five false h a b c d = nine (eqb k 9) refl a b c d h
 
       four : (b : Bool) → eqb k 4 ≡ b → eqb k 1 ≡ false → eqb k 2 ≡ false → eqb k 3 ≡ false → typed f k xs ≡ plain k xs
       four true h a b c = rw (eqb-true k 4 h)

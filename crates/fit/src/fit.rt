@@ -11,7 +11,7 @@ ghost use Rattle.decimal.specs.Token.{isWhole};
 ghost use Rattle.json.specs.Json as Json;
 ghost use Rattle.json.specs.Json.{bare, value, objectEnd};
 ghost use Rattle.datainfo.specs.Datainfo as Datainfo;
-ghost use Rattle.datainfo.specs.Layout.{doubleAt, intAt, enumAt, stringAt, arrayAt, tupleAt, structAt, datainfoIn, ReadableAt};
+ghost use Rattle.datainfo.specs.Layout.{doubleAt, intAt, enumAt, stringAt, arrayAt, tupleAt, structAt, scaledAt, blobAt, datainfoIn, ReadableAt};
 ghost use Rattle.datainfo.specs.Rules.{isBetween};
 ghost use Rattle.fit.specs.Fit as Fit;
 ghost use Rattle.fit.specs.Fit.{isFit, inRange, wholeFit, betweenIntegers};
@@ -28,6 +28,8 @@ use ascii::Unsigned;
 use ascii::byte;
 use ascii::numbers::signed;
 use ascii::numbers::unsigned;
+use base64::Size;
+use base64::blob_size;
 use datainfo::layout::counted_end;
 use datainfo::layout::datainfo_end;
 use datainfo::layout::part_end;
@@ -101,7 +103,7 @@ fn range_fit(passes: bool) -> Verdict
     Verdict::RangeError
 }
 
-// A number token, of which any is of the kind.
+// A number token, of which any is of the kind. `is_between` is the exact comparison, here and for int, scaled and enum.
 fn double_fit(s: &[u8], at: usize, t: &[u8]) -> Verdict
     requires { ⌜ at ≤ length (now s) ⌝ }
     ensures { λ r. ⌜ Judges (doubleAt (drop at (now (s .entry)))) (some (Json.number (now (t .entry)), [])) r ⌝ }
@@ -136,6 +138,17 @@ fn int_fit(s: &[u8], at: usize, t: &[u8]) -> Verdict
         return Verdict::WrongType;
     };
     whole_fit(lo, hi, t)
+}
+
+// The limits of a scaled, behind its scale, are those of an int.
+fn scaled_fit(s: &[u8], at: usize, t: &[u8]) -> Verdict
+    requires { ⌜ at ≤ length (now s) ⌝ }
+    ensures { λ r. ⌜ Judges (scaledAt (drop at (now (s .entry)))) (some (Json.number (now (t .entry)), [])) r ⌝ }
+{
+    let Limit::Read(_, _, limits) = limit_at(s, at) else {
+        return Verdict::WrongType;
+    };
+    int_fit(s, limits, t)
 }
 
 // Whether the token t is the value of a member of an enum; of tokens with a dot or an 'e' nothing is said.
@@ -174,7 +187,7 @@ fn enum_fit(s: &[u8], at: usize, t: &[u8]) -> Verdict
     Verdict::WrongType
 }
 
-// A number token for the type k, one of double (1), int (2) and enum (4).
+// A number token for the type k, one of double (1), int (2), scaled (9) and enum (4).
 fn token_fit(s: &[u8], at: usize, k: u64, t: &[u8]) -> Verdict
     requires { ⌜ at ≤ length (now s) ⌝ }
     ensures { λ r. ⌜ Judges (numeric k (drop at (now (s .entry)))) (some (Json.number (now (t .entry)), [])) r ⌝ }
@@ -184,6 +197,9 @@ fn token_fit(s: &[u8], at: usize, k: u64, t: &[u8]) -> Verdict
     }
     if k == 2 {
         return int_fit(s, at, t);
+    }
+    if k == 9 {
+        return scaled_fit(s, at, t);
     }
     enum_fit(s, at, t)
 }
@@ -233,6 +249,27 @@ fn string_fit(s: &[u8], at: usize, v: &[u8], p: usize) -> Verdict
     characters_fit(s, at, quoted(v, p))
 }
 
+// A string with the bytes t between its quotes, among which an escape is never base64.
+fn base64_fit(s: &[u8], at: usize, t: &[u8]) -> Verdict
+    requires { ⌜ at ≤ length (now s) ⌝ }
+    ensures { λ r. ⌜ Judges (blobAt (drop at (now (s .entry)))) (some (Json.string (now (t .entry)), [])) r ⌝ }
+{
+    let Size::Of(n) = blob_size(t) else {
+        return Verdict::WrongType;
+    };
+    limits_fit(s, at, n)
+}
+
+fn blob_fit(s: &[u8], at: usize, v: &[u8], p: usize) -> Verdict
+    requires { ⌜ (at ≤ length (now s)) × (p ≤ length (now v)) ⌝ }
+    ensures { λ r. ⌜ ((depth : ℕ) → Judges (blobAt (drop at (now (s .entry)))) (bare depth (drop p (now (v .entry)))) r) ⌝ }
+{
+    if byte(v, p) != b'"' {
+        return Verdict::WrongType;
+    }
+    base64_fit(s, at, quoted(v, p))
+}
+
 // What follows the type byte k of a type that holds no datainfos.
 fn plain_fit(s: &[u8], at: usize, k: u64, v: &[u8], p: usize) -> Verdict
     requires { ⌜ (at ≤ length (now s)) × (p ≤ length (now v)) ⌝ }
@@ -243,6 +280,9 @@ fn plain_fit(s: &[u8], at: usize, k: u64, v: &[u8], p: usize) -> Verdict
     }
     if k == 5 {
         return string_fit(s, at, v, p);
+    }
+    if k == 10 {
+        return blob_fit(s, at, v, p);
     }
     number_fit(s, at, k, v, p)
 }

@@ -1,4 +1,8 @@
 // Which values fit a datainfo in the table's bytes.
+ghost use mathlib.Core.Bool.{true};
+ghost use mathlib.Core.Path.{_≡_};
+ghost use Rattle.fit.specs.Theorems.{OneComparison};
+
 pub mod fit;
 mod object;
 mod walk;
@@ -9,4 +13,11 @@ pub enum Verdict {
     RangeError,
     WrongType,
     BadJson,
+}
+
+// One exact comparison judges the numbers of doubles, ints and scaled: nothing is run, the promise is the theorem.
+pub fn one_comparison() -> bool
+    ensures { λ r. ⌜ (r ≡ true) × OneComparison ⌝ }
+{
+    true
 }

@@ -16,12 +16,13 @@ use Rattle.ascii.specs.Read.{ReadsUnsigned, ReadsSigned}
 use Rattle.ascii.specs.declared.Unsigned as U
 use Rattle.ascii.specs.declared.Signed as S
 use Rattle.decimal.specs.Decimal.{Decimal}
+use Rattle.decimal.specs.Exact.{decimal as decimalOf}
 use Rattle.json.specs.Json.{quoted, compact, compactMembers, moreMembers}
 use Rattle.datainfo.specs.declared.rules.Limit as L
 use Rattle.datainfo.specs.Kept.{ReadsLimit}
 use Rattle.datainfo.specs.Datainfo as Datainfo
 use Rattle.datainfo.specs.Datainfo.{Datainfo}
-use Rattle.datainfo.specs.Layout.{limit, doubleAt, intAt, stringAt, arrayAt, datainfoIn}
+use Rattle.datainfo.specs.Layout.{limit, doubleAt, intAt, stringAt, arrayAt, scaledAt, blobAt, datainfoIn}
 use Rattle.report.specs.Report.{decimalText, datainfoValue}
 use Rattle.emit.specs.Emitted.{Emits, told, Says}
 use Rattle.infos.specs.Texts.{datainfoText, arrayLimits, opening, closing}
@@ -79,6 +80,10 @@ module _ {d0 d1 d2 d3 : List ℕ} {p0 p1 p2 p3 : ℕ} where
   unfolding datainfoText datainfoValue compact compactMembers moreMembers quoted bytes
   chars-text lo hi a b c = both (both a (both b (after b))) c
 
+  blob-text : (lo hi : ℕ) → Emits d0 p0 (bytes "{\"type\":\"blob\",\"minbytes\":" ++ decimal lo) d1 p1 → Emits d1 p1 (bytes ",\"maxbytes\":" ++ decimal hi) d2 p2 → Emits d2 p2 (bytes "}") d3 p3 → Emits d0 p0 (datainfoText (Datainfo.blob lo hi)) d3 p3
+  unfolding datainfoText datainfoValue compact compactMembers moreMembers quoted bytes
+  blob-text lo hi a b c = both (both a (both b (after b))) c
+
   pub array-limits : (lo hi : ℕ) → Emits d0 p0 (bytes "{\"type\":\"array\",\"minlen\":" ++ decimal lo) d1 p1 → Emits d1 p1 (bytes ",\"maxlen\":" ++ decimal hi) d2 p2 → Emits d2 p2 (bytes ",\"members\":") d3 p3 → Emits d0 p0 (arrayLimits lo hi) d3 p3
   unfolding arrayLimits
   array-limits lo hi a b c = both (both a b) c
@@ -89,6 +94,14 @@ module _ {d0 d1 d2 d3 : List ℕ} {p0 p1 p2 p3 : ℕ} where
     where
       go : (y : List ℕ) → Emits d0 p0 (arrayLimits lo hi ++ y) d2 p2 → Emits d0 p0 (bytes "{\"type\":\"array\",\"minlen\":" ++ (decimal lo ++ (bytes ",\"maxlen\":" ++ (decimal hi ++ (bytes ",\"members\":" ++ y))))) d2 p2
       go y e = rw (limits-then lo hi y) at e
+
+-- a scaled by its scale and its limits, as they are handed on
+module _ (m p lo hi : ℤ) (f1 : mag m < 2 ^ hbits w64) (f2 : mag p < 2 ^ hbits w8) (f3 : mag lo < 2 ^ hbits w64) (f4 : mag hi < 2 ^ hbits w64) where
+  pub scaled-text : {d0 d1 d2 d3 d4 : List ℕ} {p0 p1 p2 p3 p4 : ℕ} → Emits d0 p0 (bytes "{\"type\":\"scaled\",\"scale\":" ++ decimalText (toZ w64 (ofZ w64 m)) (toZ w8 (ofZ w8 p))) d1 p1 → Emits d1 p1 (bytes ",\"min\":" ++ integer (toZ w64 (ofZ w64 lo))) d2 p2 → Emits d2 p2 (bytes ",\"max\":" ++ integer (toZ w64 (ofZ w64 hi))) d3 p3 → Emits d3 p3 (bytes "}") d4 p4 → Emits d0 p0 (datainfoText (Datainfo.scaled (decimalOf m p) lo hi)) d4 p4
+  unfolding datainfoText datainfoValue compact compactMembers moreMembers quoted bytes
+  scaled-text a b c e =
+      let a' = rw (handed m f1, power-back p f2) at a in let b' = rw (handed lo f3) at b in let c' = rw (handed hi f4) at c in
+      both (both a' (both b' (both c' (after c')))) e
 
 -- ## Two limits
 
@@ -126,11 +139,36 @@ module _ (s : List ℕ) (i : ℕ) {d0 : List ℕ} {p0 : ℕ} where
       int-told hi k z' f1 f2 a b c =
           simp ((rw z at h) .0, (rw z' at h') .0) (says-text refl (int-text lo hi (rw (handed lo f1) at a) (rw (handed hi f2) at b) c))
 
+  -- a scaled
+  module _ (o : L.Limit) (g : ReadsLimit s o (limit (drop i s))) where
+    pub scaled-none : {e : List ℕ} {r : ℕ} → o ≡ L.the-variants.Short → Says (told datainfoText (scaledAt (drop i s))) d0 p0 e r
+    unfolding scaledAt
+    scaled-none z = says-nothing (simp (rw z at g))
+
+    module _ (m p : ℤ) (n : ℕ) (y : o ≡ L.the-variants.Read m p n) (q : S.Signed) (h : ReadsSigned s q (signed 8 (drop n s))) where
+      pub scaled-one : {e : List ℕ} {r : ℕ} → q ≡ S.the-variants.Short → Says (told datainfoText (scaledAt (drop i s))) d0 p0 e r
+      unfolding scaledAt
+      scaled-one z = says-nothing (simp ((rw y at g) .0, rw z at h))
+
+      module _ (lo : ℤ) (j : ℕ) (z : q ≡ S.the-variants.Read lo j) (q' : S.Signed) (h' : ReadsSigned s q' (signed 8 (drop j s))) where
+        pub scaled-two : {e : List ℕ} {r : ℕ} → q' ≡ S.the-variants.Short → Says (told datainfoText (scaledAt (drop i s))) d0 p0 e r
+        unfolding scaledAt
+        scaled-two z' = says-nothing (simp ((rw y at g) .0, (rw z at h) .0, rw z' at h'))
+
+        pub scaled-told : (hi : ℤ) (k : ℕ) → q' ≡ S.the-variants.Read hi k → mag m < 2 ^ hbits w64 → mag p < 2 ^ hbits w8 → mag lo < 2 ^ hbits w64 → mag hi < 2 ^ hbits w64 → {e : List ℕ} {r : ℕ} → Emits d0 p0 (datainfoText (Datainfo.scaled (decimalOf (toZ w64 (ofZ w64 m)) (toZ w8 (ofZ w8 p))) (toZ w64 (ofZ w64 lo)) (toZ w64 (ofZ w64 hi)))) e r → Says (told datainfoText (scaledAt (drop i s))) d0 p0 e r
+        unfolding scaledAt
+        scaled-told hi k z' f1 f2 f3 f4 x =
+            simp ((rw y at g) .0, (rw z at h) .0, (rw z' at h') .0) (says-text refl (rw (handed m f1, power-back p f2, handed lo f3, handed hi f4) at x))
+
   -- two counts
   module _ (q : U.Unsigned) (h : ReadsUnsigned s q (unsigned 2 (drop i s))) where
     pub chars-none : {e : List ℕ} {r : ℕ} → q ≡ U.the-variants.Short → Says (told datainfoText (stringAt (drop i s))) d0 p0 e r
     unfolding stringAt
     chars-none z = says-nothing (simp (rw z at h))
+
+    pub blob-none : {e : List ℕ} {r : ℕ} → q ≡ U.the-variants.Short → Says (told datainfoText (blobAt (drop i s))) d0 p0 e r
+    unfolding blobAt
+    blob-none z = says-nothing (simp (rw z at h))
 
     pub array-none : (l : ℕ) {e : List ℕ} {r : ℕ} → q ≡ U.the-variants.Short → Says (told datainfoText (arrayAt (datainfoIn l) (drop i s))) d0 p0 e r
     unfolding arrayAt
@@ -141,6 +179,10 @@ module _ (s : List ℕ) (i : ℕ) {d0 : List ℕ} {p0 : ℕ} where
       unfolding stringAt
       chars-one z' = says-nothing (simp ((rw z at h) .0, rw z' at h'))
 
+      pub blob-one : {e : List ℕ} {r : ℕ} → q' ≡ U.the-variants.Short → Says (told datainfoText (blobAt (drop i s))) d0 p0 e r
+      unfolding blobAt
+      blob-one z' = says-nothing (simp ((rw z at h) .0, rw z' at h'))
+
       pub array-one : (l : ℕ) {e : List ℕ} {r : ℕ} → q' ≡ U.the-variants.Short → Says (told datainfoText (arrayAt (datainfoIn l) (drop i s))) d0 p0 e r
       unfolding arrayAt
       array-one l z' = says-nothing (simp ((rw z at h) .0, rw z' at h'))
@@ -149,6 +191,10 @@ module _ (s : List ℕ) (i : ℕ) {d0 : List ℕ} {p0 : ℕ} where
         pub chars-told : Emits d0 p0 (bytes "{\"type\":\"string\",\"minchars\":" ++ decimal lo) d1 p1 → Emits d1 p1 (bytes ",\"maxchars\":" ++ decimal hi) d2 p2 → Emits d2 p2 (bytes "}") d3 p3 → Says (told datainfoText (stringAt (drop i s))) d0 p0 d3 p3
         unfolding stringAt
         chars-told a b c = simp ((rw z at h) .0, (rw z' at h') .0) (says-text refl (chars-text lo hi a b c))
+
+        pub blob-told : Emits d0 p0 (bytes "{\"type\":\"blob\",\"minbytes\":" ++ decimal lo) d1 p1 → Emits d1 p1 (bytes ",\"maxbytes\":" ++ decimal hi) d2 p2 → Emits d2 p2 (bytes "}") d3 p3 → Says (told datainfoText (blobAt (drop i s))) d0 p0 d3 p3
+        unfolding blobAt
+        blob-told a b c = simp ((rw z at h) .0, (rw z' at h') .0) (says-text refl (blob-text lo hi a b c))
 
         pub array-told : (l : ℕ) → Emits d0 p0 (arrayLimits lo hi) d1 p1 → Says (told datainfoText (datainfoIn l (drop k s))) d1 p1 d2 p2 → Emits d2 p2 (bytes "}") d3 p3 → Says (told datainfoText (arrayAt (datainfoIn l) (drop i s))) d0 p0 d3 p3
         unfolding arrayAt

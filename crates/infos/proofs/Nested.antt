@@ -17,7 +17,7 @@ use Rattle.ascii.specs.Reader.{Ends, rest}
 use Rattle.json.specs.Json.{quoted, compact, compactMembers, moreMembers}
 use Rattle.datainfo.specs.Datainfo as Datainfo
 use Rattle.datainfo.specs.Datainfo.{Datainfo}
-use Rattle.datainfo.specs.Layout.{counted, doubleAt, intAt, stringAt, arrayAt, typed, datainfoIn}
+use Rattle.datainfo.specs.Layout.{counted, doubleAt, intAt, stringAt, arrayAt, scaledAt, blobAt, typed, datainfoIn}
 use Rattle.datainfo.specs.Members.{afterMember}
 use Rattle.datainfo.specs.Kept.{nameOf}
 use Rattle.datainfo.proofs.Ends.{no-byte, one-byte, datainfo-cut, datainfo-typed}
@@ -150,9 +150,18 @@ module _ (s : List ℕ) (i l k : ℕ) {d h : List ℕ} {at r : ℕ} where
   unfolding typed
   typed-struct z x = rw z (rw (struct-list (datainfoIn l) (drop i s)) at x)
 
-  pub typed-unknown : (k ≡ 1 → ⊥) → (k ≡ 2 → ⊥) → (k ≡ 3 → ⊥) → (k ≡ 4 → ⊥) → (k ≡ 5 → ⊥) → (k ≡ 6 → ⊥) → (k ≡ 7 → ⊥) → (k ≡ 8 → ⊥) → Says (told datainfoText (typed (datainfoIn l) k (drop i s))) d at h r
+  pub typed-scaled : k ≡ 9 → Says (told datainfoText (scaledAt (drop i s))) d at h r → Says (told datainfoText (typed (datainfoIn l) k (drop i s))) d at h r
   unfolding typed
-  typed-unknown a b c d e f g h = says-nothing (simp (ne-eqb k 1 a, ne-eqb k 2 b, ne-eqb k 3 c, ne-eqb k 4 d, ne-eqb k 5 e, ne-eqb k 6 f, ne-eqb k 7 g, ne-eqb k 8 h))
+  typed-scaled z x = rw z x
+
+  pub typed-blob : k ≡ 10 → Says (told datainfoText (blobAt (drop i s))) d at h r → Says (told datainfoText (typed (datainfoIn l) k (drop i s))) d at h r
+  unfolding typed
+  typed-blob z x = rw z x
+
+  pub typed-unknown : (k ≡ 1 → ⊥) → (k ≡ 2 → ⊥) → (k ≡ 3 → ⊥) → (k ≡ 4 → ⊥) → (k ≡ 5 → ⊥) → (k ≡ 6 → ⊥) → (k ≡ 7 → ⊥) → (k ≡ 8 → ⊥) → (k ≡ 9 → ⊥) → (k ≡ 10 → ⊥) → Says (told datainfoText (typed (datainfoIn l) k (drop i s))) d at h r
+  unfolding typed
+  typed-unknown a b c d e f g h i j =
+      says-nothing (simp (ne-eqb k 1 a, ne-eqb k 2 b, ne-eqb k 3 c, ne-eqb k 4 d, ne-eqb k 5 e, ne-eqb k 6 f, ne-eqb k 7 g, ne-eqb k 8 h, ne-eqb k 9 i, ne-eqb k 10 j))
 
 -- ## A datainfo
 

@@ -24,8 +24,10 @@ ghost use lib.ListN.{length, drop};
 ghost use Rattle.ascii.specs.Text.{bytes};
 ghost use Rattle.ascii.specs.Numbers.{integer, signed};
 ghost use Rattle.json.specs.Json.{quoted};
+ghost use Rattle.decimal.specs.Exact.{decimal};
+ghost use Rattle.datainfo.specs.Datainfo as Datainfo;
 ghost use Rattle.datainfo.specs.Kept.{nameOf};
-ghost use Rattle.datainfo.specs.Layout.{doubleAt, intAt, stringAt, arrayAt, typed, datainfoIn};
+ghost use Rattle.datainfo.specs.Layout.{doubleAt, intAt, stringAt, arrayAt, scaledAt, blobAt, typed, datainfoIn};
 ghost use Rattle.report.specs.Report.{decimalText};
 ghost use Rattle.emit.specs.Emitted.{Emits, told, Says};
 ghost use Rattle.infos.specs.Texts.{NameEnds, datainfoText, arrayLimits, opening, closing, memberText, countText, listText};
@@ -83,6 +85,47 @@ fn emit_chars(out: &mut [u8], at: usize, s: &[u8], i: usize) -> usize
     };
     let a = emit_labelled_decimal(out, at, b"{\"type\":\"string\",\"minchars\":", lo);
     let b = emit_labelled_decimal(out, a, b",\"maxchars\":", hi);
+    emit(out, b, b"}")
+}
+
+// A scaled by its scale, a decimal, and its limits.
+fn emit_scale(out: &mut [u8], at: usize, m: i64, p: i8, lo: i64, hi: i64) -> usize
+    ensures { λ r. ⌜ Emits (now (out .entry)) at (datainfoText (Datainfo.scaled (decimal m p) lo hi)) (now (out .exit)) r ⌝ }
+{
+    let a = emit_limit(out, at, b"{\"type\":\"scaled\",\"scale\":", m, p);
+    let b = emit_labelled_integer(out, a, b",\"min\":", lo);
+    let c = emit_labelled_integer(out, b, b",\"max\":", hi);
+    emit(out, c, b"}")
+}
+
+fn emit_scaled(out: &mut [u8], at: usize, s: &[u8], i: usize) -> usize
+    requires { ⌜ i ≤ length (now s) ⌝ }
+    ensures { λ r. ⌜ Says (told datainfoText (scaledAt (drop i (now (s .entry))))) (now (out .entry)) at (now (out .exit)) r ⌝ }
+{
+    let Limit::Read(m, p, e) = limit_at(s, i) else {
+        return at;
+    };
+    let Signed::Read(lo, f) = signed(s, e, 8) else {
+        return at;
+    };
+    let Signed::Read(hi, _) = signed(s, f, 8) else {
+        return at;
+    };
+    emit_scale(out, at, m, p, lo, hi)
+}
+
+fn emit_blob(out: &mut [u8], at: usize, s: &[u8], i: usize) -> usize
+    requires { ⌜ i ≤ length (now s) ⌝ }
+    ensures { λ r. ⌜ Says (told datainfoText (blobAt (drop i (now (s .entry))))) (now (out .entry)) at (now (out .exit)) r ⌝ }
+{
+    let Unsigned::Read(lo, e) = unsigned(s, i, 2) else {
+        return at;
+    };
+    let Unsigned::Read(hi, _) = unsigned(s, e, 2) else {
+        return at;
+    };
+    let a = emit_labelled_decimal(out, at, b"{\"type\":\"blob\",\"minbytes\":", lo);
+    let b = emit_labelled_decimal(out, a, b",\"maxbytes\":", hi);
     emit(out, b, b"}")
 }
 
@@ -228,6 +271,8 @@ fn emit_typed(out: &mut [u8], at: usize, s: &[u8], i: usize, levels: usize, k: u
         6 => emit_array(out, at, s, i, levels),
         7 => emit_list(out, at, s, i, levels, 7),
         8 => emit_list(out, at, s, i, levels, 8),
+        9 => emit_scaled(out, at, s, i),
+        10 => emit_blob(out, at, s, i),
         _ => at,
     }
 }

@@ -12,7 +12,7 @@ use Rattle.ascii.specs.Bytes.{all, head, isIn, isDigit, isLetter}
 use Rattle.ascii.specs.Names.{isNameByte, isName, isTextByte, isText, unique}
 use Rattle.ascii.proofs.Lists.{both, all-parts, Lacks, lacks}
 use Rattle.json.specs.Json.{Members}
-use Rattle.datainfo.specs.Datainfo.{Variant, Datainfo, double, int, bool, enum, string, array, tuple, struct, Elements, no-elements, element, Fields, no-fields, field, fieldNames}
+use Rattle.datainfo.specs.Datainfo.{Variant, Datainfo, double, int, bool, enum, string, array, tuple, struct, scaled, blob, Elements, no-elements, element, Fields, no-fields, field, fieldNames}
 use Rattle.datainfo.specs.Rules as Datainfo
 use Rattle.datainfo.specs.Rules.{goodNames, elementsNamesGood, fieldsNamesGood}
 use Rattle.table.specs.Table.{Accessible, parameter, command, Module, Table}
@@ -64,6 +64,9 @@ mutual
   datainfo-plain (struct fs) h =
       let p = both (goodNames (fieldNames fs)) (fieldsNamesGood fs) h in
       (refl, refl, (refl, fields-plain fs (names-all (fieldNames fs) (p .0)) (p .1), tt))
+  datainfo-plain (scaled s lo hi) h =
+      (refl, refl, (refl, decimal-number (s .whole) (s .power), (refl, integer-number lo, (refl, integer-number hi, tt))))
+  datainfo-plain (blob lo hi) h = (refl, refl, (refl, natural-number lo, (refl, natural-number hi, tt)))
 
   elements-plain : (ds : Elements) → elementsNamesGood ds ≡ true → PlainItems (elementValues ds)
   elements-plain no-elements h = tt

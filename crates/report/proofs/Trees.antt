@@ -10,7 +10,7 @@ use Rattle.ascii.specs.Text.{bytes}
 use Rattle.ascii.specs.Bytes.{same}
 use Rattle.json.specs.Json as Json
 use Rattle.json.specs.Json.{Json, null, Items, no-items, item, Members, no-members, member}
-use Rattle.datainfo.specs.Datainfo.{Variant, Datainfo, double, int, bool, enum, string, array, tuple, struct, Elements, no-elements, element, Fields, no-fields, field}
+use Rattle.datainfo.specs.Datainfo.{Variant, Datainfo, double, int, bool, enum, string, array, tuple, struct, scaled, blob, Elements, no-elements, element, Fields, no-fields, field}
 use Rattle.fit.specs.Fit.{asNumber, asBoolean, asString, asArray, asObject}
 use Rattle.table.specs.Table.{Accessible, parameter, command, Module, Table}
 use Rattle.report.specs.Report.{variantValues, datainfoValue, elementValues, fieldValues, argumentMember, accessibleMember, accessibleMembers}
@@ -75,7 +75,10 @@ module _ (f : Json → Datainfo) where
       (cond (same t (bytes "string")) (string (naturalOf (digits (at 1 ms))) (naturalOf (digits (at 2 ms))))
       (cond (same t (bytes "array")) (array (naturalOf (digits (at 1 ms))) (naturalOf (digits (at 2 ms))) (f (at 3 ms)))
       (cond (same t (bytes "tuple")) (tuple (elementsFrom (items (at 1 ms))))
-      (struct (fieldsFrom (members (at 1 ms))))))))))
+      (cond (same t (bytes "scaled"))
+      (scaled (decimalOf (digits (at 1 ms))) (integerOf (digits (at 2 ms))) (integerOf (digits (at 3 ms))))
+      (cond (same t (bytes "blob")) (blob (naturalOf (digits (at 1 ms))) (naturalOf (digits (at 2 ms))))
+      (struct (fieldsFrom (members (at 1 ms))))))))))))
 
 -- a datainfo of at most n levels
 datainfoOf : ℕ → Json → Datainfo
@@ -93,6 +96,8 @@ mutual
   levels (array lo hi d) = suc (levels d)
   levels (tuple ds) = suc (elementsLevels ds)
   levels (struct fs) = suc (fieldsLevels fs)
+  levels (scaled s lo hi) = 1
+  levels (blob lo hi) = 1
 
   elementsLevels : Elements → ℕ
   elementsLevels no-elements = 0
@@ -130,6 +135,11 @@ mutual
   datainfo-back (tuple ds) (suc n) h = ap tuple (elements-back ds n (omega arith))
   datainfo-back (struct fs) zero h = absurd (omega arith)
   datainfo-back (struct fs) (suc n) h = ap struct (fields-back fs n (omega arith))
+  datainfo-back (scaled s lo hi) zero h = absurd (omega arith)
+  datainfo-back (scaled s lo hi) (suc n) h =
+      rw (integer-back lo, integer-back hi) (ap (λ z. scaled z lo hi) (decimal-back (s .whole) (s .power)))
+  datainfo-back (blob lo hi) zero h = absurd (omega arith)
+  datainfo-back (blob lo hi) (suc n) h = ap₂ blob (natural-back lo) (natural-back hi)
 
   elements-back : (ds : Elements) (n : ℕ) → elementsLevels ds ≤ n → elementsFrom (datainfoOf n) (elementValues ds) ≡ ds
   elements-back no-elements n h = refl

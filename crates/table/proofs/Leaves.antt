@@ -10,7 +10,7 @@ use Rattle.ascii.specs.Text.{bytes}
 use Rattle.ascii.specs.Bytes.{_>>=_, after, part}
 use Rattle.ascii.specs.Numbers.{unsigned, signed}
 use Rattle.datainfo.specs.Datainfo.{Datainfo}
-use Rattle.datainfo.specs.Layout.{counted, limit, doubleAt, intAt, variants, enumAt, stringAt, arrayAt, elements, tupleAt, fields, structAt, typed, datainfoIn}
+use Rattle.datainfo.specs.Layout.{counted, limit, doubleAt, intAt, variants, enumAt, stringAt, arrayAt, elements, tupleAt, fields, structAt, scaledAt, blobAt, typed, datainfoIn}
 use Rattle.table.specs.Layout.{begins, flag, argumentAt, noteAt, headAt}
 
 -- Q holds of what is left, if anything was read
@@ -82,6 +82,14 @@ module _ {Q : List ℕ → Type 0} (end : Ending Q) where
   unfolding stringAt
   w-string h = w-then (w-unsigned 2 h) (λ p g. w-then (w-unsigned 2 g) (λ q k. left k))
 
+  pub w-scaled : {xs : List ℕ} → Q xs → Within Q (scaledAt xs)
+  unfolding scaledAt
+  w-scaled h = w-then (w-limit h) (λ o i. w-then (w-signed 8 i) (λ p g. w-then (w-signed 8 g) (λ q k. left k)))
+
+  pub w-blob : {xs : List ℕ} → Q xs → Within Q (blobAt xs)
+  unfolding blobAt
+  w-blob h = w-then (w-unsigned 2 h) (λ p g. w-then (w-unsigned 2 g) (λ q k. left k))
+
   pub w-variants : (m : ℕ) {xs : List ℕ} → Q xs → Within Q (variants m xs)
   unfolding variants
   w-variants zero h = left h
@@ -117,7 +125,9 @@ module _ {Q : List ℕ → Type 0} (end : Ending Q) where
         (w-cond (eqb k 6) (w-array h)
         (w-cond (eqb k 7) (w-then (w-unsigned 1 h) (λ p g. w-then (w-elements (p .0) g) (λ q l. left l)))
         (w-cond (eqb k 8) (w-then (w-unsigned 1 h) (λ p g. w-then (w-fields (p .0) g) (λ q l. left l)))
-        failed)))))))
+        (w-cond (eqb k 9) (w-scaled h)
+        (w-cond (eqb k 10) (w-blob h)
+        failed)))))))))
 
   pub w-datainfo : (l : ℕ) (xs : List ℕ) → Q xs → Within Q (datainfoIn l xs)
   unfolding datainfoIn

@@ -2,7 +2,8 @@
 
 use super::datainfos;
 use super::encode;
-use super::parts::{self, array, command, double, module, parameter, string};
+use super::parts::{self, array, blob, command, double, module, parameter, scaled, string};
+use crate::base64;
 use crate::datainfo::Datainfo;
 use crate::report;
 use crate::table::{Accessible, Table};
@@ -39,11 +40,33 @@ pub fn all() -> Vec<Border> {
     add("name of 64 bytes", &with_name(64), 3);
     add("initial value of 256 bytes", &with_initial(256), 0);
     add("initial value of 257 bytes", &with_initial(257), 5);
+    add("initial blob of 189 bytes", &with_initial_blob(189), 0);
+    add("initial blob of 190 bytes", &with_initial_blob(190), 5);
+    add(
+        "initial blob with an escape",
+        &with_initial_of_blob("\\/"),
+        5,
+    );
+    add(
+        "initial scaled of a fraction",
+        &with_initial_of_scaled("1.0"),
+        5,
+    );
+    add(
+        "initial scaled at its end",
+        &with_initial_of_scaled("-7"),
+        0,
+    );
+    add(
+        "initial scaled past its end",
+        &with_initial_of_scaled("-8"),
+        5,
+    );
     add("report of 32,000 bytes", &with_report(32_000), 0);
     add("report of 32,001 bytes", &with_report(32_001), 6);
     add("32,000 bytes and a note", &noted_report(32_000), 0);
     add("32,001 bytes and a note", &noted_report(32_001), 6);
-    for (name, datainfo, number) in arguments() {
+    for (name, datainfo, number) in [arguments(), scaled_and_blobs()].concat() {
         add(name, &table(vec![command("c", Some(datainfo))]), number);
     }
     borders
@@ -84,6 +107,37 @@ fn arguments() -> Vec<(&'static str, Datainfo, u8)> {
         ("limits of a string swapped", string(10, 9), 4),
         ("four levels", nested(4), 0),
         ("five levels", nested(5), 1),
+    ]
+}
+
+/// Scaled and blobs at a border.
+fn scaled_and_blobs() -> Vec<(&'static str, Datainfo, u8)> {
+    let scale = |mantissa, power| scaled((mantissa, power), 0, 1);
+    vec![
+        ("scale 1", scale(1, 0), 0),
+        ("scale 0", scale(0, 0), 4),
+        ("scale 0 with a power", scale(0, 30), 4),
+        ("scale -1", scale(-1, 0), 4),
+        ("scale -1 with a power", scale(-1, -30), 4),
+        ("scale at the end", scale(i64::MAX, 30), 0),
+        ("scale at the other end", scale(i64::MIN, 0), 4),
+        ("scale with the power -30", scale(1, -30), 0),
+        ("scale with the power 30", scale(1, 30), 0),
+        ("scale with the power -31", scale(1, -31), 4),
+        ("scale with the power 31", scale(1, 31), 4),
+        ("scale with the power -128", scale(1, -128), 4),
+        ("limits of a scaled equal", scaled((1, -3), 7, 7), 0),
+        (
+            "limits of a scaled at the ends",
+            scaled((1, -3), i64::MIN, i64::MAX),
+            0,
+        ),
+        ("limits of a scaled swapped", scaled((1, -3), 8, 7), 4),
+        ("limits of a blob equal", blob(9, 9), 0),
+        ("limits of a blob at the ends", blob(0, u16::MAX), 0),
+        ("limits of a blob swapped", blob(10, 9), 4),
+        ("a scaled inside", array(0, 1, scale(0, 0)), 4),
+        ("a blob inside", Datainfo::Tuple(vec![blob(1, 0)]), 4),
     ]
 }
 
@@ -130,6 +184,20 @@ fn with_name(length: usize) -> Table {
 fn with_initial(length: usize) -> Table {
     let initial = format!("\"{}\"", "x".repeat(length - 2));
     table(vec![parameter("p", string(0, 1_000), &initial)])
+}
+
+fn with_initial_blob(size: usize) -> Table {
+    let text = base64::encode(&vec![0xFF; size]);
+    with_initial_of_blob(&String::from_utf8_lossy(&text))
+}
+
+fn with_initial_of_blob(text: &str) -> Table {
+    let initial = format!("\"{text}\"");
+    table(vec![parameter("p", blob(0, 1_000), &initial)])
+}
+
+fn with_initial_of_scaled(initial: &str) -> Table {
+    table(vec![parameter("p", scaled((1, -3), -7, 7), initial)])
 }
 
 /// A table of so many bytes with a report well below its limit.

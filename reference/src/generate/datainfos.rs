@@ -22,14 +22,16 @@ const MEMBER_VALUES: [i32; 8] = [0, 1, 2, -1, 100, 400, i32::MAX, i32::MIN];
 
 /// A good datainfo of at most so many levels.
 pub fn good(random: &mut Random, levels: usize) -> Datainfo {
-    match random.below(if levels > 1 { 13 } else { 8 }) {
+    match random.below(if levels > 1 { 16 } else { 11 }) {
         0..=1 => double(random),
         2..=3 => int(random),
         4 => Datainfo::Bool,
         5 => enumeration(random),
         6..=7 => string(random),
-        8..=9 => array(random, levels),
-        10 => Datainfo::Tuple(members(random, levels)),
+        8 => scaled(random),
+        9..=10 => blob(random),
+        11..=12 => array(random, levels),
+        13 => Datainfo::Tuple(members(random, levels)),
         _ => {
             let mut scope = Scope::default();
             let members = members(random, levels).into_iter();
@@ -120,6 +122,36 @@ fn string(random: &mut Random) -> Datainfo {
     Datainfo::String { minchars, maxchars }
 }
 
+/// The scale is any positive decimal; it has no say in what values there are.
+fn scaled(random: &mut Random) -> Datainfo {
+    let Limit { mantissa, power } = limit(random);
+    let scale = Limit {
+        mantissa: mantissa.saturating_abs().max(1),
+        power,
+    };
+    let (one, other) = (limit(random).mantissa, limit(random).mantissa);
+    Datainfo::Scaled {
+        scale,
+        min: one.min(other),
+        max: one.max(other),
+    }
+}
+
+/// Few bytes, or about as many as go into 256 bytes of stored form, 189.
+fn blob(random: &mut Random) -> Datainfo {
+    let minbytes = match random.below(6) {
+        0..=2 => 0,
+        3 => random.between(184, 189) as u16,
+        _ => random.between(0, 6) as u16,
+    };
+    let maxbytes = match random.below(6) {
+        0 => u16::MAX,
+        1 => random.between(186, 194).max(usize::from(minbytes)) as u16,
+        _ => minbytes + random.between(0, 7) as u16,
+    };
+    Datainfo::Blob { minbytes, maxbytes }
+}
+
 fn array(random: &mut Random, levels: usize) -> Datainfo {
     let minlen = random.between(0, 2) as u16;
     let maxlen = match random.below(8) {
@@ -160,8 +192,13 @@ pub fn with_bad_name(random: &mut Random) -> Datainfo {
 
 /// A datainfo that breaks its own rules somewhere.
 pub fn breaking_rules(random: &mut Random) -> Datainfo {
-    let faulty = match random.below(8) {
+    let faulty = match random.below(10) {
         0 => bad_double(random),
+        8 => bad_scaled(random),
+        9 => Datainfo::Blob {
+            minbytes: 256,
+            maxbytes: 255,
+        },
         1 => Datainfo::Int {
             min: i64::MIN + 1,
             max: i64::MIN,
@@ -203,6 +240,18 @@ fn bad_double(random: &mut Random) -> Datainfo {
         _ => (limit(-1, 0), limit(0, *random.pick(&[31, -31, 127, -128]))),
     };
     Datainfo::Double { min, max }
+}
+
+/// A scale that is not positive or has a power too far, or limits swapped.
+fn bad_scaled(random: &mut Random) -> Datainfo {
+    let limit = |mantissa, power| Limit { mantissa, power };
+    let (scale, min, max) = match random.below(4) {
+        0 => (limit(0, *random.pick(&[0, -30, 30])), 0, 1),
+        1 => (limit(*random.pick(&[-1, i64::MIN]), 0), 0, 1),
+        2 => (limit(1, *random.pick(&[31, -31, 127, -128])), 0, 1),
+        _ => (limit(1, -3), i64::MAX, i64::MIN),
+    };
+    Datainfo::Scaled { scale, min, max }
 }
 
 fn repeated_value(random: &mut Random) -> Vec<(Vec<u8>, i32)> {

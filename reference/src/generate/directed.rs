@@ -4,8 +4,8 @@
 
 use super::encode;
 use super::parts::{
-    array, command, digit, double, enumeration, module, parameter, readonly, string, structure,
-    table,
+    array, blob, command, digit, double, enumeration, module, parameter, readonly, scaled, string,
+    structure, table,
 };
 use super::script::Script;
 use crate::datainfo::Datainfo;
@@ -50,6 +50,9 @@ fn over_good_tables() -> Vec<(&'static str, Script)> {
         ("stored forms of 256 and 257 bytes", stored_forms()),
         ("tokens and powers", tokens_and_powers()),
         ("minus zero and enum members", whole_numbers()),
+        ("whole numbers of a scaled", scaled_numbers()),
+        ("sizes of a blob", blob_sizes()),
+        ("scaled and blobs inside", scaled_and_blobs_inside()),
         ("refused opens and closes", refused_opens_and_closes()),
         ("refused pieces", refused_pieces()),
         ("refused readings", refused_readings()),
@@ -252,6 +255,51 @@ fn whole_numbers() -> Script {
         ])
 }
 
+/// A scaled takes the tokens that an int takes.
+fn scaled_numbers() -> Script {
+    let lengths = scaled((25, -4), -5, i64::MAX);
+    started(vec![parameter("s", lengths, "-0")])
+        .open(0)
+        .lines(&[
+            "change t1:s -5",
+            "change t1:s 9223372036854775807",
+            "change t1:s -6",
+            "change t1:s 9223372036854775808",
+            "change t1:s 1.0",
+            "change t1:s 1e0",
+            r#"change t1:s "1""#,
+            "read t1:s",
+        ])
+}
+
+/// One to four bytes, padded, unused bits zero, no escapes.
+fn blob_sizes() -> Script {
+    started(vec![parameter("b", blob(1, 4), r#""AAAA""#)])
+        .open(0)
+        .lines(&[
+            r#"change t1:b "Zg==""#,
+            r#"change t1:b "Zm9vYg==""#,
+            r#"change t1:b "Zm9vYmE=""#,
+            r#"change t1:b """#,
+            r#"change t1:b "Zh==""#,
+            r#"change t1:b "Zg""#,
+            r#"change t1:b "\u005Ag==""#,
+            "change t1:b 1",
+            "read t1:b",
+        ])
+}
+
+/// Both in an argument, and in the report.
+fn scaled_and_blobs_inside() -> Script {
+    let pair = structure(&[("s", scaled((1, 2), 0, 9)), ("b", array(1, 2, blob(0, 2)))]);
+    started(vec![command("go", Some(pair))]).open(0).lines(&[
+        "describe",
+        r#"do t1:go {"b":["","Zm8="],"s":9}"#,
+        r#"do t1:go {"s":10,"b":["Zm9="]}"#,
+        r#"do t1:go {"s":9,"b":["Zm9v"]}"#,
+    ])
+}
+
 fn refused_opens_and_closes() -> Script {
     started(Vec::new())
         .at(MAX_TIME)
@@ -404,6 +452,7 @@ fn over_faulty_tables() -> Vec<(&'static str, Script)> {
         ("no module", over(encode::table(&table(Vec::new())))),
         ("bad name", over(bad_name())),
         ("limits swapped", over(limits_swapped())),
+        ("scale 0", over(scale_0())),
         ("unfit initial value", over(unfit_initial_value())),
         ("bad flag after a bad name", over(bad_flag_and_bad_name())),
         ("no module and a bad text", over(no_module_and_bad_text())),
@@ -426,6 +475,12 @@ fn bad_name() -> Vec<u8> {
 
 fn limits_swapped() -> Vec<u8> {
     let argument = Datainfo::Int { min: 1, max: 0 };
+    encode::table(&one_module(vec![command("c", Some(argument))]))
+}
+
+/// A scale has to be positive.
+fn scale_0() -> Vec<u8> {
+    let argument = scaled((0, 0), 0, 1);
     encode::table(&one_module(vec![command("c", Some(argument))]))
 }
 

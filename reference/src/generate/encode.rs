@@ -130,6 +130,17 @@ impl Encoded {
                     self.datainfo(member);
                 }
             }
+            Datainfo::Scaled { scale, min, max } => {
+                self.add(&[9]);
+                self.limit(scale);
+                self.add(&min.to_be_bytes());
+                self.add(&max.to_be_bytes());
+            }
+            Datainfo::Blob { minbytes, maxbytes } => {
+                self.add(&[10]);
+                self.add(&minbytes.to_be_bytes());
+                self.add(&maxbytes.to_be_bytes());
+            }
         }
     }
 

@@ -78,6 +78,16 @@ pub(super) fn string(minchars: u16, maxchars: u16) -> Datainfo {
     Datainfo::String { minchars, maxchars }
 }
 
+pub(super) fn scaled(scale: (i64, i8), min: i64, max: i64) -> Datainfo {
+    let (mantissa, power) = scale;
+    let scale = Limit { mantissa, power };
+    Datainfo::Scaled { scale, min, max }
+}
+
+pub(super) fn blob(minbytes: u16, maxbytes: u16) -> Datainfo {
+    Datainfo::Blob { minbytes, maxbytes }
+}
+
 pub(super) fn array(minlen: u16, maxlen: u16, members: Datainfo) -> Datainfo {
     Datainfo::Array {
         minlen,

@@ -393,7 +393,7 @@ fn break_layout(random: &mut Random, table: &mut Encoded) {
         }
         4 if !table.types.is_empty() => {
             let place = *random.pick(&table.types);
-            table.bytes[place] = *random.pick(&[0, 9, 10, 11, 128, 255]);
+            table.bytes[place] = *random.pick(&[0, 11, 12, 128, 255]);
         }
         5 => table.bytes[record] = table.bytes[record].to_ascii_lowercase(),
         6 => insert(table, record, b"ND\0\0"),

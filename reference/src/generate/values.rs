@@ -2,6 +2,7 @@
 //! near the limits, of a wrong type, broken ones and odd corners of JSON.
 
 use super::datainfos;
+use crate::base64;
 use crate::datainfo::{Datainfo, Limit};
 use crate::random::Random;
 
@@ -30,6 +31,14 @@ pub const CORNERS: &[&str] = &[
     "{}", "{ }", "{,}", "{\"a\"}", "{\"a\":}", "{\"a\":1,}", "{\"a\":1}", "{ \"a\" : 1 }",
     "{\"a\":1,\"a\":1}", "{\"a\":1 \"b\":2}", "{a:1}", "{1:1}", "{\"a\":1", "{\"a\" 1}", "{:1}",
     "{\"\\u0061\":1}", "{\"\":1}", "{{}}", "{\"a\":1}}", "{\"a\u{7f}\":1}",
+    "\"Zg==\"", " \"Zm8=\" ", "\"Zm9v\"", "\"Zm9vYg==\"", "\"Zm9vYmE=\"", "\"Zm9vYmFy\"",
+    "\"Zm9vYmFyYg==\"", "\"+/+/\"", "\"AAAA\"", "\"zz99\"", "\"Zh==\"", "\"Zv==\"", "\"Zm9=\"",
+    "\"Zm/=\"", "\"Zw==\"", "\"Z/==\"", "\"Zm4=\"", "\"Z\"", "\"Zg\"", "\"Zg=\"", "\"Zm8\"",
+    "\"Z===\"", "\"====\"", "\"=\"", "\"Zm9v=\"", "\"Zm9v====\"", "\"Zg==Zm9v\"", "\"Zm8=Zm8=\"",
+    "\"Z=g=\"", "\"=Zm8\"", "\"Zm9vY\"", "\"Zm-v\"", "\"Zm_v\"", "\"Zm 9\"", "\" Zm9v\"",
+    "\"Zm9v \"", "\"Zm9@\"", "\"Zm9[\"", "\"Zm9`\"", "\"Zm9{\"", "\"Zm9.\"", "\"Zm9:\"",
+    "\"\\/\\/\\/\\/\"", "\"Zm9\\/\"", "\"\\u005Am9v\"", "\"\\u0080m9v\"", "\"Zm9\\n\"",
+    "\"Zm9v\\n\"", "[\"Zm9v\"]", "Zm9v",
 ];
 
 /// Escapes that count as one character.
@@ -74,7 +83,7 @@ pub fn nearly_fitting(random: &mut Random, datainfo: &Datainfo) -> Vec<u8> {
 }
 
 /// A fitting value of exactly so many bytes, where the datainfo holds a
-/// string or a list of bools that can be stretched.
+/// string, a blob or a list of bools that can be stretched.
 pub fn fitting_of_length(
     random: &mut Random,
     datainfo: &Datainfo,
@@ -85,6 +94,16 @@ pub fn fitting_of_length(
             let count = length.checked_sub(2)?;
             let fits = (usize::from(*minchars)..=usize::from(*maxchars)).contains(&count);
             fits.then(|| quoted(&vec![b'x'; count]))
+        }
+        Datainfo::Blob { minbytes, maxbytes } => {
+            let groups = length.checked_sub(2).filter(|count| count % 4 == 0)? / 4;
+            let sizes = (3 * groups).saturating_sub(2)..=3 * groups;
+            let limits = usize::from(*minbytes)..=usize::from(*maxbytes);
+            let fitting: Vec<usize> = sizes.filter(|size| limits.contains(size)).collect();
+            (!fitting.is_empty()).then(|| {
+                let size = *random.pick(&fitting);
+                blob(random, size)
+            })
         }
         Datainfo::Array {
             minlen,
@@ -227,6 +246,12 @@ fn object(members: &[(Vec<u8>, Vec<u8>)]) -> Vec<u8> {
     [b"{", members.join(&b',').as_slice(), b"}"].concat()
 }
 
+/// The base64 of so many bytes, as a value.
+fn blob(random: &mut Random, size: usize) -> Vec<u8> {
+    let bytes: Vec<u8> = (0..size).map(|_| random.byte()).collect();
+    quoted(&base64::encode(&bytes))
+}
+
 /// Writes values; one part in `odd_in` is an odd one, none if that is 0.
 struct Writer<'a> {
     random: &'a mut Random,
@@ -240,7 +265,7 @@ impl Writer<'_> {
         }
         match datainfo {
             Datainfo::Double { min, max } => self.double(min, max),
-            Datainfo::Int { min, max } => self.int(*min, *max),
+            Datainfo::Int { min, max } | Datainfo::Scaled { min, max, .. } => self.int(*min, *max),
             Datainfo::Bool => self.random.pick(&["true", "false"]).as_bytes().to_vec(),
             Datainfo::Enum(members) => {
                 let (_, value) = *self.random.pick(members);
@@ -249,6 +274,10 @@ impl Writer<'_> {
             Datainfo::String { minchars, maxchars } => {
                 let count = self.count(*minchars, *maxchars, 12);
                 self.string(count)
+            }
+            Datainfo::Blob { minbytes, maxbytes } => {
+                let size = self.count(*minbytes, *maxbytes, 7);
+                blob(self.random, size)
             }
             Datainfo::Array {
                 minlen,
@@ -391,7 +420,7 @@ impl Writer<'_> {
                 let limit = *self.random.pick(&[*min, *max]);
                 self.beside(&limit)
             }
-            Datainfo::Int { min, max } => {
+            Datainfo::Int { min, max } | Datainfo::Scaled { min, max, .. } => {
                 let limit = i128::from(*self.random.pick(&[*min, *max]));
                 let step = *self.random.pick(&[-1, 1]);
                 let dot = self.random.pick(&["", "", "", ".0", "e0", "E1"]);
@@ -412,6 +441,7 @@ impl Writer<'_> {
                 }
             }
             Datainfo::String { minchars, maxchars } => self.odd_string(*minchars, *maxchars),
+            Datainfo::Blob { minbytes, maxbytes } => self.odd_blob(*minbytes, *maxbytes),
             Datainfo::Array {
                 minlen,
                 maxlen,
@@ -469,6 +499,37 @@ impl Writer<'_> {
                 text
             }
         }
+    }
+
+    /// A size just outside the limits, or a text that is nearly base64: an
+    /// unused bit set, padding or a digit lost or added, another byte in it.
+    fn odd_blob(&mut self, minbytes: u16, maxbytes: u16) -> Vec<u8> {
+        let few = usize::from(minbytes).saturating_sub(1);
+        let many = (usize::from(maxbytes) + 1).min(195);
+        let inside = self.count(minbytes, maxbytes, 5);
+        let size = *self.random.pick(&[few, many, many, inside]);
+        let mut text = blob(self.random, size);
+        let last = text.len() - 2;
+        match self.random.below(9) {
+            0..=3 => {}
+            4 if size > 0 => {
+                let digit = text.iter().rposition(|byte| !b"\"=".contains(byte));
+                text[digit.unwrap_or(1)] = *self.random.pick(b"BCEGIQghowxz019+/");
+            }
+            5 if size > 0 => {
+                text.remove(last);
+            }
+            6 => text.insert(last + 1, *self.random.pick(b"=A \x7f")),
+            7 => {
+                let at = self.random.between(1, last + 1);
+                let odd = self
+                    .random
+                    .pick(&["\\/", "\\u0041", "\\u0080", "-", "_", "=", "===="]);
+                text.splice(at..at, odd.bytes());
+            }
+            _ => return base64::encode(&text),
+        }
+        text
     }
 
     /// A member left out, named twice, renamed or added.

@@ -3,11 +3,12 @@
 
 use super::borders;
 use super::parts::{
-    self, array, command, digit, double, enumeration, module, parameter, readonly, string,
-    structure,
+    self, array, blob, command, digit, double, enumeration, module, parameter, readonly, scaled,
+    string, structure,
 };
 use super::searches::{self, Search};
 use super::{datainfos, encode, tables, values};
+use crate::base64;
 use crate::datainfo::Datainfo;
 use crate::error::ErrorClass;
 use crate::random::Random;
@@ -46,11 +47,12 @@ impl ValueCase {
     }
 }
 
-/// The examples E1 to E8, the corners for each type, then random values; what
-/// is too long is left out.
+/// The examples E1 to E8, the corners for each type, blobs of sizes around
+/// limits, then random values; what is too long is left out.
 pub fn value_cases(seed: u64, count: usize) -> Vec<ValueCase> {
     let mut cases = examples();
     cases.extend(corners());
+    cases.extend(sizes());
     cases.extend(random_values(seed, count));
     cases.retain(ValueCase::is_short);
     cases
@@ -90,6 +92,8 @@ fn corners() -> Vec<ValueCase> {
         array(0, 2, digit()),
         Datainfo::Tuple(vec![digit(), digit()]),
         structure(&[("a", digit())]),
+        scaled((1, -3), i64::MIN, i64::MAX),
+        blob(0, 6),
     ];
     let all_corners = |datainfo: &Datainfo| -> Vec<ValueCase> {
         let texts = values::CORNERS.iter();
@@ -98,6 +102,40 @@ fn corners() -> Vec<ValueCase> {
             .collect()
     };
     of_each_type.iter().flat_map(all_corners).collect()
+}
+
+/// Blobs of sizes on both sides of their limits, alone and inside another
+/// datainfo. Of a blob alone 189 bytes go into 256 bytes of stored form.
+fn sizes() -> Vec<ValueCase> {
+    let limits = [
+        (0, 0),
+        (0, 1),
+        (2, 2),
+        (1, 3),
+        (3, 5),
+        (6, 6),
+        (188, 189),
+        (189, 190),
+        (190, 192),
+        (0, u16::MAX),
+    ];
+    let mut cases = Vec::new();
+    for (min, max) in limits {
+        for size in (0..=7).chain(186..=193) {
+            let bytes: Vec<u8> = (0..size).map(|at| (at * 37) as u8).collect();
+            let text = format!("\"{}\"", String::from_utf8_lossy(&base64::encode(&bytes)));
+            let datainfo = blob(min, max);
+            cases.push(ValueCase::new(
+                array(0, 2, datainfo.clone()),
+                &format!("[{text}]"),
+            ));
+            let members = structure(&[("a", datainfo.clone()), ("b", Datainfo::Bool)]);
+            let object = format!("{{\"b\":true,\"a\":{text}}}");
+            cases.push(ValueCase::new(members, &object));
+            cases.push(ValueCase::new(datainfo, &text));
+        }
+    }
+    cases
 }
 
 /// Random values, each for a datainfo of its own.
@@ -223,6 +261,8 @@ fn sample() -> Table {
         vec![
             command("go", Some(structure(&[("a", string(0, 3))]))),
             parameter("value", pair, "[true,[1,2]]"),
+            parameter("step", scaled((1, -3), -5, 5), "-5"),
+            parameter("raw", blob(1, 3), "\"Zg==\""),
         ],
     );
     parts::table(vec![first, second])

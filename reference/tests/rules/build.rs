@@ -85,6 +85,21 @@ pub fn string(minchars: u16, maxchars: u16) -> Vec<u8> {
     [&[5][..], &minchars.to_be_bytes(), &maxchars.to_be_bytes()].concat()
 }
 
+pub fn scaled(scale: (i64, i8), min: i64, max: i64) -> Vec<u8> {
+    [
+        vec![9],
+        scale.0.to_be_bytes().to_vec(),
+        scale.1.to_be_bytes().to_vec(),
+        min.to_be_bytes().to_vec(),
+        max.to_be_bytes().to_vec(),
+    ]
+    .concat()
+}
+
+pub fn blob(minbytes: u16, maxbytes: u16) -> Vec<u8> {
+    [&[10][..], &minbytes.to_be_bytes(), &maxbytes.to_be_bytes()].concat()
+}
+
 pub fn array(minlen: u16, maxlen: u16, members: &[u8]) -> Vec<u8> {
     [
         &[6][..],

@@ -615,6 +615,12 @@ fn tables_with_one_fault() {
         &[front, module, command, &swapped, end],
         4,
     );
+    let scaled = [&[9][..], &[0; 24], &[1]].concat();
+    assert_faulty(
+        "scale 0",
+        &[front, module, b"CM\x01c\x00\x01", &scaled, end],
+        4,
+    );
     let digit = [&[2][..], &[0; 15], &[9]].concat();
     let parameter = b"PA\x01p\x00\x00";
     assert_faulty(
@@ -656,5 +662,85 @@ fn a_table_counts_before_what_a_call_is_lent() {
         @1000 start values=16383 = 5
         @2000 open 0 = 5
         ",
+    );
+}
+
+#[test]
+fn whole_numbers_of_a_scaled() {
+    assert_course(
+        "whole numbers of a scaled",
+        r#"
+        @1000 start
+        @2000 open 0
+        @3000 0 > change t1:s -5\n
+        0 DR 0 -5
+        0 < changed t1:s [-5,{"t":3.000}]
+        @4000 0 > change t1:s 9223372036854775807\n
+        0 DR 0 9223372036854775807
+        0 < changed t1:s [9223372036854775807,{"t":4.000}]
+        @5000 0 > change t1:s -6\n
+        0 < error_change t1:s ["RangeError","value is out of range",{}]
+        @6000 0 > change t1:s 9223372036854775808\n
+        0 < error_change t1:s ["RangeError","value is out of range",{}]
+        @7000 0 > change t1:s 1.0\n
+        0 < error_change t1:s ["WrongType","value has the wrong type",{}]
+        @8000 0 > change t1:s 1e0\n
+        0 < error_change t1:s ["WrongType","value has the wrong type",{}]
+        @9000 0 > change t1:s "1"\n
+        0 < error_change t1:s ["WrongType","value has the wrong type",{}]
+        @10000 0 > read t1:s\n
+        0 < reply t1:s [9223372036854775807,{"t":4.000}]
+        "#,
+    );
+}
+
+#[test]
+fn sizes_of_a_blob() {
+    assert_course(
+        "sizes of a blob",
+        r#"
+        @1000 start
+        @2000 open 0
+        @3000 0 > change t1:b "Zg=="\n
+        0 DR 0 "Zg=="
+        0 < changed t1:b ["Zg==",{"t":3.000}]
+        @4000 0 > change t1:b "Zm9vYg=="\n
+        0 DR 0 "Zm9vYg=="
+        0 < changed t1:b ["Zm9vYg==",{"t":4.000}]
+        @5000 0 > change t1:b "Zm9vYmE="\n
+        0 < error_change t1:b ["RangeError","value is out of range",{}]
+        @6000 0 > change t1:b ""\n
+        0 < error_change t1:b ["RangeError","value is out of range",{}]
+        @7000 0 > change t1:b "Zh=="\n
+        0 < error_change t1:b ["WrongType","value has the wrong type",{}]
+        @8000 0 > change t1:b "Zg"\n
+        0 < error_change t1:b ["WrongType","value has the wrong type",{}]
+        @9000 0 > change t1:b "\u005Ag=="\n
+        0 < error_change t1:b ["WrongType","value has the wrong type",{}]
+        @10000 0 > change t1:b 1\n
+        0 < error_change t1:b ["WrongType","value has the wrong type",{}]
+        @11000 0 > read t1:b\n
+        0 < reply t1:b ["Zm9vYg==",{"t":4.000}]
+        "#,
+    );
+}
+
+#[test]
+fn scaled_and_blobs_inside() {
+    assert_course(
+        "scaled and blobs inside",
+        r#"
+        @1000 start
+        @2000 open 0
+        @3000 0 > describe\n
+        0 < describing . {"modules":{"t1":{"interface_classes":[],"description":"","accessibles":{"go":{"description":"","datainfo":{"type":"command","argument":{"type":"struct","members":{"s":{"type":"scaled","scale":1e2,"min":0,"max":9},"b":{"type":"array","minlen":1,"maxlen":2,"members":{"type":"blob","minbytes":0,"maxbytes":2}}}}}}}}},"equipment_id":"s","description":""}
+        @4000 0 > do t1:go {"b":["","Zm8="],"s":9}\n
+        0 DC 0 {"b":["","Zm8="],"s":9}
+        0 < done t1:go [null,{"t":4.000}]
+        @5000 0 > do t1:go {"s":10,"b":["Zm9="]}\n
+        0 < error_do t1:go ["WrongType","value has the wrong type",{}]
+        @6000 0 > do t1:go {"s":9,"b":["Zm9v"]}\n
+        0 < error_do t1:go ["RangeError","value is out of range",{}]
+        "#,
     );
 }

@@ -60,7 +60,7 @@ fn good_tables_have_everything() {
         .commands()
         .iter()
         .any(|one| one.argument.is_none())));
-    for first_byte in 1..=8 {
+    for first_byte in 1..=10 {
         assert!(any(&|table| table
             .parameters()
             .iter()
@@ -143,7 +143,7 @@ fn fitting_values_fit_with_or_without_spaces() {
 #[test]
 fn values_of_256_bytes_fit_and_those_of_257_do_not() {
     let mut made = 0;
-    for (datainfo, mut random) in some_datainfos(1_000) {
+    for (datainfo, mut random) in some_datainfos(2_000) {
         if let Some(value) = values::fitting_of_length(&mut random, &datainfo, 256) {
             assert_eq!(judge(&datainfo, &value), Ok(value));
             made += 1;

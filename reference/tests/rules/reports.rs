@@ -86,6 +86,22 @@ fn the_keys_of_each_type_stand_in_order() {
             structure(&[("a", boolean()), ("b", int(0, 1))]),
             r#"{"type":"struct","members":{"a":{"type":"bool"},"b":{"type":"int","min":0,"max":1}}}"#,
         ),
+        (
+            scaled((250, -2), -4, 1000),
+            r#"{"type":"scaled","scale":250e-2,"min":-4,"max":1000}"#,
+        ),
+        (
+            scaled((i64::MAX, 0), i64::MIN, i64::MAX),
+            r#"{"type":"scaled","scale":9223372036854775807,"min":-9223372036854775808,"max":9223372036854775807}"#,
+        ),
+        (
+            blob(0, 65535),
+            r#"{"type":"blob","minbytes":0,"maxbytes":65535}"#,
+        ),
+        (
+            array(0, 1, &tuple(&[blob(1, 2), scaled((1, 30), 0, 0)])),
+            r#"{"type":"array","minlen":0,"maxlen":1,"members":{"type":"tuple","members":[{"type":"blob","minbytes":1,"maxbytes":2},{"type":"scaled","scale":1e30,"min":0,"max":0}]}}"#,
+        ),
     ];
     for (argument, report) in expected {
         assert_eq!(argument_report(&argument), report);

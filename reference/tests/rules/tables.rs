@@ -1,7 +1,7 @@
 //! The judgement on tables, numbers 0 to 6.
 
 use crate::build::*;
-use reference::datainfo::Datainfo;
+use reference::datainfo::{Datainfo, Limit};
 use reference::report;
 use reference::table::{Kind, Table};
 
@@ -121,9 +121,53 @@ fn number_1_flags_and_types() {
         command[at] = flag;
         assert_eq!(number(&one_module(&[command])), 1);
     }
-    for unknown in [0, 9, 10, 11, 255] {
+    for unknown in [0, 11, 12, 255] {
         assert_eq!(argument_number(&[unknown]), 1);
         assert_eq!(argument_number(&tuple(&[boolean(), vec![unknown]])), 1);
+    }
+}
+
+#[test]
+fn a_scaled_and_a_blob_are_read_as_they_are_written() {
+    let scaled_bytes = [
+        &[9][..],
+        &[0, 0, 0, 0, 0, 0, 1, 2, 0xFE],
+        &[0xFF, 0xFF, 0xFF, 0xFF, 0xFF, 0xFF, 0xFF, 0xFD],
+        &[0, 0, 0, 0, 0, 0, 0, 4],
+    ]
+    .concat();
+    assert_eq!(scaled_bytes, scaled((258, -2), -3, 4));
+    let blob_bytes = [10, 1, 0, 1, 1];
+    assert_eq!(blob_bytes[..], blob(256, 257));
+    let table = Table::judge(&one_module(&[
+        cm_with("s", "", &scaled_bytes),
+        cm_with("b", "", &blob_bytes),
+    ]))
+    .expect("a good table");
+    let scale = Limit {
+        mantissa: 258,
+        power: -2,
+    };
+    let datainfos = [
+        Datainfo::Scaled {
+            scale,
+            min: -3,
+            max: 4,
+        },
+        Datainfo::Blob {
+            minbytes: 256,
+            maxbytes: 257,
+        },
+    ];
+    for (accessible, datainfo) in table.modules[0].accessibles.iter().zip(datainfos) {
+        let argument = Some(datainfo);
+        assert_eq!(accessible.kind, Kind::Command { argument });
+    }
+    // Cut anywhere, the layout can't be read.
+    for bytes in [scaled_bytes, blob_bytes.to_vec()] {
+        for length in 1..bytes.len() {
+            assert_eq!(argument_number(&bytes[..length]), 1);
+        }
     }
 }
 
@@ -142,6 +186,11 @@ fn number_1_a_fifth_level() {
     assert_eq!(argument_number(&three(&tuple(&[]))), 4);
     assert_eq!(argument_number(&three(&structure(&[]))), 4);
     assert_eq!(argument_number(&three(&tuple(&[boolean()]))), 1);
+    // A scaled and a blob are plain types: one level each.
+    for plain in [scaled((1, 0), 0, 1), blob(0, 1)] {
+        assert_eq!(argument_number(&three(&plain)), 0);
+        assert_eq!(argument_number(&wrap(&three(&plain))), 1);
+    }
 }
 
 #[test]
@@ -277,6 +326,35 @@ fn number_4_limits_in_the_wrong_order() {
 }
 
 #[test]
+fn number_4_scales_and_limits_of_scaled_and_blob() {
+    let scale = |mantissa, power| argument_number(&scaled((mantissa, power), 0, 1));
+    for power in -128..=127 {
+        let number = if (-30..=30).contains(&power) { 0 } else { 4 };
+        assert_eq!(scale(1, power), number, "{power}");
+        assert_eq!(scale(i64::MAX, power), number, "{power}");
+        for not_positive in [0, -1, i64::MIN] {
+            assert_eq!(scale(not_positive, power), 4, "{not_positive} {power}");
+        }
+    }
+    let limits = |min, max| argument_number(&scaled((1, -3), min, max));
+    assert_eq!(limits(i64::MIN, i64::MAX), 0);
+    assert_eq!(limits(-7, -7), 0);
+    assert_eq!(limits(-7, -8), 4);
+    assert_eq!(limits(i64::MAX, i64::MIN), 4);
+    assert_eq!(argument_number(&blob(0, 0)), 0);
+    assert_eq!(argument_number(&blob(0, 65535)), 0);
+    assert_eq!(argument_number(&blob(256, 255)), 4);
+    assert_eq!(argument_number(&blob(1, 0)), 4);
+    // Inside other datainfos, and for parameters, as well.
+    let inner = tuple(&[boolean(), scaled((0, 0), 0, 1)]);
+    assert_eq!(argument_number(&array(0, 1, &inner)), 4);
+    assert_eq!(argument_number(&structure(&[("a", blob(1, 0))])), 4);
+    assert_eq!(parameter_number(&array(0, 1, &inner), b"[]"), 4);
+    // A bad scale is told before an initial value that doesn't fit.
+    assert_eq!(parameter_number(&scaled((0, 0), 0, 1), b"2"), 4);
+}
+
+#[test]
 fn number_4_powers_counts_and_enum_values() {
     for power in [-128, -31, 31, 127] {
         assert_eq!(argument_number(&double((0, power), (1, 0))), 4);
@@ -344,6 +422,15 @@ fn number_5_initial_values() {
     let both = structure(&[("a", boolean()), ("b", boolean())]);
     assert_eq!(parameter_number(&both, br#"{"b":true,"a":true}"#), 0);
     assert_eq!(parameter_number(&both, br#"{"b":true, "a":true}"#), 5);
+    let from_1_to_3 = scaled((1, -3), 1, 3);
+    assert_eq!(parameter_number(&from_1_to_3, b"3"), 0);
+    for bad in ["0", "4", "1.0", "\"1\"", " 1"] {
+        assert_eq!(parameter_number(&from_1_to_3, bad.as_bytes()), 5, "{bad}");
+    }
+    assert_eq!(parameter_number(&blob(1, 3), b"\"Zm9v\""), 0);
+    for bad in ["\"\"", "\"Zm9vYg==\"", "\"Zm9\"", "\"Zm9v\" ", "1"] {
+        assert_eq!(parameter_number(&blob(1, 3), bad.as_bytes()), 5, "{bad}");
+    }
     // A readonly parameter's initial value is judged too.
     let readonly = pa("p", "", 1, &boolean(), b"0");
     assert_eq!(number(&one_module(&[readonly])), 5);

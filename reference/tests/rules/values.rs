@@ -252,6 +252,138 @@ fn int_takes_whole_tokens_within_its_limits() {
 }
 
 #[test]
+fn scaled_takes_what_an_int_takes_whatever_its_scale() {
+    for scale in [(1, 0), (1, -30), (i64::MAX, 30), (25, -4)] {
+        let full = scaled(scale, i64::MIN, i64::MAX);
+        assert_fit(
+            &full,
+            &["0", "-0", "9223372036854775807", "-9223372036854775808"],
+        );
+        let digits_33 = format!("1{}", "0".repeat(32));
+        let outside = [
+            "9223372036854775808",
+            "-9223372036854775809",
+            "99999999999999999999999999999999",
+            &digits_33,
+        ];
+        assert_faults(&full, RangeError, &outside);
+        let of_another_type = [
+            "1.0", "1e0", "1E2", "-0.0", "0e100", "\"1\"", "null", "true", "[1]", "{}",
+        ];
+        assert_faults(&full, WrongType, &of_another_type);
+        assert_faults(&full, BadJson, &["01", "+1", "1.", ""]);
+        let low = scaled(scale, -3, -2);
+        assert_fit(&low, &["-3", "-2"]);
+        assert_faults(&low, RangeError, &["-4", "-1", "0", "-0", "2", "3"]);
+    }
+}
+
+#[test]
+fn blob_takes_the_base64_of_as_many_bytes_as_its_limits_say() {
+    let any = blob(0, 65535);
+    // RFC 4648, section 10.
+    assert_fit(
+        &any,
+        &[
+            "\"\"",
+            "\"Zg==\"",
+            "\"Zm8=\"",
+            "\"Zm9v\"",
+            "\"Zm9vYg==\"",
+            "\"Zm9vYmE=\"",
+            "\"Zm9vYmFy\"",
+            "\"+/+/\"",
+        ],
+    );
+    let padding_is_due = [
+        "Zg", "Zm8", "Zg=", "Z", "Z===", "====", "Zm9v====", "Zg==Zm9v",
+    ];
+    let unused_bits_are_zero = ["Zh==", "Zo==", "Zm9=", "Zm+="];
+    let other_alphabets_and_spaces = ["Zm-v", "Zm_v", "Zm 9", " Zm9v"];
+    let escapes = ["\\/\\/\\/\\/", "\\u005Ag==", "Zm9v\\n", "\\u0080"];
+    let texts = [
+        &padding_is_due[..],
+        &unused_bits_are_zero,
+        &other_alphabets_and_spaces,
+        &escapes,
+    ];
+    for text in texts.concat() {
+        assert_faults(&any, WrongType, &[&format!("\"{text}\"")]);
+    }
+    assert_faults(&any, WrongType, &["1", "null", "true", "[\"Zm9v\"]", "{}"]);
+    let no_json = ["Zm9v", "\"Zm9v", "\"Zm\t9\"", "\"Zm\u{7f}v\""];
+    assert_faults(&any, BadJson, &no_json);
+    let three = blob(3, 3);
+    assert_fit(&three, &["\"Zm9v\"", "\"AAAA\""]);
+    assert_faults(&three, RangeError, &["\"\"", "\"Zm8=\"", "\"Zm9vYg==\""]);
+    // Bad base64 is a fault of type whatever its length.
+    assert_faults(&three, WrongType, &["\"Zh==\"", "\"Zm9vYmFyZh==\""]);
+    let none = blob(0, 0);
+    assert_fit(&none, &["\"\""]);
+    assert_faults(&none, RangeError, &["\"Zg==\""]);
+}
+
+/// Base64 of so many zero bytes, quoted.
+fn zeros(size: usize) -> String {
+    let padding = (3 - size % 3) % 3;
+    let digits = (size + padding) / 3 * 4 - padding;
+    format!("\"{}{}\"", "A".repeat(digits), "=".repeat(padding))
+}
+
+#[test]
+fn of_a_blob_189_bytes_go_into_the_stored_form() {
+    for (min, max) in [(0, 65535), (0, 190), (189, 192)] {
+        let long = blob(min, max);
+        assert_fit(&long, &[&zeros(189)]);
+        assert_faults(&long, RangeError, &[&zeros(190), &zeros(192)]);
+    }
+    assert_eq!(zeros(189).len(), 254);
+    assert_eq!(zeros(190).len(), 258);
+    assert_faults(&blob(0, 188), RangeError, &[&zeros(189)]);
+    assert_fit(&blob(0, 188), &[&zeros(188)]);
+    assert_faults(&blob(189, 189), RangeError, &[&zeros(188)]);
+    // Inside a list of one it is 256 bytes, one more is too many.
+    let list = array(0, 2, &blob(0, 65535));
+    assert_fit(&list, &[&format!("[{}]", zeros(189))]);
+    assert_faults(&list, RangeError, &[&format!("[{},\"\"]", zeros(189))]);
+    // Bad base64 is a fault of type all the same.
+    let unpadded = zeros(190).replace('=', "");
+    assert_faults(&blob(0, 65535), WrongType, &[&unpadded]);
+    assert_faults(&list, WrongType, &[&format!("[{},\"B\"]", zeros(189))]);
+}
+
+#[test]
+fn scaled_and_blobs_stand_inside_other_datainfos() {
+    let inside = structure(&[
+        ("s", array(0, 2, &scaled((1, -3), 0, 9))),
+        ("b", tuple(&[blob(1, 2), boolean()])),
+    ]);
+    assert_fit(
+        &inside,
+        &[
+            r#"{"s":[0,9],"b":["Zg==",true]}"#,
+            r#"{"b":["Zm8=",false],"s":[]}"#,
+        ],
+    );
+    assert_faults(
+        &inside,
+        RangeError,
+        &[
+            r#"{"s":[10],"b":["Zg==",true]}"#,
+            r#"{"s":[1],"b":["Zm9v",true]}"#,
+        ],
+    );
+    assert_faults(
+        &inside,
+        WrongType,
+        &[
+            r#"{"s":[10],"b":["Zh==",true]}"#,
+            r#"{"s":[1.5],"b":["Zm9v",true]}"#,
+        ],
+    );
+}
+
+#[test]
 fn enum_takes_the_numbers_of_its_members() {
     let members = enumeration(&[("off", 0), ("on", 1), ("low", i32::MIN), ("high", i32::MAX)]);
     assert_fit(&members, &["0", "-0", "1", "-2147483648", "2147483647"]);

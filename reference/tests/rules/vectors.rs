@@ -9,6 +9,9 @@ use reference::generate::{borders, encode};
 use reference::table::Table;
 use reference::text::from_hex;
 
+/// Blobs of 16 sizes for 10 pairs of limits, alone and in two others.
+const SIZES: usize = 10 * 16 * 3;
+
 /// A datainfo, a text and the line due.
 type Case = (Vec<u8>, Vec<u8>, String);
 
@@ -66,22 +69,22 @@ fn e1_to_e8_come_first() {
 
 /// The lines due for a corner, one for each type in the order of their bytes.
 fn corner_lines(cases: &[Case], text: &str) -> Vec<String> {
-    let corners = &cases[8..8 + 8 * CORNERS.len()];
+    let corners = &cases[8..8 + 10 * CORNERS.len()];
     let of_text = corners.iter().filter(|case| case.1 == text.as_bytes());
     let sorted: Vec<&Case> = of_text.collect();
     let types: Vec<u8> = sorted.iter().map(|case| case.0[0]).collect();
-    assert_eq!(types, [1, 2, 3, 4, 5, 6, 7, 8], "{text}");
+    assert_eq!(types, [1, 2, 3, 4, 5, 6, 7, 8, 9, 10], "{text}");
     sorted.iter().map(|case| case.2.clone()).collect()
 }
 
 #[test]
 fn corners_are_given_to_each_type() {
     let cases = value_cases("1", "0");
-    assert_eq!(cases.len(), 8 + 8 * CORNERS.len());
+    assert_eq!(cases.len(), 8 + 10 * CORNERS.len() + SIZES);
     let lines = |text| corner_lines(&cases, text);
-    assert_eq!(lines(""), ["BadJSON"; 8]);
-    assert_eq!(lines("[1,]"), ["BadJSON"; 8]);
-    assert_eq!(lines("null"), ["WrongType"; 8]);
+    assert_eq!(lines(""), ["BadJSON"; 10]);
+    assert_eq!(lines("[1,]"), ["BadJSON"; 10]);
+    assert_eq!(lines("null"), ["WrongType"; 10]);
     let only = |fits: &[usize], line: &str| -> Vec<String> {
         let one = |at| {
             if fits.contains(&at) {
@@ -90,16 +93,41 @@ fn corners_are_given_to_each_type() {
                 "WrongType"
             }
         };
-        (1..=8).map(|at| one(at).to_string()).collect()
+        (1..=10).map(|at| one(at).to_string()).collect()
     };
-    assert_eq!(lines("-0"), only(&[1, 2, 4], "fits -0"));
+    assert_eq!(lines("-0"), only(&[1, 2, 4, 9], "fits -0"));
     let above = lines("9223372036854775808");
-    assert_eq!(above, only(&[1, 2, 4], "RangeError"));
+    assert_eq!(above, only(&[1, 2, 4, 9], "RangeError"));
     assert_eq!(lines(" false"), only(&[3], "fits false"));
     assert_eq!(lines("\"\\u0080\""), only(&[5], "RangeError"));
     assert_eq!(lines("\"\\u007F\""), only(&[5], "fits \"\\u007F\""));
     assert_eq!(lines("[ 1 , 2 ]"), only(&[6, 7], "fits [1,2]"));
     assert_eq!(lines("{ \"a\" : 1 }"), only(&[8], "fits {\"a\":1}"));
+    assert_eq!(lines("\"Zg==\""), only(&[5, 10], "fits \"Zg==\""));
+    assert_eq!(lines("\"Zh==\""), only(&[5], "fits \"Zh==\""));
+    assert_eq!(lines("\"Zm9vYmFyYg==\""), only(&[5, 10], "RangeError"));
+}
+
+#[test]
+fn blobs_have_sizes_on_both_sides_of_each_limit() {
+    let cases = value_cases("1", "0");
+    let sizes = &cases[8 + 10 * CORNERS.len()..];
+    assert_eq!(sizes.len(), SIZES);
+    let alone: Vec<&Case> = sizes.iter().filter(|case| case.0[0] == 10).collect();
+    assert_eq!(alone.len(), 10 * 16);
+    for (datainfo, text, line) in alone {
+        let limit = |at: usize| usize::from(datainfo[at]) << 8 | usize::from(datainfo[at + 1]);
+        let pads = text.iter().filter(|byte| **byte == b'=').count();
+        let size = (text.len() - 2) / 4 * 3 - pads;
+        let fits = (limit(1)..=limit(3)).contains(&size) && text.len() <= 256;
+        assert_eq!(line.starts_with("fits"), fits, "{size} {datainfo:?}");
+        assert!(fits || line == "RangeError");
+    }
+    let fitting_of = |size: usize| {
+        let fitting = sizes.iter().filter(|case| case.2.starts_with("fits"));
+        fitting.filter(|case| case.1.len() == size).count()
+    };
+    assert!(fitting_of(254) > 0 && fitting_of(256) > 0, "189 bytes");
 }
 
 /// What `values` prints, with stored forms as they are.
@@ -126,7 +154,7 @@ fn values_follow_but_for_those_too_long() {
         let short: Vec<Case> = all.iter().filter(|case| is_short(case)).cloned().collect();
         left_out += all.len() - short.len();
         let cases = value_cases(seed, "3000");
-        assert_eq!(cases[8 + 8 * CORNERS.len()..], short);
+        assert_eq!(cases[8 + 10 * CORNERS.len() + SIZES..], short);
     }
     assert!(left_out > 0);
 }

@@ -12,7 +12,7 @@ use Rattle.datainfo.proofs.Own.{unsigned-within}
 use Rattle.infos.specs.Texts.{countText}
 use Rattle.emit.proofs.Says.{Leads}
 use Rattle.infos.proofs.Infos.{array-none, array-one, array-told}
-use Rattle.infos.proofs.Nested.{member-plain, member-variant, member-field, toCome, members-none, members-start, list-told, members-end, members-bad, members-more, typed-double, typed-int, typed-bool, typed-enum, typed-string, typed-array, typed-tuple, typed-struct, typed-unknown, datainfo-fifth, datainfo-none, datainfo-some}
+use Rattle.infos.proofs.Nested.{member-plain, member-variant, member-field, toCome, members-none, members-start, list-told, members-end, members-bad, members-more, typed-double, typed-int, typed-bool, typed-enum, typed-string, typed-array, typed-tuple, typed-struct, typed-scaled, typed-blob, typed-unknown, datainfo-fifth, datainfo-none, datainfo-some}
 use Prim.Native.Nat.{ℕ, _<_, _+_, _*_, _≤_}
 use borrow.Fn.Kinds.{In}
 use borrow.Fn.PlainCycle.{Measures, is, falls, and}
@@ -38,6 +38,7 @@ use Rattle.ascii.proofs.numbers.unsigned.Reads as unsigned-reads
 use Rattle.datainfo.proofs.layout.member_end.Reads as member-end-reads
 use Rattle.datainfo.proofs.layout.wide.Reads as wide-reads
 use Rattle.infos.proofs.emit_array_limits.Reads as emit-array-limits-reads
+use Rattle.infos.proofs.emit_blob.Reads as emit-blob-reads
 use Rattle.infos.proofs.emit_chars.Reads as emit-chars-reads
 use Rattle.infos.proofs.emit_closing.Reads as emit-closing-reads
 use Rattle.infos.proofs.emit_double.Reads as emit-double-reads
@@ -45,6 +46,7 @@ use Rattle.infos.proofs.emit_int.Reads as emit-int-reads
 use Rattle.infos.proofs.emit_name.Reads as emit-name-reads
 use Rattle.infos.proofs.emit_number.Reads as emit-number-reads
 use Rattle.infos.proofs.emit_opening.Reads as emit-opening-reads
+use Rattle.infos.proofs.emit_scaled.Reads as emit-scaled-reads
 use Rattle.infos.proofs.name_end.Reads as name-end-reads
 use Rattle.emit.proofs.emit.Reads as emit-reads
 use Rattle.emit.proofs.emit_comma.Reads as emit-comma-reads
@@ -140,7 +142,7 @@ abbrev emit-members-claims : ℕ → emit-members-lts.Claims
 emit-members-claims t = (wide-reads.Asked, wide-reads.Learnt, member-end-reads.Asked, member-end-reads.Learnt, emit-comma-reads.Asked, emit-comma-reads.Learnt, emit-member-below t, emit-member.Post)
 
 abbrev emit-typed-claims : ℕ → emit-typed-lts.Claims
-emit-typed-claims t = (emit-double-reads.Asked, emit-double-reads.Learnt, emit-int-reads.Asked, emit-int-reads.Learnt, emit-reads.Asked, emit-reads.Learnt, emit-list-below t, emit-list.Post, emit-chars-reads.Asked, emit-chars-reads.Learnt, emit-array-below t, emit-array.Post)
+emit-typed-claims t = (emit-double-reads.Asked, emit-double-reads.Learnt, emit-int-reads.Asked, emit-int-reads.Learnt, emit-reads.Asked, emit-reads.Learnt, emit-list-below t, emit-list.Post, emit-chars-reads.Asked, emit-chars-reads.Learnt, emit-array-below t, emit-array.Post, emit-scaled-reads.Asked, emit-scaled-reads.Learnt, emit-blob-reads.Asked, emit-blob-reads.Learnt)
 
 emit-array-unsigned-requires : (t : ℕ) → emit-array-lts.Need-unsigned-requires (emit-array-claims t) (emit-array-at t) emit-array.Post
 emit-array-unsigned-requires t c κs = (omega arith, omega arith)
@@ -345,6 +347,12 @@ emit-typed-emit-list-requires-2 t c κs = (omega arith, omega arith)
 emit-typed-emit-list-requires-3 : (t : ℕ) → emit-typed-lts.Need-emit-list-requires-3 (emit-typed-claims t) (emit-typed-at t) emit-typed.Post
 emit-typed-emit-list-requires-3 t c κs = (omega arith, omega arith)
 
+emit-typed-emit-scaled-requires : (t : ℕ) → emit-typed-lts.Need-emit-scaled-requires (emit-typed-claims t) (emit-typed-at t) emit-typed.Post
+emit-typed-emit-scaled-requires t c κs = search needs
+
+emit-typed-emit-blob-requires : (t : ℕ) → emit-typed-lts.Need-emit-blob-requires (emit-typed-claims t) (emit-typed-at t) emit-typed.Post
+emit-typed-emit-blob-requires t c κs = search needs
+
 emit-typed-same-length : (t : ℕ) → emit-typed-lts.Need-same-length (emit-typed-claims t) (emit-typed-at t) emit-typed.Post
 emit-typed-same-length t c = search needs
 
@@ -394,8 +402,20 @@ emit-typed-same-length-8 t c = search needs
 emit-typed-returns-8 : (t : ℕ) → emit-typed-lts.Need-returns-8 (emit-typed-claims t) (emit-typed-at t) emit-typed.Post
 emit-typed-returns-8 t c = search typed-struct
 
+emit-typed-same-length-9 : (t : ℕ) → emit-typed-lts.Need-same-length-9 (emit-typed-claims t) (emit-typed-at t) emit-typed.Post
+emit-typed-same-length-9 t c = search needs
+
 emit-typed-returns-9 : (t : ℕ) → emit-typed-lts.Need-returns-9 (emit-typed-claims t) (emit-typed-at t) emit-typed.Post
-emit-typed-returns-9 t c = search typed-unknown
+emit-typed-returns-9 t c = search typed-scaled
+
+emit-typed-same-length-10 : (t : ℕ) → emit-typed-lts.Need-same-length-10 (emit-typed-claims t) (emit-typed-at t) emit-typed.Post
+emit-typed-same-length-10 t c = search needs
+
+emit-typed-returns-10 : (t : ℕ) → emit-typed-lts.Need-returns-10 (emit-typed-claims t) (emit-typed-at t) emit-typed.Post
+emit-typed-returns-10 t c = search typed-blob
+
+emit-typed-returns-11 : (t : ℕ) → emit-typed-lts.Need-returns-11 (emit-typed-claims t) (emit-typed-at t) emit-typed.Post
+emit-typed-returns-11 t c = search typed-unknown
 
 pub +emit-array+emit-datainfo+emit-list+emit-member+emit-members+emit-typed-spec :
     {M : Type 1} → statement M
@@ -492,6 +512,8 @@ pub +emit-array+emit-datainfo+emit-list+emit-member+emit-members+emit-typed-spec
     (emit-typed-emit-array-requires t)
     (emit-typed-emit-list-requires-2 t)
     (emit-typed-emit-list-requires-3 t)
+    (emit-typed-emit-scaled-requires t)
+    (emit-typed-emit-blob-requires t)
     (emit-typed-same-length t)
     (emit-typed-returns t)
     (emit-typed-same-length-2 t)
@@ -508,4 +530,8 @@ pub +emit-array+emit-datainfo+emit-list+emit-member+emit-members+emit-typed-spec
     (emit-typed-returns-7 t)
     (emit-typed-same-length-8 t)
     (emit-typed-returns-8 t)
+    (emit-typed-same-length-9 t)
     (emit-typed-returns-9 t)
+    (emit-typed-same-length-10 t)
+    (emit-typed-returns-10 t)
+    (emit-typed-returns-11 t)

@@ -1,5 +1,5 @@
 -- `fit::fit::plain_fit` meets its contract: each type by its own function. Assumes nothing.
-use Rattle.fit.proofs.Figures.{plain-bool, plain-string, plain-number}
+use Rattle.fit.proofs.Figures.{plain-bool, plain-string, plain-blob, plain-number}
 use borrow.Author.Needs.{needs}
 use Rattle.fit.proofs.fit.plain_fit.Statement.{statement}
 use Rattle.fit.proofs.fit.plain_fit.Tie as tie
@@ -16,11 +16,17 @@ string-fit-requires c κs = search needs
 returns-2 : tie.Need-returns-2
 returns-2 c = λ d. plain-string _ _ _ _ (c .before .if2 .taken) (c .string-fit .ensures d)
 
+blob-fit-requires : tie.Need-blob-fit-requires
+blob-fit-requires c κs = search needs
+
+returns-3 : tie.Need-returns-3
+returns-3 c = λ d. plain-blob _ _ _ _ (c .before .if3 .taken) (c .blob-fit .ensures d)
+
 number-fit-requires : tie.Need-number-fit-requires
 number-fit-requires c κs = search needs
 
-returns-3 : tie.Need-returns-3
-returns-3 c = λ d. plain-number _ _ _ _ (c .before .before .if1 .left) (c .before .if2 .left) (c .number-fit .ensures d)
+returns-4 : tie.Need-returns-4
+returns-4 c = λ d. plain-number _ _ _ _ (c .before .before .before .if1 .left) (c .before .before .if2 .left) (c .before .if3 .left) (c .number-fit .ensures d)
 
 pub plain-fit-spec : {M : Type 1} → statement M
 plain-fit-spec =
@@ -30,5 +36,7 @@ plain-fit-spec =
     returns
     string-fit-requires
     returns-2
+    blob-fit-requires
+    returns-3
     number-fit-requires
-    returns-3)
+    returns-4)
