@@ -1,38 +1,26 @@
--- Modules, parameters and commands that are found in an accepted table. Assumes nothing.
+-- Parameters and commands that are found in an accepted table. Assumes nothing.
 use Prim.Native.Nat.{ℕ, _-_, _≤_, _<_}
 use native.Mathlib.Omega.{arith}
-use mathlib.Core.Path.{_≡_, refl, ap, subst}
+use mathlib.Core.Path.{_≡_, refl, sym, subst, _∙_}
 use mathlib.Core.Bool.{true}
 use mathlib.Core.List.{List}
-use mathlib.Core.Option.{none, some}
+use mathlib.Core.Option.{some}
 use lib.ListN.{length, take, drop, getElem?, length-drop}
 use lib.Seq.{length-take-le}
-use Rattle.ascii.specs.Bytes.{isSome}
 use Rattle.ascii.specs.Names.{isName}
 use Rattle.datainfo.specs.Layout.{datainfoAt, ReadableAt}
 use Rattle.table.specs.Table.{Parameter, Command}
 use Rattle.table.specs.Layout.{argumentAt, tableOf}
-use Rattle.table.specs.Search.{Placed, parameters, commands, findModule, findParameter, findCommand}
+use Rattle.table.specs.Search.{Placed, parameters, commands, findParameter, findCommand}
 use Rattle.table.specs.At.{bytesOf, Inside, ArgumentReadable, parameterOf, commandOf}
 use Rattle.table.specs.declared.layout.ParameterAt.{ParameterAt}
 use Rattle.table.specs.declared.layout.CommandAt.{CommandAt}
+use Rattle.table.proofs.Accessibles.{in-some}
 use Rattle.table.proofs.Search.{parameter-there, parameter-named, command-there, command-named, parameter-home}
 use Rattle.report.specs.Judge.{tableNumber}
-use Rattle.search.specs.Found.{FindsModule, FindsParameter, ParameterFound, FindsCommand, CommandFound}
-use Rattle.search.specs.declared.find.FoundModule as F
-use Rattle.search.specs.declared.find.FoundParameter as P
-use Rattle.search.specs.declared.find.FoundCommand as C
+use Rattle.search.specs.Found.{ParameterFound, CommandFound}
 use Rattle.sound.proofs.Lists.{each-at, there-low}
 use Rattle.sound.proofs.Accepted.{GoodParameter, GoodCommand, accepted}
-
--- ## Modules
-
-module _ (s : List ℕ) (a : tableNumber s ≡ 0) (m : List ℕ) (r : F.FoundModule) (f : FindsModule s m r) where
-  pub no-module : r ≡ F.the-variants.Nothing → findModule (tableOf s) m ≡ none
-  no-module e = rw e at f
-
-  pub has-module : (n i : ℕ) → r ≡ F.the-variants.At n i → isSome (findModule (tableOf s) m) ≡ true
-  has-module n i e = ap isSome ((rw e at f) .is)
 
 -- ## Commands
 
@@ -52,14 +40,15 @@ pub record CommandKnown (s m a : List ℕ) (k : ℕ) (q : CommandAt) : Type 0 wh
 pub argument-known : {s m a : List ℕ} {k : ℕ} {q : CommandAt} → CommandKnown s m a k q → ArgumentReadable s (q .argument) (q .info)
 argument-known p = record { within = p .within; argument = p .it .it .argument; left = p .left; is = p .argument }
 
-module _ (s : List ℕ) (e : tableNumber s ≡ 0) (m a : List ℕ) (r : C.FoundCommand) (f : FindsCommand s m a r) where
-  pub no-command : r ≡ C.the-variants.Nothing → findCommand (tableOf s) m a ≡ none
-  no-command z = rw z at f
+-- what holds of it holds of whatever the names find
+pub the-command : {s m a : List ℕ} {k : ℕ} {q : CommandAt} (p : CommandKnown s m a k q) (P : ℕ × Placed Command → Type 0)
+    → P (k, p .it) → (x : ℕ × Placed Command) → findCommand (tableOf s) m a ≡ some x → P x
+the-command p P y x e = subst P (in-some (sym (p .is) ∙ e)) y
 
-  pub command-known : (k h : ℕ) (q : CommandAt) → r ≡ C.the-variants.At k h q → CommandKnown s m a k q
+module _ (s : List ℕ) (e : tableNumber s ≡ 0) (m a : List ℕ) (k h : ℕ) (q : CommandAt) (g : CommandFound s m a k h q) where
+  pub command-known : CommandKnown s m a k q
   unfolding commandOf
-  command-known k h q z =
-      let g : CommandFound s m a k h q = rw z at f in
+  command-known =
       let it : Placed Command = record { home = h; moduleName = m; it = commandOf s q (g .held .argument) } in
       let is = g .is in
       let there = command-there (tableOf s) m a (k, it) is in
@@ -104,17 +93,17 @@ pub record ParameterKnown (s m a : List ℕ) (k h : ℕ) (q : ParameterAt) : Typ
 pub info-known : {s m a : List ℕ} {k h : ℕ} {q : ParameterAt} → ParameterKnown s m a k h q → ReadableAt s (q .info) 4
 info-known p = record { within = p .within; datainfo = p .it .it .datainfo; left = p .left; is = p .info }
 
+pub the-parameter : {s m a : List ℕ} {k h : ℕ} {q : ParameterAt} (p : ParameterKnown s m a k h q) (P : ℕ × Placed Parameter → Type 0)
+    → P (k, p .it) → (x : ℕ × Placed Parameter) → findParameter (tableOf s) m a ≡ some x → P x
+the-parameter p P y x e = subst P (in-some (sym (p .is) ∙ e)) y
+
 take-itself : (n : ℕ) (xs : List ℕ) → n ≤ length xs → take (length (take n xs)) xs ≡ take n xs
 take-itself n xs h = let e : length (take n xs) ≡ n = length-take-le n xs h in rw e
 
-module _ (s : List ℕ) (e : tableNumber s ≡ 0) (m a : List ℕ) (r : P.FoundParameter) (f : FindsParameter s m a r) where
-  pub no-parameter : r ≡ P.the-variants.Nothing → findParameter (tableOf s) m a ≡ none
-  no-parameter z = rw z at f
-
-  pub parameter-known : (k h : ℕ) (q : ParameterAt) → r ≡ P.the-variants.At k h q → ParameterKnown s m a k h q
+module _ (s : List ℕ) (e : tableNumber s ≡ 0) (m a : List ℕ) (k h : ℕ) (q : ParameterAt) (g : ParameterFound s m a k h q) where
+  pub parameter-known : ParameterKnown s m a k h q
   unfolding parameterOf bytesOf parameters
-  parameter-known k h q z =
-      let g : ParameterFound s m a k h q = rw z at f in
+  parameter-known =
       let it : Placed Parameter = record { home = h; moduleName = m; it = parameterOf s q (g .held .datainfo) } in
       let is = g .is in
       let there = parameter-there (tableOf s) m a (k, it) is in

@@ -6,3 +6,4 @@ pub mod Executed
 pub mod Showing
 pub mod Sets
 pub mod Changed
+pub mod Judging

@@ -1,26 +1,21 @@
 -- A parameter's value is reported as it is shown. Assumes nothing.
 use Prim.Native.Nat.{ℕ, _≤_, _<_}
 use native.Mathlib.Omega.{arith}
-use mathlib.Core.Path.{_≡_, refl, _∙_}
-use mathlib.Core.Bool.{true, false}
+use mathlib.Core.Path.{_≡_, refl}
+use mathlib.Core.Bool.{false}
 use mathlib.Core.List.{List, []}
-use mathlib.Core.Option.{none}
 use lib.ListN.{length, getD}
-use Rattle.ascii.specs.Bytes.{isSome}
 use Rattle.ascii.specs.Writer.{Puts}
-use Rattle.message.specs.Error as Error
-use Rattle.message.specs.Request.{read}
 use Rattle.message.specs.Reply.{Report, reply}
 use Rattle.message.specs.Said.{reportOf}
-use Rattle.message.specs.declared.say.Class.the-variants as K
 use Rattle.outbox.specs.Outbox.{Record, final, encode}
 use Rattle.outbox.specs.Written.{RoomFor}
 use Rattle.table.specs.At.{Inside}
 use Rattle.table.specs.declared.layout.ParameterAt.{ParameterAt}
 use Rattle.table.specs.Layout.{tableOf}
-use Rattle.table.specs.Search.{parameters, findModule, findParameter}
+use Rattle.table.specs.Search.{parameters}
 use Rattle.plain.specs.Node as Node
-use Rattle.plain.specs.Answer.{found, reads, outcome}
+use Rattle.plain.specs.Answer.{reads}
 use Rattle.sound.specs.Theorems.{Sound}
 use Rattle.sound.proofs.Accepted.{accepted}
 use Rattle.sound.proofs.Room.{room-after, puts-none, puts-after}
@@ -32,23 +27,19 @@ use Rattle.state.proofs.Flags.{neither}
 use Rattle.state.proofs.Settled.{each-fit, fit-parts}
 use Rattle.state.proofs.Stands.{value-held}
 use Rattle.outcome.specs.Ready.{Ready}
-use Rattle.outcome.specs.Outcome.{Comes}
-use Rattle.outcome.specs.declared.Outcome.the-variants.{Refused, Sent}
-use Rattle.access.proofs.Finding.{ParameterKnown}
-use Rattle.access.proofs.Executed.{past-module}
+use Rattle.outcome.specs.Outcome.{Sends, OfParameter}
+use Rattle.outcome.specs.declared.Outcome.the-variants.{Sent}
+use Rattle.search.specs.Found.{ParameterFound}
+use Rattle.access.proofs.Finding.{ParameterKnown, parameter-known, the-parameter}
 use Rattle.plain.specs.Node.{withClients}
 
-module _ (s : List ℕ) (st : State) (values out : List ℕ) (c t : ℕ) (m a : List ℕ) where
-  pub read-no-module : findModule (tableOf s) m ≡ none → Comes s st values out c t (Refused K.NoSuchModule) values out (read m a)
-  unfolding outcome found
-  read-no-module e = record { is = rw e; quiet = refl; area = refl }
+module _ (s : List ℕ) (st : State) (values out : List ℕ) (c : ℕ) (g : Ready s st values out c) (m a : List ℕ) (k h : ℕ) (q : ParameterAt) (f : ParameterFound s m a k h q) where
+  p : ParameterKnown s m a k h q
+  p = parameter-known s (g .lent .accepted) m a k h q f
 
-  module _ (e : isSome (findModule (tableOf s) m) ≡ true) where
-    pub read-no-parameter : findParameter (tableOf s) m a ≡ none → Comes s st values out c t (Refused K.NoSuchParameter) values out (read m a)
-    unfolding outcome found
-    read-no-parameter f = record { is = past-module Error.NoSuchModule (findModule (tableOf s) m) _ e ∙ rw f; quiet = refl; area = refl }
+  pub read-low : k < 64
+  read-low = p .low
 
-module _ (s : List ℕ) (st : State) (values out : List ℕ) (c : ℕ) (g : Ready s st values out c) (m a : List ℕ) (k h : ℕ) (q : ParameterAt) (p : ParameterKnown s m a k h q) where
   -- the report that the plain node makes
   abbrev own : Report
   own = Node.reportOf (p .it) (view s st values .values k)
@@ -86,17 +77,18 @@ module _ (s : List ℕ) (st : State) (values out : List ℕ) (c : ℕ) (g : Read
         let w = comes-reads (tableOf s) (accepted s (l .accepted)) quiet quiet-sound c (omega arith) 0 (omega arith) (k, p .it) (p .there) .written .short in
         rw own-is at (room-after [] (final c (reply own)) out out 0 (puts-none out) (omega arith) (l .room))
 
-    pub read-sent : isSome (findModule (tableOf s) m) ≡ true → (after : List ℕ) (written : ℕ) → Puts out 0 (encode shows) after written
-        → (t : ℕ) → Comes s st values out c t (Sent written) values after (read m a)
-    unfolding outcome found reads
-    read-sent e after written x t =
-        record {
+    pub read-sent : (after : List ℕ) (written : ℕ) → Puts out 0 (encode shows) after written
+        → (t : ℕ) → OfParameter s st values out c t (Sent written) values after m a reads
+    unfolding reads
+    read-sent after written x t =
+        the-parameter p (λ y. Sends (tableOf s) (view s st values) c t out after values values (reads (tableOf s) (view s st values) c t y) written)
+        (record {
           carries =
               record {
                 records = [];
                 reply = reply own;
-                is = past-module Error.NoSuchModule (findModule (tableOf s) m) _ e ∙ rw (p .is);
+                is = refl;
                 puts = puts-after [] (final c (reply own)) out out 0 (puts-none out) after written (rw own-is x);
               };
           unstored = refl;
-        }
+        })

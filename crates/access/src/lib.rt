@@ -1,60 +1,55 @@
 // `read`, `change` and `do`: what is asked of one accessible of a module.
 mod command;
+mod judge;
 mod setting;
 
 ghost use Prim.Native.Nat.{ℕ, _≤_};
 ghost use Rattle.ascii.specs.Numbers.{latest};
-ghost use Rattle.message.specs.Request as Request;
+ghost use Rattle.search.specs.Found.{ParameterFound, CommandFound};
+ghost use Rattle.plain.specs.Answer.{reads, changes, does};
 ghost use Rattle.outcome.specs.Ready.{Lent, Ready};
-ghost use Rattle.outcome.specs.Outcome.{Comes, ComesAtAny};
+ghost use Rattle.outcome.specs.Outcome.{OfParameter, OfCommand};
 use crate::command::argument_verdict;
 use crate::command::order;
+use crate::judge::Judged;
+use crate::judge::judge_change;
+use crate::judge::let_in;
 use crate::setting::set;
-use fit::Verdict;
-use fit::fit::verdict;
-use message::say::Class;
 use outbox::write::Told;
 use outbox::write::put_final_report;
 use outcome::Outcome;
-use search::find::FoundCommand;
-use search::find::FoundModule;
-use search::find::FoundParameter;
-use search::find::find_command;
-use search::find::find_module;
-use search::find::find_parameter;
 use state::State;
 use state::setting::shown;
+use table::layout::CommandAt;
+use table::layout::ParameterAt;
 
-// "`reply M:P [value,{"t":time}]`, the stored time", with the value that the parameter shows, at the front of the outbox; or an error, and the
-// outbox is as it was.
+// "`reply M:P [value,{"t":time}]`, the stored time", with the value that the parameter shows, at the front of the outbox: of the parameter that
+// these names find, with its number, its module's, and its positions.
 pub fn read<'a>(
     table: &'a [u8],
     values: &'a [u8],
     out: &mut [u8],
     state: State,
     client: u8,
+    k: usize,
+    home: usize,
+    q: ParameterAt,
     module: &[u8],
     name: &[u8],
 ) -> Outcome
-    requires { ⌜ Ready (now table) state (now values) (now out) client ⌝ }
-    ensures { λ r. ⌜ ((t : ℕ) → Comes (now (table .entry)) state (now (values .entry)) (now (out .entry)) client t r (now (values .entry)) (now (out .exit)) (Request.read (now («module» .entry)) (now (name .entry)))) ⌝ }
+    requires { ⌜ Ready (now table) state (now values) (now out) client × ParameterFound (now table) (now «module») (now name) k home q ⌝ }
+    ensures { λ r. ⌜ ((t : ℕ) → OfParameter (now (table .entry)) state (now (values .entry)) (now (out .entry)) client t r (now (values .entry))
+        (now (out .exit)) (now («module» .entry)) (now (name .entry)) reads) ⌝ }
 {
-    let FoundModule::At(_, _) = find_module(table, module) else {
-        return Outcome::Refused(Class::NoSuchModule);
-    };
-    let FoundParameter::At(k, _, p) = find_parameter(table, module, name) else {
-        return Outcome::Refused(Class::NoSuchParameter);
-    };
     let settings = state.settings;
-    let initial = p.initial;
+    let initial = q.initial;
     let value = shown(table, values, settings, k, initial);
     let time = settings.time[k];
     let end = put_final_report(out, 0, client, Told::Reply, module, name, value, time);
     Outcome::Sent(end)
 }
 
-// A parameter's value is set; or an error, and outbox and values area are as they were. "Order: .., NoSuchModule, NoSuchParameter .., ReadOnly,
-// BadJSON, WrongType, RangeError."
+// A parameter's value is set; or an error, and outbox and values area are as they were.
 pub fn change(
     table: &[u8],
     values: &mut [u8],
@@ -62,43 +57,37 @@ pub fn change(
     state: State,
     client: u8,
     time: u64,
+    k: usize,
+    home: usize,
+    q: ParameterAt,
     module: &[u8],
     name: &[u8],
     text: &[u8],
 ) -> Outcome
-    requires { ⌜ Ready (now table) state (now values) (now out) client × (time ≤ latest) ⌝ }
-    ensures { λ r. ⌜ Comes (now (table .entry)) state (now (values .entry)) (now (out .entry)) client time r (now (values .exit)) (now (out .exit)) (Request.change (now («module» .entry)) (now (name .entry)) (now (text .entry))) ⌝ }
+    requires { ⌜ Ready (now table) state (now values) (now out) client × ((time ≤ latest) × ParameterFound (now table) (now «module») (now name) k home q) ⌝ }
+    ensures { λ r. ⌜ OfParameter (now (table .entry)) state (now (values .entry)) (now (out .entry)) client time r (now (values .exit))
+        (now (out .exit)) (now («module» .entry)) (now (name .entry)) (λ w n c t. changes w n c t (now (text .entry))) ⌝ }
 {
-    let FoundModule::At(_, _) = find_module(table, module) else {
-        return Outcome::Refused(Class::NoSuchModule);
-    };
-    let FoundParameter::At(k, home, p) = find_parameter(table, module, name) else {
-        return Outcome::Refused(Class::NoSuchParameter);
-    };
-    let readonly = p.readonly;
-    if readonly {
-        return Outcome::Refused(Class::ReadOnly);
-    }
-    let clients = state.clients;
-    let info = p.info;
-    match verdict(table, info, text) {
-        Verdict::Fits => set(
-            table,
-            info,
-            values,
-            out,
-            clients,
-            client,
-            time,
-            k,
-            home,
-            module,
-            name,
-            text,
-        ),
-        Verdict::RangeError => Outcome::Refused(Class::RangeError),
-        Verdict::WrongType => Outcome::Refused(Class::WrongType),
-        Verdict::BadJson => Outcome::Refused(Class::BadJSON),
+    match judge_change(table, q, text) {
+        Judged::Refused(class) => Outcome::Refused(class),
+        Judged::LetIn => {
+            let clients = state.clients;
+            let info = q.info;
+            set(
+                table,
+                info,
+                values,
+                out,
+                clients,
+                client,
+                time,
+                k,
+                home,
+                module,
+                name,
+                text,
+            )
+        }
     }
 }
 
@@ -108,23 +97,22 @@ pub fn execute(
     out: &mut [u8],
     client: u8,
     time: u64,
+    k: usize,
+    home: usize,
+    q: CommandAt,
     module: &[u8],
     name: &[u8],
     text: &[u8],
 ) -> Outcome
-    requires { ⌜ Lent (now table) (now out) client × (time ≤ latest) ⌝ }
-    ensures { λ r. ⌜ ComesAtAny (now (table .entry)) (now (out .entry)) client time r (now (out .exit)) (Request.execute (now («module» .entry)) (now (name .entry)) (now (text .entry))) ⌝ }
+    requires { ⌜ Lent (now table) (now out) client × ((time ≤ latest) × CommandFound (now table) (now «module») (now name) k home q) ⌝ }
+    ensures { λ r. ⌜ OfCommand (now (table .entry)) (now (out .entry)) client time r (now (out .exit)) (now («module» .entry)) (now (name .entry))
+        (λ w n c t. does w n c t (now (text .entry))) ⌝ }
 {
-    let FoundModule::At(_, _) = find_module(table, module) else {
-        return Outcome::Refused(Class::NoSuchModule);
-    };
-    let FoundCommand::At(k, _, c) = find_command(table, module, name) else {
-        return Outcome::Refused(Class::NoSuchCommand);
-    };
-    let argument = c.argument;
-    let info = c.info;
-    match argument_verdict(table, argument, info, text) {
-        Verdict::Fits => Outcome::Sent(order(
+    let argument = q.argument;
+    let info = q.info;
+    match let_in(argument_verdict(table, argument, info, text)) {
+        Judged::Refused(class) => Outcome::Refused(class),
+        Judged::LetIn => Outcome::Sent(order(
             table,
             info,
             out,
@@ -136,8 +124,5 @@ pub fn execute(
             name,
             text,
         )),
-        Verdict::RangeError => Outcome::Refused(Class::RangeError),
-        Verdict::WrongType => Outcome::Refused(Class::WrongType),
-        Verdict::BadJson => Outcome::Refused(Class::BadJSON),
     }
 }

@@ -21,12 +21,11 @@ use Rattle.table.specs.Table.{Table}
 use Rattle.table.specs.Layout.{tableOf}
 use Rattle.outbox.specs.Outbox.{final, mark, client, body, encode}
 use Rattle.outbox.specs.Written.{RoomFor}
-use Rattle.plain.specs.Node.{Node, isActive}
+use Rattle.plain.specs.Node.{Node}
 use Rattle.plain.specs.Answer as Plain
 use Rattle.plain.specs.Answer.{carried, outcome}
 use Rattle.sound.proofs.Room.{puts-after, puts-none}
 use Rattle.state.specs.declared.State.{State}
-use Rattle.state.specs.View.{bit, clientAt, view}
 use Rattle.state.specs.Fit.{pastLast, isUnfit, settingsUnfit}
 use Rattle.state.proofs.Flags.{neither}
 use Rattle.state.proofs.Kept.{each-fit}
@@ -102,7 +101,3 @@ module _ (table : List ℕ) (s : State) (values before : List ℕ) (c : ℕ) (gi
       let m = length (tableOf table .modules) in
       let fit = neither (settingsUnfit (s .settings) values 0 _) _ (given .fit) .1 in
       fit-at m (s .clients) c (each-fit m (s .clients) fit c (given .lent .low)) .within
-
-  pub mask-is : (i : ℕ) → isActive (view table s values .clients c) i ≡ bit (getD (s .clients .active) c 0) i
-  unfolding view clientAt isActive
-  mask-is i = rw (given .isOpen)

@@ -2,3 +2,4 @@ pub mod Conclusions
 pub mod Carried
 pub mod Described
 pub mod Answers
+pub mod Sought

@@ -5,6 +5,10 @@ use lib.ListN.{length}
 use Rattle.message.specs.Parsed.{Within, Inside}
 use Rattle.message.specs.declared.line.Part.{Part}
 use Rattle.message.specs.declared.line.Request.{Request}
+use Rattle.message.specs.declared.line.Verb.{Verb}
+use Rattle.message.specs.declared.line.Verb.the-variants as Verb
+use Rattle.message.specs.declared.say.Class.{Class}
+use Rattle.message.specs.declared.say.Class.the-variants as Class
 
 -- parts within a line of at most 1,024 bytes
 pub record Carriable (line : List ℕ) (specifier payload : Part) (asked : Request) : Type 0 where
@@ -12,3 +16,9 @@ pub record Carriable (line : List ℕ) (specifier payload : Part) (asked : Reque
   pub specifier-in : Within line specifier
   pub payload-in : Within line payload
   pub inside : Inside line asked
+
+-- the error where what a verb takes is not there
+abbrev pub missingOf : Verb → Class
+missingOf Verb.Read = Class.NoSuchParameter
+missingOf Verb.Change = Class.NoSuchParameter
+missingOf Verb.Execute = Class.NoSuchCommand

@@ -1,2 +1,3 @@
 pub mod Concluded
 pub mod Asked
+pub mod Answered

@@ -2,15 +2,13 @@
 ghost use Prim.Native.Nat.{_≤_};
 ghost use lib.ListN.{length};
 ghost use Rattle.ascii.specs.Numbers.{latest};
-ghost use Rattle.table.specs.Layout.{tableOf};
-ghost use Rattle.message.specs.Line.{whole, content, partsOf};
-ghost use Rattle.plain.specs.Answer.{answerParts, partsSet};
-ghost use Rattle.state.specs.View.{view};
+ghost use Rattle.message.specs.Parsed.{Parted};
 ghost use Rattle.outcome.specs.Ready.{Ready};
-ghost use Rattle.outcome.specs.Outcome.{Answers};
+ghost use Rattle.line.specs.Answered.{AnswersLine};
 use conclude::bytes_of;
 use conclude::conclude;
 use message::line::Parsed;
+use message::line::Part;
 use message::line::part_line;
 use message::line::request_of;
 use message::say::Class;
@@ -21,10 +19,12 @@ use state::State;
 
 mod conclude;
 mod describing;
+mod named;
 mod request;
+mod scoped;
 
-// "Otherwise action, specifier and data are parted ..": the answer to each request; a line that says nothing is ProtocolError with empty words
-pub fn answer_line(
+// The answer to a line with these parts.
+fn answer_parts(
     table: &[u8],
     values: &mut [u8],
     out: &mut [u8],
@@ -32,19 +32,15 @@ pub fn answer_line(
     client: u8,
     time: u64,
     line: &[u8],
+    action: Part,
+    specifier: Part,
+    payload: Part,
 ) -> Answered
-    requires { ⌜ Ready (now table) state (now values) (now out) client × ((time ≤ latest) × (length (now line) ≤ 1024)) ⌝ }
-    ensures { λ r. ⌜ Answers (now (table .entry)) (state .settings) (now (values .entry)) (now (out .entry)) r (now (values .exit)) (now (out .exit)) (answerParts (tableOf (now (table .entry))) (view (now (table .entry)) state (now (values .entry))) client time (partsOf (content (whole (now (line .entry)))))) (partsSet (tableOf (now (table .entry))) (view (now (table .entry)) state (now (values .entry))) client time (partsOf (content (whole (now (line .entry)))))) ⌝ }
+    requires { ⌜ Ready (now table) state (now values) (now out) client × ((time ≤ latest) × ((length (now line) ≤ 1024)
+        × Parted (now line) action specifier payload)) ⌝ }
+    ensures { λ r. ⌜ AnswersLine (now (table .entry)) state (now (values .entry)) (now (out .entry)) client time (now (line .entry)) r
+        (now (values .exit)) (now (out .exit)) ⌝ }
 {
-    let Parsed::Line {
-        action,
-        specifier,
-        payload,
-    } = part_line(line)
-    else {
-        let written = put_final_error(out, 0, client, b"", b"", Class::ProtocolError);
-        return Answered { state, written };
-    };
     let asked = request_of(line, action, specifier);
     let came = outcome(
         table,
@@ -66,5 +62,42 @@ pub fn answer_line(
         bytes_of(line, action),
         bytes_of(line, specifier),
         came,
+    )
+}
+
+// "Otherwise action, specifier and data are parted ..": the answer to each request; a line that says nothing is ProtocolError with empty words
+pub fn answer_line(
+    table: &[u8],
+    values: &mut [u8],
+    out: &mut [u8],
+    state: State,
+    client: u8,
+    time: u64,
+    line: &[u8],
+) -> Answered
+    requires { ⌜ Ready (now table) state (now values) (now out) client × ((time ≤ latest) × (length (now line) ≤ 1024)) ⌝ }
+    ensures { λ r. ⌜ AnswersLine (now (table .entry)) state (now (values .entry)) (now (out .entry)) client time (now (line .entry)) r
+        (now (values .exit)) (now (out .exit)) ⌝ }
+{
+    let Parsed::Line {
+        action,
+        specifier,
+        payload,
+    } = part_line(line)
+    else {
+        let written = put_final_error(out, 0, client, b"", b"", Class::ProtocolError);
+        return Answered { state, written };
+    };
+    answer_parts(
+        table,
+        values,
+        out,
+        state,
+        client,
+        time,
+        line,
+        action,
+        specifier,
+        payload,
     )
 }

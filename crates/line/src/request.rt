@@ -1,36 +1,29 @@
-// A request carried out, by its action.
+// A request carried out, by what it asks for.
 ghost use Prim.Native.Nat.{ℕ, _≤_};
 ghost use mathlib.Core.Path.{_≡_};
-ghost use mathlib.Core.Option.{none, some};
 ghost use mathlib.Core.List.{List};
 ghost use lib.ListN.{length};
 ghost use Rattle.ascii.specs.Numbers.{latest};
 ghost use Rattle.ascii.specs.Text.{bytes};
 ghost use Rattle.message.specs.Request as R;
 ghost use Rattle.message.specs.Request.{orNull};
-ghost use Rattle.message.specs.Parsed.{part, Within, switchRequest, verbRequest, meaning};
+ghost use Rattle.message.specs.Parsed.{part, Within, meaning};
 ghost use Rattle.outcome.specs.Ready.{Ready};
 ghost use Rattle.outcome.specs.Outcome.{Comes, ComesAtAny};
 ghost use Rattle.line.specs.Asked.{Carriable};
 use crate::conclude::bytes_of;
 use crate::describing::describe;
-use access::change;
-use access::execute;
-use access::read;
+use crate::named::named;
+use crate::scoped::switch_all;
+use crate::scoped::switch_module;
 use message::line::Part;
 use message::line::Request;
-use message::line::Switch;
-use message::line::Verb;
 use message::line::is_null;
 use message::say::Class;
 use outbox::write::put_final_identification;
 use outbox::write::put_final_pong;
 use outcome::Outcome;
 use state::State;
-use switch::activate;
-use switch::activate_all;
-use switch::deactivate;
-use switch::deactivate_all;
 
 fn identify(out: &mut [u8], client: u8) -> Outcome
     requires { ⌜ 32768 ≤ length (now out) ⌝ }
@@ -58,70 +51,7 @@ fn data_of<'a>(line: &'a [u8], payload: Part, null: &'a [u8]) -> &'a [u8]
     bytes_of(line, payload)
 }
 
-// `activate` and `deactivate` of all modules.
-fn switch_all<'a>(
-    table: &'a [u8],
-    values: &'a [u8],
-    out: &mut [u8],
-    state: State,
-    client: u8,
-    switch: Switch,
-) -> Outcome
-    requires { ⌜ Ready (now table) state (now values) (now out) client ⌝ }
-    ensures { λ r. ⌜ ((t : ℕ) → Comes (now (table .entry)) state (now (values .entry)) (now (out .entry)) client t r (now (values .entry)) (now (out .exit)) (switchRequest switch none)) ⌝ }
-{
-    match switch {
-        Switch::On => activate_all(table, values, out, state, client),
-        Switch::Off => deactivate_all(out, client),
-    }
-}
-
-// `activate` and `deactivate` of the module of a name.
-fn switch_module<'a>(
-    table: &'a [u8],
-    values: &'a [u8],
-    out: &mut [u8],
-    state: State,
-    client: u8,
-    switch: Switch,
-    module: &[u8],
-) -> Outcome
-    requires { ⌜ Ready (now table) state (now values) (now out) client ⌝ }
-    ensures { λ r. ⌜ ((t : ℕ) → Comes (now (table .entry)) state (now (values .entry)) (now (out .entry)) client t r (now (values .entry)) (now (out .exit)) (switchRequest switch (some (now («module» .entry))))) ⌝ }
-{
-    let clients = state.clients;
-    let active = clients.active;
-    let mask = active[client as usize];
-    match switch {
-        Switch::On => activate(table, values, out, state, client, module),
-        Switch::Off => deactivate(table, out, client, mask, module),
-    }
-}
-
-// `read`, `change` and `do` of the accessible of two names, with the data.
-fn named(
-    table: &[u8],
-    values: &mut [u8],
-    out: &mut [u8],
-    state: State,
-    client: u8,
-    time: u64,
-    verb: Verb,
-    module: &[u8],
-    name: &[u8],
-    text: &[u8],
-) -> Outcome
-    requires { ⌜ Ready (now table) state (now values) (now out) client × (time ≤ latest) ⌝ }
-    ensures { λ r. ⌜ Comes (now (table .entry)) state (now (values .entry)) (now (out .entry)) client time r (now (values .exit)) (now (out .exit)) (verbRequest verb (now (text .entry)) (now («module» .entry)) (now (name .entry))) ⌝ }
-{
-    match verb {
-        Verb::Read => read(table, values, out, state, client, module, name),
-        Verb::Change => change(table, values, out, state, client, time, module, name, text),
-        Verb::Execute => execute(table, out, client, time, module, name, text),
-    }
-}
-
-// What a request comes to, for each action.
+// What a request comes to.
 pub fn outcome(
     table: &[u8],
     values: &mut [u8],
@@ -135,7 +65,8 @@ pub fn outcome(
     asked: Request,
 ) -> Outcome
     requires { ⌜ Ready (now table) state (now values) (now out) client × ((time ≤ latest) × (Carriable (now line) specifier payload asked)) ⌝ }
-    ensures { λ r. ⌜ Comes (now (table .entry)) state (now (values .entry)) (now (out .entry)) client time r (now (values .exit)) (now (out .exit)) (meaning (now (line .entry)) (part (now (line .entry)) specifier) (part (now (line .entry)) payload) asked) ⌝ }
+    ensures { λ r. ⌜ Comes (now (table .entry)) state (now (values .entry)) (now (out .entry)) client time r (now (values .exit)) (now (out .exit))
+        (meaning (now (line .entry)) (part (now (line .entry)) specifier) (part (now (line .entry)) payload) asked) ⌝ }
 {
     match asked {
         Request::Identify => identify(out, client),

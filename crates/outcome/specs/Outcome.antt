@@ -7,13 +7,13 @@ use mathlib.Core.Path.{_≡_}
 use lib.ListN.{length, getElem?}
 use Rattle.ascii.specs.Writer.{Puts}
 use Rattle.fit.specs.Fit.{isStored}
-use Rattle.table.specs.Table.{Parameter, Table}
+use Rattle.table.specs.Table.{Parameter, Command, Table}
 use Rattle.table.specs.Layout.{tableOf}
-use Rattle.table.specs.Search.{Placed, parameters}
+use Rattle.table.specs.Search.{Placed, parameters, findParameter, findCommand}
 use Rattle.message.specs.Said.{classOf}
 use Rattle.message.specs.Reply.{Reply}
 use Rattle.outbox.specs.Outbox.{Record, final, encodeAll}
-use Rattle.plain.specs.Node.{Node, withClient, Setting, withSettings, isActive, activated}
+use Rattle.plain.specs.Node.{Node, withClient, Setting, withSettings, activated}
 use Rattle.plain.specs.Answer as Plain
 use Rattle.plain.specs.Answer.{refused, carried, outcome}
 use Rattle.message.specs.Request.{Request}
@@ -70,22 +70,32 @@ module _ (w : Table) (n : Node) (c t : ℕ) (before after values stored : List �
   OutcomeIs (Active mask written) o = Activates o mask written
   OutcomeIs (Stored p size written) o = Stores o p size written
 
--- On the table's bytes, handed the state s, the values area and the outbox, the code's outcome r stands for what the plain node makes of a
--- request of client c at the time t.
+-- On the table's bytes, handed the state s, the values area and the outbox, the code's outcome r stands for what f makes of table, node, client c
+-- and time t.
+abbrev pub ComesTo : List ℕ → State → List ℕ → List ℕ → ℕ → ℕ → Outcome → List ℕ → List ℕ → (Table → Node → ℕ → ℕ → Plain.Outcome) → Type 0
+ComesTo table s values before c t r stored after f =
+    OutcomeIs (tableOf table) (view table s values) c t before after values stored r (f (tableOf table) (view table s values) c t)
+
+-- what the plain node makes of a request
 abbrev pub Comes : List ℕ → State → List ℕ → List ℕ → ℕ → ℕ → Outcome → List ℕ → List ℕ → Request → Type 0
-Comes table s values before c t r stored after q =
-    OutcomeIs (tableOf table) (view table s values) c t before after values stored r
-    (outcome (tableOf table) (view table s values) c t q)
+Comes table s values before c t r stored after q = ComesTo table s values before c t r stored after (λ w n c t. outcome w n c t q)
 
 -- the same of a request that neither looks at the values area nor alters it, at any node
 abbrev pub ComesAtAny : List ℕ → List ℕ → ℕ → ℕ → Outcome → List ℕ → Request → Type 0
 ComesAtAny table before c t r after q = (n : Node) (values : List ℕ)
     → OutcomeIs (tableOf table) n c t before after values values r (outcome (tableOf table) n c t q)
 
--- the same of a request that looks at client c's active modules alone
-abbrev pub ComesWith : ℕ → List ℕ → List ℕ → ℕ → ℕ → Outcome → List ℕ → Request → Type 0
-ComesWith mask table before c t r after q = (n : Node) (values : List ℕ) → ((i : ℕ) → isActive (n .clients c) i ≡ bit mask i)
-    → OutcomeIs (tableOf table) n c t before after values values r (outcome (tableOf table) n c t q)
+-- what f makes of the parameter a of the module m
+abbrev pub OfParameter : List ℕ → State → List ℕ → List ℕ → ℕ → ℕ → Outcome → List ℕ → List ℕ → List ℕ → List ℕ
+    → (Table → Node → ℕ → ℕ → ℕ × Placed Parameter → Plain.Outcome) → Type 0
+OfParameter table s values before c t r stored after m a f = (x : ℕ × Placed Parameter) → findParameter (tableOf table) m a ≡ some x
+    → ComesTo table s values before c t r stored after (λ w n c t. f w n c t x)
+
+-- what f makes of the command a of the module m, at any node
+abbrev pub OfCommand : List ℕ → List ℕ → ℕ → ℕ → Outcome → List ℕ → List ℕ → List ℕ
+    → (Table → Node → ℕ → ℕ → ℕ × Placed Command → Plain.Outcome) → Type 0
+OfCommand table before c t r after m a f = (n : Node) (values : List ℕ) (x : ℕ × Placed Command) → findCommand (tableOf table) m a ≡ some x
+    → OutcomeIs (tableOf table) n c t before after values values r (f (tableOf table) n c t x)
 
 -- A line is answered as the plain node has it, o, which sets ss: on the table's bytes, from the settings, the values area and the outbox as
 -- they were.

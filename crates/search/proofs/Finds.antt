@@ -42,10 +42,10 @@ module _ {A : Type 0} where
   drop-past (suc n) (y ∷ l) (suc k) e h = drop-past n l k e (omega arith)
 
 -- what is sought by two names
-abbrev parameterName : Table.Parameter → List ℕ
+abbrev pub parameterName : Table.Parameter → List ℕ
 parameterName p = p .name
 
-abbrev commandName : Table.Command → List ℕ
+abbrev pub commandName : Table.Command → List ℕ
 commandName p = p .name
 
 -- ## A count

@@ -2,3 +2,5 @@ pub mod Lefts
 pub mod Walks
 pub mod Finds
 pub mod Searches
+pub mod Unique
+pub mod Located

@@ -1,12 +1,12 @@
 -- What the code that searches a table answers: numbers and positions. Assumes nothing.
 use Prim.Native.Nat.{ℕ, _+_, _-_, _≤_, _<_}
 use mathlib.Core.Path.{_≡_}
-use mathlib.Core.Bool.{Bool}
+use mathlib.Core.Bool.{Bool, true}
 use mathlib.Core.List.{List, []}
 use mathlib.Core.Option.{none, some}
 use lib.ListN.{length, drop, getElem?}
 use Rattle.ascii.specs.Text.{bytes}
-use Rattle.ascii.specs.Bytes.{same, after}
+use Rattle.ascii.specs.Bytes.{same, after, isSome}
 use Rattle.table.specs.Table.{Module}
 use Rattle.table.specs.Layout.{tableOf}
 use Rattle.table.specs.Search.{first, parametersOf, commandsOf, parameters, commands, findModule, findParameter, findCommand}
@@ -18,6 +18,7 @@ use Rattle.search.specs.declared.cursor.NextParameter as N
 use Rattle.search.specs.declared.find.FoundModule as F
 use Rattle.search.specs.declared.find.FoundParameter as P
 use Rattle.search.specs.declared.find.FoundCommand as C
+use Rattle.search.specs.declared.locate.Located as L
 use Rattle.search.specs.Left.{placed, leftFrom, Fits, HomeIs, OnWay, ParameterIn, CommandIn}
 
 -- whether a module has a name
@@ -73,6 +74,29 @@ pub record CommandFound (s m a : List ℕ) (k h : ℕ) (q : CommandAt) : Type 0 
 abbrev pub FindsCommand : List ℕ → List ℕ → List ℕ → C.FoundCommand → Type 0
 FindsCommand s m a (C.the-variants.At k h q) = CommandFound s m a k h q
 FindsCommand s m a C.the-variants.Nothing = findCommand (tableOf s) m a ≡ none
+
+-- In the module of the name m, which is there, both kinds of accessibles of the name a: there is a parameter, a command, or neither.
+module _ (s m a : List ℕ) where
+  pub record ParameterLocated (k h : ℕ) (q : ParameterAt) : Type 0 where
+    pub home : isSome (findModule (tableOf s) m) ≡ true
+    pub parameter : ParameterFound s m a k h q
+    pub command : findCommand (tableOf s) m a ≡ none
+
+  pub record CommandLocated (k h : ℕ) (q : CommandAt) : Type 0 where
+    pub home : isSome (findModule (tableOf s) m) ≡ true
+    pub parameter : findParameter (tableOf s) m a ≡ none
+    pub command : CommandFound s m a k h q
+
+  pub record NothingLocated : Type 0 where
+    pub home : isSome (findModule (tableOf s) m) ≡ true
+    pub parameter : findParameter (tableOf s) m a ≡ none
+    pub command : findCommand (tableOf s) m a ≡ none
+
+  abbrev pub Locates : L.Located → Type 0
+  Locates L.the-variants.NoModule = findModule (tableOf s) m ≡ none
+  Locates L.the-variants.Nothing = NothingLocated
+  Locates (L.the-variants.Parameter k h q) = ParameterLocated k h q
+  Locates (L.the-variants.Command k h q) = CommandLocated k h q
 
 -- the parameter of the number k, of which q has the positions, and e is the cursor after it
 pub record ParameterNumbered (s : List ℕ) (k : ℕ) (q : ParameterAt) (e : Cursor) : Type 0 where

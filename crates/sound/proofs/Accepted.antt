@@ -101,6 +101,7 @@ commands-good n name e (command c ∷ l) h = ((e, h .0 .0), commands-good n name
 -- ## Accepted tables
 
 pub record Accepted (w : Table) : Type 0 where
+  pub names : namesGood w ≡ true
   pub allModules : Each GoodModule (w .modules)
   pub fewModules : length (w .modules) ≤ 16
   pub allParameters : Each GoodParameter (parameters w)
@@ -148,6 +149,7 @@ accepted-tree w e =
     let ms = good-modules (w .modules) (d .0) (a .1) h5 in
     let between = both (leb 1 (length (w .modules))) (leb (length (w .modules)) 16) (c .0) in
     record {
+      names = h3;
       allModules = ms;
       fewModules = leb-true (length (w .modules)) 16 (between .1);
       allParameters = placed parametersOf GoodParameter parameters-good 0 (w .modules) ms;

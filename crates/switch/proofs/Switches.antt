@@ -1,76 +1,43 @@
--- Laws of requests that alter a client's active modules: the modules that are found, the bits of masks, and the records. Assumes nothing.
-use Prim.Native.Nat.{ℕ, suc, _≤_, _<_}
+-- Laws of requests that alter a client's active modules: the bits of masks, and the records. Assumes nothing.
+use Prim.Native.Nat.{ℕ, _≤_, _<_}
 use native.Mathlib.Omega.{arith}
-use mathlib.Core.Path.{_≡_, refl, sym, ap, subst, fun-ext, _∙_}
-use mathlib.Core.Bool.{Bool, true, false, cond, not, _&&_, _||_}
+use mathlib.Core.Path.{_≡_, refl, sym, ap, fun-ext, _∙_}
+use mathlib.Core.Bool.{Bool, true, false, not, _&&_, _||_}
 use mathlib.Core.List.{List, [], _∷_, _++_}
 use mathlib.Core.Option.{Option, none, some}
 use lib.Dec.{eqb, ltb}
 use lib.ListN.{length, getD}
 use borrow.Author.Tests.{eqb-true, lt-ltb, le-ltb}
-use Rattle.ascii.specs.Names.{isName}
 use Rattle.ascii.specs.Writer.{Puts}
-use Rattle.table.specs.Table.{Parameter, Module, Table}
+use Rattle.table.specs.Table.{Table}
 use Rattle.table.specs.Layout.{tableOf}
-use Rattle.table.specs.Search.{Placed, parameters, findModule}
-use Rattle.table.proofs.Search.{module-there, module-named}
+use Rattle.table.specs.Search.{parameters}
 use Rattle.report.specs.Judge.{tableNumber}
-use Rattle.search.specs.Found.{FindsModule}
-use Rattle.search.specs.declared.find.FoundModule as F
-use Rattle.message.specs.Error.{NoSuchModule}
 use Rattle.message.specs.Request.{activate, deactivate}
 use Rattle.message.specs.Reply.{Reply, active, inactive}
-use Rattle.outbox.specs.Outbox.{Record, final, update, encode, encodeAll}
+use Rattle.outbox.specs.Outbox.{Record, final, encode, encodeAll}
 use Rattle.outbox.specs.Written.{RoomFor}
 use Rattle.outbox.specs.Theorems.{Named}
-use Rattle.plain.specs.Node.{Client, closed, connected, Value, Node, withClient, isActive, activated, reportOf, updatesOf}
-use Rattle.plain.specs.Answer.{refused, carried, found, activates, deactivates, inScope, outcome}
+use Rattle.plain.specs.Node.{Client, closed, connected, Node, withClient, isActive, activated, updatesOf}
+use Rattle.plain.specs.Answer.{carried, activates, deactivates, inScope, outcome}
 use Rattle.sound.specs.Theorems.{ClientHeld, Sound}
-use Rattle.sound.proofs.Lists.{each-at, there-low}
-use Rattle.sound.proofs.Accepted.{GoodModule, accepted}
+use Rattle.sound.proofs.Accepted.{accepted}
 use Rattle.sound.proofs.Records.{says-inactive, written-final}
 use Rattle.sound.proofs.Room.{puts-none, puts-after, room-after}
 use Rattle.sound.proofs.Steps.{comes-activates}
-use Rattle.state.specs.declared.Clients.{Clients}
 use Rattle.state.specs.declared.State.{State}
 use Rattle.state.specs.View.{isSet, bit, clientAt, view}
 use Rattle.state.specs.Fit.{pastLast}
 use Rattle.state.proofs.Becomes.{Sized}
+use Rattle.switch.specs.Scoped.{Scoped}
 use Rattle.state.proofs.Masks.{no-bit, past-last, not-past}
 use Rattle.state.proofs.Stands.{fit-is-sound}
-use Rattle.outcome.specs.Outcome.{Activates, Refuses}
+use Rattle.outcome.specs.Outcome.{Activates}
 use Rattle.outcome.specs.Ready.{Ready}
 
--- ## A module that is found
-
--- the module of a name in an accepted table has the number i
-pub record ModuleFound (table name : List ℕ) (i : ℕ) : Type 0 where
-  pub it : Module
-  pub is : findModule (tableOf table) name ≡ some (i, it)
-  pub low : i < length (tableOf table .modules)
-  pub few : i < 16
-  pub named : isName name ≡ true
-
-module _ (table name : List ℕ) (a : tableNumber table ≡ 0) (r : F.FoundModule) (hr : FindsModule table name r) where
-  pub found-none : r ≡ F.the-variants.Nothing → findModule (tableOf table) name ≡ none
-  found-none z = rw z at hr
-
-  pub found-at : (i p : ℕ) → r ≡ F.the-variants.At i p → ModuleFound table name i
-  found-at i p z =
-      let f = rw z at hr in
-      let w = accepted table a in
-      let there = module-there (tableOf table) name (i, f .it) (f .is) in
-      let low = there-low (tableOf table .modules) i (f .it) there in
-      let k = w .fewModules in
-      record {
-        it = f .it;
-        is = f .is;
-        low = low;
-        few = omega arith;
-        named =
-            subst (λ (m : List ℕ). isName m ≡ true) (module-named (tableOf table) name (i, f .it) (f .is))
-            (each-at GoodModule (tableOf table .modules) (w .allModules) i (f .it) there .0);
-      }
+-- an accepted table has at most 16 modules
+pub few : (table : List ℕ) → tableNumber table ≡ 0 → (i : ℕ) (m : List ℕ) → Scoped (length (tableOf table .modules)) i m → i < 16
+few table a i m f = let k = accepted table a .fewModules in let l = f .low in omega arith
 
 -- ## Room
 
@@ -80,7 +47,7 @@ inactive-room d c m e h =
     room-after [] (final c (inactive m)) d d 0 (puts-none d) (omega arith) h
 
 -- what a client of a state has active
-open-bits : (table : List ℕ) (s : State) (values : List ℕ) (c : ℕ) → isSet (s .clients .open) c ≡ true
+pub open-bits : (table : List ℕ) (s : State) (values : List ℕ) (c : ℕ) → isSet (s .clients .open) c ≡ true
     → (j : ℕ) → isActive (view table s values .clients c) j ≡ bit (getD (s .clients .active) c 0) j
 unfolding view clientAt isActive
 open-bits table s values c e j = rw e
@@ -91,16 +58,6 @@ held-low w closed h j l = refl
 held-low w (connected m a) h j l = h .1 j l
 
 -- ## Outcomes
-
--- no module has the name
-module _ (w : Table) (n : Node) (c t : ℕ) (before values name : List ℕ) (e : findModule w name ≡ none) where
-  pub none-active : Refuses w n c t before before values values (outcome w n c t (activate (some name))) (refused NoSuchModule)
-  unfolding outcome inScope found
-  none-active = record { is = rw e; quiet = refl; area = refl }
-
-  pub none-inactive : Refuses w n c t before before values values (outcome w n c t (deactivate (some name))) (refused NoSuchModule)
-  unfolding outcome inScope found
-  none-inactive = record { is = rw e; quiet = refl; area = refl }
 
 and-none : (b : Bool) → b && false ≡ false
 and-none true = refl
@@ -149,18 +106,16 @@ module _ (w : Table) (n : Node) (c t : ℕ) (before after values : List ℕ) whe
       (puts-after [] (final c (inactive none)) before before 0 (puts-none before) after written p)
 
   pub one-inactive :
-      (name : List ℕ) (i : ℕ) (m : Module) → findModule w name ≡ some (i, m)
-      → (mask : ℕ) → pastLast mask (length (w .modules)) ≡ false → ((j : ℕ) → isActive (n .clients c) j ≡ bit mask j)
+      (name : List ℕ) (i mask : ℕ) → pastLast mask (length (w .modules)) ≡ false → ((j : ℕ) → isActive (n .clients c) j ≡ bit mask j)
       → (next : ℕ) → ((j : ℕ) → bit next j ≡ bit mask j && not (eqb j i))
       → (written : ℕ) → Puts before 0 (encode (final c (inactive (some name)))) after written
-      → Activates w n c t before after values values (outcome w n c t (deactivate (some name))) next written
-  unfolding outcome inScope found deactivates
-  one-inactive name i m e mask low h next k written p =
-      rw e
-      (switched (λ j. isActive (n .clients c) j && not (eqb j i)) [] (inactive (some name)) next written
+      → Activates w n c t before after values values (deactivates w n c t (λ j. eqb j i) (some name)) next written
+  unfolding deactivates
+  one-inactive name i mask low h next k written p =
+      switched (λ j. isActive (n .clients c) j && not (eqb j i)) [] (inactive (some name)) next written
       (λ j. k j ∙ ap (λ (b : Bool). b && not (eqb j i)) (sym (h j)))
       (λ j l. ap (λ (b : Bool). b && not (eqb j i)) (h j ∙ not-past mask (length (w .modules)) low j l))
-      (puts-after [] (final c (inactive (some name))) before before 0 (puts-none before) after written p))
+      (puts-after [] (final c (inactive (some name))) before before 0 (puts-none before) after written p)
 
   -- the modules of a scope too
   module _ (s : Sound w n) (mask : ℕ) (h : (j : ℕ) → isActive (n .clients c) j ≡ bit mask j) (mid : List ℕ) (p written : ℕ) where
@@ -188,14 +143,13 @@ module _ (w : Table) (n : Node) (c t : ℕ) (before after values : List ℕ) whe
         more-active (λ i. true) none next (λ j. k j ∙ ap (λ (b : Bool). bit mask j || b) (sym (and-true (ltb j (length (w .modules)))))) x y
 
     one-active :
-        (name : List ℕ) (i : ℕ) (m : Module) → findModule w name ≡ some (i, m) → i < length (w .modules)
+        (name : List ℕ) (i : ℕ) → i < length (w .modules)
         → (next : ℕ) → ((j : ℕ) → bit next j ≡ bit mask j || eqb j i)
         → Puts before 0 (encodeAll (updatesOf c (λ j. eqb j i) (n .values) 0 (parameters w))) mid p
         → Puts mid p (encode (final c (active (some name)))) after written
-        → Activates w n c t before after values values (outcome w n c t (activate (some name))) next written
-    unfolding outcome inScope found
-    one-active name i m e low next k x y =
-        rw e (more-active (λ j. eqb j i) (some name) next (λ j. k j ∙ ap (λ (b : Bool). bit mask j || b) (sym (low-only j i (length (w .modules)) low))) x y)
+        → Activates w n c t before after values values (activates w n c t (λ j. eqb j i) (some name)) next written
+    one-active name i low next k x y =
+        more-active (λ j. eqb j i) (some name) next (λ j. k j ∙ ap (λ (b : Bool). bit mask j || b) (sym (low-only j i (length (w .modules)) low))) x y
 
 -- ## An activate, at a state that is fit
 
@@ -231,11 +185,10 @@ module _ (table : List ℕ) (s : State) (z : Sized (s .clients)) (values out : L
         (λ j. h j ∙ ap (λ (m : ℕ). bit (getD (s .clients .active) c 0) j || ltb j m) f)
 
     pub activated-one :
-        (name : List ℕ) (i : ℕ) → ModuleFound table name i
+        (name : List ℕ) (i : ℕ) → i < length (w .modules)
         → ((j : ℕ) → bit next j ≡ bit (getD (s .clients .active) c 0) j || eqb j i)
         → Puts out 0 (encodeAll (updatesOf c (λ j. eqb j i) (n .values) 0 (parameters w))) mid p
         → Puts mid p (encode (final c (active (some name)))) after written
-        → Activates w n c t out after values values (outcome w n c t (activate (some name))) next written
-    activated-one name i f h =
-        one-active w n c t out after values sound (getD (s .clients .active) c 0) (open-bits table s values c (r .isOpen)) mid p written
-        name i (f .it) (f .is) (f .low) next h
+        → Activates w n c t out after values values (activates w n c t (λ j. eqb j i) (some name)) next written
+    activated-one name i low h =
+        one-active w n c t out after values sound (getD (s .clients .active) c 0) (open-bits table s values c (r .isOpen)) mid p written name i low next h

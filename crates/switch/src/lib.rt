@@ -4,19 +4,22 @@ ghost use mathlib.Core.Bool.{false};
 ghost use mathlib.Core.Option.{none, some};
 ghost use mathlib.Core.List.{List};
 ghost use Prim.Native.Nat.{ℕ, _≤_};
+ghost use lib.Dec.{eqb};
 ghost use lib.ListN.{length};
+ghost use Rattle.table.specs.Table.{Table};
 ghost use Rattle.table.specs.Layout.{tableOf};
 ghost use Rattle.message.specs.Request as Request;
+ghost use Rattle.plain.specs.Node.{Node, isActive};
+ghost use Rattle.plain.specs.Answer.{activates, deactivates};
+ghost use Rattle.state.specs.View.{bit};
 ghost use Rattle.state.specs.Fit.{pastLast};
-ghost use Rattle.outcome.specs.Ready.{Lent, Ready};
-ghost use Rattle.outcome.specs.Outcome.{Comes, ComesAtAny, ComesWith};
-use message::say::Class;
+ghost use Rattle.outcome.specs.Ready.{Ready};
+ghost use Rattle.outcome.specs.Outcome.{OutcomeIs, ComesTo, Comes, ComesAtAny};
+ghost use Rattle.switch.specs.Scoped.{Scoped};
 use outbox::write::Switched;
 use outbox::write::put_final_switched;
 use outbox::write::put_final_switched_name;
 use outcome::Outcome;
-use search::find::FoundModule;
-use search::find::find_module;
 use search::find::module_count;
 use state::State;
 use state::bits::with_bit;
@@ -34,7 +37,8 @@ pub fn activate_all<'a>(
     client: u8,
 ) -> Outcome
     requires { ⌜ Ready (now table) state (now values) (now out) client ⌝ }
-    ensures { λ r. ⌜ ((t : ℕ) → Comes (now (table .entry)) state (now (values .entry)) (now (out .entry)) client t r (now (values .entry)) (now (out .exit)) (Request.activate none)) ⌝ }
+    ensures { λ r. ⌜ ((t : ℕ) → Comes (now (table .entry)) state (now (values .entry)) (now (out .entry)) client t r (now (values .entry))
+        (now (out .exit)) (Request.activate none)) ⌝ }
 {
     let clients = state.clients;
     let active = clients.active;
@@ -45,21 +49,20 @@ pub fn activate_all<'a>(
     Outcome::Active(all, end)
 }
 
-// The same for the module of a name, which has to be there.
+// The same for the module of number `i`, told by its name.
 pub fn activate<'a>(
     table: &'a [u8],
     values: &'a [u8],
     out: &mut [u8],
     state: State,
     client: u8,
+    i: usize,
     module: &[u8],
 ) -> Outcome
-    requires { ⌜ Ready (now table) state (now values) (now out) client ⌝ }
-    ensures { λ r. ⌜ ((t : ℕ) → Comes (now (table .entry)) state (now (values .entry)) (now (out .entry)) client t r (now (values .entry)) (now (out .exit)) (Request.activate (some (now («module» .entry))))) ⌝ }
+    requires { ⌜ Ready (now table) state (now values) (now out) client × Scoped (length (tableOf (now table) .modules)) i (now «module») ⌝ }
+    ensures { λ r. ⌜ ((t : ℕ) → ComesTo (now (table .entry)) state (now (values .entry)) (now (out .entry)) client t r (now (values .entry))
+        (now (out .exit)) (λ w n c t. activates w n c t (λ j. eqb j i) (some (now («module» .entry))))) ⌝ }
 {
-    let FoundModule::At(i, _) = find_module(table, module) else {
-        return Outcome::Refused(Class::NoSuchModule);
-    };
     let clients = state.clients;
     let active = clients.active;
     let mask = active[client as usize];
@@ -78,14 +81,13 @@ pub fn deactivate_all(out: &mut [u8], client: u8) -> Outcome
     Outcome::Active(0, end)
 }
 
-// The same for the module of a name; `mask` has the client's active modules, and the others stay active.
-pub fn deactivate(table: &[u8], out: &mut [u8], client: u8, mask: u16, module: &[u8]) -> Outcome
-    requires { ⌜ Lent (now table) (now out) client × (pastLast mask (length (tableOf (now table) .modules)) ≡ false) ⌝ }
-    ensures { λ r. ⌜ ((t : ℕ) → ComesWith mask (now (table .entry)) (now (out .entry)) client t r (now (out .exit)) (Request.deactivate (some (now («module» .entry))))) ⌝ }
+// The same for the module of number `i`, told by its name; `mask` has the client's active modules, and the others stay active.
+pub fn deactivate(out: &mut [u8], client: u8, mask: u16, i: usize, module: &[u8]) -> Outcome
+    requires { ⌜ (32768 ≤ length (now out)) × Scoped 16 i (now «module») ⌝ }
+    ensures { λ r. ⌜ ((w : Table) (n : Node) (t : ℕ) (values : List ℕ) → pastLast mask (length (w .modules)) ≡ false
+        → ((j : ℕ) → isActive (n .clients client) j ≡ bit mask j) → OutcomeIs w n client t (now (out .entry)) (now (out .exit)) values values r
+        (deactivates w n client t (λ j. eqb j i) (some (now («module» .entry))))) ⌝ }
 {
-    let FoundModule::At(i, _) = find_module(table, module) else {
-        return Outcome::Refused(Class::NoSuchModule);
-    };
     let fewer = without_bit(mask, i);
     let end = put_final_switched_name(out, 0, client, Switched::Inactive, module);
     Outcome::Active(fewer, end)

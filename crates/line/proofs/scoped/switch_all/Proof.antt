@@ -1,7 +1,7 @@
--- `line::request::switch_all` meets its contract. Assumes nothing.
+-- `line::scoped::switch_all` meets its contract. Assumes nothing.
 use borrow.Author.Needs.{needs}
-use Rattle.line.proofs.request.switch_all.Statement.{statement}
-use Rattle.line.proofs.request.switch_all.Tie as tie
+use Rattle.line.proofs.scoped.switch_all.Statement.{statement}
+use Rattle.line.proofs.scoped.switch_all.Tie as tie
 
 enum-told : tie.Need-enum-told
 enum-told c = search needs
