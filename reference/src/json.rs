@@ -47,6 +47,13 @@ pub fn read(text: &[u8]) -> Option<Json> {
 }
 
 impl Json {
+    /// A whole number in decimal.
+    pub fn whole(number: i32) -> Json {
+        Json::Number(Number {
+            token: number.to_string().into_bytes(),
+        })
+    }
+
     /// The value's text without spaces outside strings.
     pub fn stored_form(&self) -> Vec<u8> {
         match self {

@@ -29,13 +29,15 @@ enum Verdict {
     WrongType,
 }
 
-/// Judges a text for a datainfo; the answer is its stored form.
+/// Judges a text for a datainfo; the answer is its stored form. That has the
+/// numbers of enum members in the place of their names, and its length is
+/// what counts.
 pub fn judge(datainfo: &Datainfo, text: &[u8]) -> Result<Vec<u8>, ValueFault> {
     let value = json::read(text).ok_or(ValueFault::BadJson)?;
     match verdict(datainfo, &value) {
         Verdict::WrongType => Err(ValueFault::WrongType),
         Verdict::OutOfRange => Err(ValueFault::RangeError),
-        Verdict::Fits => Some(value.stored_form())
+        Verdict::Fits => Some(numbered(datainfo, value).stored_form())
             .filter(|stored| stored.len() <= MAX_STORED)
             .ok_or(ValueFault::RangeError),
     }
@@ -50,7 +52,8 @@ pub fn judge_no_argument(text: &[u8]) -> Result<(), ValueFault> {
     }
 }
 
-/// Whether a text fits and is already in stored form, as initial values are.
+/// Whether a text fits and is already in stored form, as initial values are:
+/// with numbers alone for the members of enums.
 pub fn is_stored_form(datainfo: &Datainfo, text: &[u8]) -> bool {
     judge(datainfo, text).is_ok_and(|stored| stored == text)
 }
@@ -72,6 +75,9 @@ fn verdict(datainfo: &Datainfo, value: &Json) -> Verdict {
                     .iter()
                     .any(|(_, member)| value == whole(i64::from(*member)))
             })
+        }
+        (Datainfo::Enum(members), Json::String(text)) => {
+            in_range(number_named(members, &text.raw).is_some())
         }
         (Datainfo::String { minchars, maxchars }, Json::String(text)) => {
             string_verdict(text, *minchars, *maxchars)
@@ -152,4 +158,45 @@ fn member_verdict(name: &[u8], member: &Datainfo, sent: &[(Text, Json)]) -> Verd
     sent.iter()
         .find(|(key, _)| key.raw == name)
         .map_or(Verdict::WrongType, |(_, value)| verdict(member, value))
+}
+
+/// The number of the enum member with this name, raw byte by raw byte. No name
+/// has a backslash, so an escape names nobody.
+fn number_named(members: &[(Vec<u8>, i32)], name: &[u8]) -> Option<i32> {
+    members
+        .iter()
+        .find(|(member, _)| member == name)
+        .map(|(_, number)| *number)
+}
+
+/// A fitting value with the member's number in the place of each enum member's
+/// name, at any depth. Keys, and strings where no enum is asked for, are no
+/// such names.
+fn numbered(datainfo: &Datainfo, value: Json) -> Json {
+    match (datainfo, value) {
+        (Datainfo::Enum(members), Json::String(text)) => {
+            let number = number_named(members, &text.raw);
+            number.map_or(Json::String(text), Json::whole)
+        }
+        (Datainfo::Array { members, .. }, Json::Array(elements)) => {
+            let elements = elements.into_iter();
+            Json::Array(elements.map(|one| numbered(members, one)).collect())
+        }
+        (Datainfo::Tuple(members), Json::Array(elements)) => {
+            let pairs = members.iter().zip(elements);
+            Json::Array(pairs.map(|(member, one)| numbered(member, one)).collect())
+        }
+        (Datainfo::Struct(members), Json::Object(sent)) => {
+            let sent = sent.into_iter();
+            Json::Object(sent.map(|one| numbered_member(members, one)).collect())
+        }
+        (_, value) => value,
+    }
+}
+
+fn numbered_member(members: &[(Vec<u8>, Datainfo)], (key, value): (Text, Json)) -> (Text, Json) {
+    match members.iter().find(|(name, _)| *name == key.raw) {
+        Some((_, member)) => (key, numbered(member, value)),
+        None => (key, value),
+    }
 }

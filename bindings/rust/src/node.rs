@@ -30,7 +30,8 @@ pub struct Taken<'a> {
 /// The value that a parameter shows.
 #[derive(Clone, Copy, Debug, PartialEq, Eq)]
 pub struct Value<'a> {
-    /// In stored form: JSON without spaces outside strings.
+    /// In stored form: JSON without spaces outside strings, an enum's members
+    /// by their numbers.
     pub text: &'a [u8],
     pub time: u64,
     /// Whether it was ever set; until then it is the table's initial value.

@@ -28,7 +28,7 @@ use Rattle.search.specs.Left.{placed}
 use Rattle.plain.specs.Node.{Setting, withSettings, clientNumbers, updatesTo}
 use Rattle.plain.specs.Calls.{Reading, Effect, readingEffect, effect}
 use Rattle.sound.proofs.Lists.{each-at}
-use Rattle.sound.proofs.Accepted.{GoodParameter, accepted}
+use Rattle.sound.proofs.Accepted.{GoodParameter, accepted, datainfos-in-table}
 use Rattle.sound.proofs.Records.{Fine, name-short, written-to}
 use Rattle.state.specs.declared.Settings.{Settings}
 use Rattle.state.specs.declared.State.{State}
@@ -115,7 +115,7 @@ module _ (table : List ℕ) (s : State) (values outbox : List ℕ) (k t : ℕ) (
 
     is-stored : isStored (it .it .datainfo) form ≡ true
     unfolding parameterOf
-    is-stored = stored (g .found .held .datainfo) bs (g .fits)
+    is-stored = stored (g .found .held .datainfo) bs (datainfos-in-table .ofParameters table (g .accepted) k it there) (g .fits)
 
     fit : (settingsUnfit (s .settings) values 0 (parameters w) ≡ false) × (any (clientUnfit (length (w .modules)) (s .clients)) clientNumbers ≡ false)
     fit = fit-parts w s values (g .fit)

@@ -97,7 +97,7 @@ module _ (s : List ℕ) (st : State) (values out : List ℕ) (c t : ℕ) (g : Re
           text = storedForm (p .it .it .datainfo) xs;
           parameter = p .it;
           there = p .there;
-          fits = stored (p .it .it .datainfo) xs fits-it;
+          fits = stored (p .it .it .datainfo) xs (p .inTable) fits-it;
           long = refl;
           carries =
               record {

@@ -9,6 +9,7 @@ use lib.ListN.{length, take, drop, getElem?, length-drop}
 use lib.Seq.{length-take-le}
 use Rattle.ascii.specs.Names.{isName}
 use Rattle.datainfo.specs.Layout.{datainfoAt, ReadableAt}
+use Rattle.form.specs.Theorems.{InTable}
 use Rattle.table.specs.Table.{Parameter, Command}
 use Rattle.table.specs.Layout.{argumentAt, tableOf}
 use Rattle.table.specs.Search.{Placed, parameters, commands, findParameter, findCommand}
@@ -20,7 +21,7 @@ use Rattle.table.proofs.Search.{parameter-there, parameter-named, command-there
 use Rattle.report.specs.Judge.{tableNumber}
 use Rattle.search.specs.Found.{ParameterFound, CommandFound}
 use Rattle.sound.proofs.Lists.{each-at, there-low}
-use Rattle.sound.proofs.Accepted.{GoodParameter, GoodCommand, accepted}
+use Rattle.sound.proofs.Accepted.{GoodParameter, GoodCommand, accepted, datainfos-in-table}
 
 -- ## Commands
 
@@ -86,6 +87,7 @@ pub record ParameterKnown (s m a : List ℕ) (k h : ℕ) (q : ParameterAt) : Typ
   pub readonly : it .it .readonly ≡ q .readonly
   pub left : List ℕ
   pub info : datainfoAt (drop (q .info) s) ≡ some (it .it .datainfo, left)
+  pub inTable : InTable (it .it .datainfo)
   pub within : q .info ≤ length s
   pub inside : Inside s (q .initial)
   pub initial : take (length (it .it .initial)) (drop (it .it .place) s) ≡ bytesOf s (q .initial)
@@ -127,6 +129,7 @@ module _ (s : List ℕ) (e : tableNumber s ≡ 0) (m a : List ℕ) (k h : ℕ) (
         goodModule = names .0;
         goodName = subst (λ (x : List ℕ). isName x ≡ true) (named .1) (names .1);
         readonly = refl;
+        inTable = datainfos-in-table .ofParameters s e k it there;
         left = g .held .left;
         info = g .held .info;
         within = g .held .infoWithin;

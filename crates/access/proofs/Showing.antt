@@ -23,7 +23,7 @@ use Rattle.sound.proofs.Steps.{comes-reads}
 use Rattle.state.specs.declared.State.{State}
 use Rattle.state.specs.View.{shown, shownBytes, valueAt, view}
 use Rattle.state.specs.Fit.{settingsUnfit, isUnfit}
-use Rattle.state.proofs.Flags.{neither}
+use Rattle.ascii.proofs.Lists.{neither}
 use Rattle.state.proofs.Settled.{each-fit, fit-parts}
 use Rattle.state.proofs.Stands.{value-held}
 use Rattle.outcome.specs.Ready.{Ready}

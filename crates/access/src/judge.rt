@@ -5,7 +5,7 @@ ghost use Rattle.datainfo.specs.Layout.{datainfoAt, ReadableAt};
 ghost use Rattle.fit.specs.Verdict.{meaning};
 ghost use Rattle.access.specs.Judged.{Lets, JudgesChange};
 use fit::Verdict;
-use fit::fit::verdict;
+use form::verdict;
 use message::say::Class;
 use table::layout::ParameterAt;
 

@@ -1,7 +1,7 @@
 -- What it says that tests pass: two tests, the test of two lists for being the same, and a test of every element of a list; and how lists laid end
 -- to end are parted again at the first element that fails. Assumes nothing.
 use Prim.Native.Nat.{ℕ}
-use mathlib.Core.Bool.{Bool, true, false, not, _&&_, true≢false, false≢true, and-assoc, and-eq-true-iff}
+use mathlib.Core.Bool.{Bool, true, false, not, _&&_, _||_, true≢false, false≢true, and-assoc, and-eq-true-iff}
 use mathlib.Core.List.{List, [], _∷_, _++_}
 use mathlib.Core.Path.{_≡_, refl, sym, _∙_, ap, ap₂}
 use lib.Dec.{eqb}
@@ -11,6 +11,16 @@ use Rattle.ascii.specs.Bytes.{all, takeWhile, dropWhile, head, tail, sam
 -- both of two tests
 pub both : (a b : Bool) → a && b ≡ true → (a ≡ true) × (b ≡ true)
 both a b = and-eq-true-iff a b .0
+
+-- ## One test or the other
+
+pub or-true : (a : Bool) → a || true ≡ true
+or-true true = refl
+or-true false = refl
+
+pub neither : (a b : Bool) → a || b ≡ false → (a ≡ false) × (b ≡ false)
+neither true b e = absurd (true≢false e)
+neither false b e = (refl, e)
 
 -- ## The same bytes
 
@@ -27,6 +37,13 @@ same-is (x ∷ xs) [] e = absurd (false≢true e)
 same-is (x ∷ xs) (y ∷ ys) e =
     let h = both (eqb x y) (same xs ys) e in
     ap₂ _∷_ (eqb-true x y (h .0)) (same-is xs ys (h .1))
+
+pub same-other : (xs ys : List ℕ) → same xs ys ≡ false → same ys xs ≡ false
+same-other xs ys e = go (same ys xs) refl
+  where
+    go : (b : Bool) → same ys xs ≡ b → b ≡ false
+    go true q = absurd (true≢false (sym (same-self xs) ∙ rw (same-is ys xs q) at e))
+    go false q = refl
 
 -- ## Lists of which every element passes a test
 

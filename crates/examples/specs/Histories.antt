@@ -53,7 +53,7 @@ history-3 =
           ∷ withOutbox (Piece 3 (bytes "activate\n") 9999999999999) 16384 32768
           ∷ withOutbox (Piece 0 (bytes "activate\n") 1505396350797) 20000 32768
           ∷ withOutbox (Piece 0 (bytes "change t1:pid {\"p\":7,\"q\":false}\n") 1505396352060) 16385 40000
-          ∷ withOutbox (Piece 3 (bytes "change mf:mode 0\n") 1505396354739) 16385 32768
+          ∷ withOutbox (Piece 3 (bytes "change mf:mode \"off\"\n") 1505396352608) 16384 40000
           ∷ [];
       due =
           record { number = 0; used = 0; written = bytes "" }
@@ -61,7 +61,7 @@ history-3 =
           ∷ record { number = 0; used = 9; written = bytes "UP\u{3}\06update t1:pid [{\"p\":1,\"q\":true},{\"t\":9999999999.999}]\nUP\u{3}\0,update mf:label [\"ok\",{\"t\":9999999999.999}]\nUP\u{3}\0/update mf:pair [[true,1],{\"t\":9999999999.999}]\nUP\u{3}\0(update mf:mode [0,{\"t\":9999999999.999}]\nRP\u{3}\0\u{7}active\n" }
           ∷ record { number = 0; used = 9; written = bytes "UP\0\06update t1:pid [{\"p\":1,\"q\":true},{\"t\":9999999999.999}]\nUP\0\0,update mf:label [\"ok\",{\"t\":9999999999.999}]\nUP\0\0/update mf:pair [[true,1],{\"t\":9999999999.999}]\nUP\0\0(update mf:mode [0,{\"t\":9999999999.999}]\nRP\0\0\u{7}active\n" }
           ∷ record { number = 0; used = 32; written = bytes "DR\0\0\u{12}\0{\"p\":7,\"q\":false}UP\0\07update t1:pid [{\"p\":7,\"q\":false},{\"t\":1505396352.060}]\nUP\u{3}\07update t1:pid [{\"p\":7,\"q\":false},{\"t\":1505396352.060}]\nRP\0\08changed t1:pid [{\"p\":7,\"q\":false},{\"t\":1505396352.060}]\n" }
-          ∷ record { number = 0; used = 17; written = bytes "DR\u{3}\0\u{2}\u{3}0UP\0\0(update mf:mode [0,{\"t\":1505396354.739}]\nUP\u{3}\0(update mf:mode [0,{\"t\":1505396354.739}]\nRP\u{3}\0)changed mf:mode [0,{\"t\":1505396354.739}]\n" }
+          ∷ record { number = 0; used = 21; written = bytes "DR\u{3}\0\u{2}\u{3}0UP\0\0(update mf:mode [0,{\"t\":1505396352.608}]\nUP\u{3}\0(update mf:mode [0,{\"t\":1505396352.608}]\nRP\u{3}\0)changed mf:mode [0,{\"t\":1505396352.608}]\n" }
           ∷ [];
     }
 
@@ -77,14 +77,14 @@ history-4 =
           ∷ withOutbox (Piece 0 (bytes "change t1:mode \"123456789\"\n") 3415) 16384 32768
           ∷ withOutbox (Piece 0 (bytes "change t1:mode 3e2\n") 5964) 16384 32769
           ∷ withOutbox (Piece 0 (bytes "change t1:mode [1,2,3]\n") 6870) 16384 32768
-          ∷ withOutbox (Piece 0 (bytes "change t1:mode  0\n") 9339) 16384 32769
+          ∷ withOutbox (Piece 0 (bytes "change t1:mode \"off\" \n") 9601) 20000 32768
           ∷ [];
       due =
           record { number = 0; used = 0; written = bytes "" }
-          ∷ record { number = 0; used = 27; written = bytes "RP\0\0Aerror_change t1:mode [\"WrongType\",\"value has the wrong type\",{}]\n" }
+          ∷ record { number = 0; used = 27; written = bytes "RP\0\0?error_change t1:mode [\"RangeError\",\"value is out of range\",{}]\n" }
           ∷ record { number = 0; used = 19; written = bytes "RP\0\0Aerror_change t1:mode [\"WrongType\",\"value has the wrong type\",{}]\n" }
           ∷ record { number = 0; used = 23; written = bytes "RP\0\0Aerror_change t1:mode [\"WrongType\",\"value has the wrong type\",{}]\n" }
-          ∷ record { number = 0; used = 18; written = bytes "DR\0\0\u{2}\00RP\0\0 changed t1:mode [0,{\"t\":9.339}]\n" }
+          ∷ record { number = 0; used = 22; written = bytes "DR\0\0\u{2}\00RP\0\0 changed t1:mode [0,{\"t\":9.601}]\n" }
           ∷ [];
     }
 
@@ -259,14 +259,14 @@ history-12 =
       calls =
           withArea (Open 0 1000) 16384
           ∷ withOutbox (Piece 0 (bytes "change mf:target -0.0000E+0\n") 1699) 16384 32769
-          ∷ withOutbox (Piece 0 (bytes "change mf:label \"\\x;\"\n") 2801) 16385 32769
-          ∷ withOutbox (Piece 0 (bytes "read mf:target\n") 3436) 16384 32769
+          ∷ withOutbox (Piece 0 (bytes "change mf:label \"\\x;\"\n") 2615) 16385 32768
+          ∷ withOutbox (Piece 0 (bytes "read mf:pair\n") 4533) 16385 32768
           ∷ [];
       due =
           record { number = 0; used = 0; written = bytes "" }
           ∷ record { number = 0; used = 28; written = bytes "DR\0\0\u{b}\u{2}-0.0000E+0RP\0\0+changed mf:target [-0.0000E+0,{\"t\":1.699}]\n" }
           ∷ record { number = 0; used = 22; written = bytes "RP\0\08error_change mf:label [\"BadJSON\",\"data is not JSON\",{}]\n" }
-          ∷ record { number = 0; used = 15; written = bytes "RP\0\0)reply mf:target [-0.0000E+0,{\"t\":1.699}]\n" }
+          ∷ record { number = 0; used = 13; written = bytes "RP\0\0%reply mf:pair [[true,1],{\"t\":0.000}]\n" }
           ∷ [];
     }
 
@@ -305,7 +305,7 @@ history-14 =
           ∷ withOutbox (Piece 0 (bytes "activate t1\n") 4294) 16384 32769
           ∷ withOutbox (Reading 2 (bytes "{\"q\":true,\"p\":-0}") 7146) 16384 32768
           ∷ withOutbox (Piece 0 (bytes "read mf:pid\n") 9232) 20000 32768
-          ∷ withOutbox (Reading 2 (bytes "{\"p\":6,\"q\":false}") 10708) 20000 32768
+          ∷ withOutbox (Reading 2 (bytes "{\"p\":9,\"q\":false}") 9392) 16384 32768
           ∷ [];
       due =
           record { number = 0; used = 0; written = bytes "" }
@@ -374,7 +374,7 @@ history-17 =
           ∷ withOutbox (Piece 0 (bytes "activate\n") 1449) 16384 32769
           ∷ withOutbox (Reading 2 (bytes "[false,0]") 3892) 16384 32769
           ∷ withOutbox (Piece 0 (bytes "read t1:pair\n") 5473) 16384 32768
-          ∷ withOutbox (Reading 2 (bytes "[false]") 775) 20000 32768
+          ∷ withOutbox (Reading 2 (bytes "[false]") 6634) 16384 32768
           ∷ [];
       due =
           record { number = 0; used = 0; written = bytes "" }
@@ -418,14 +418,14 @@ history-19 =
           ∷ withOutbox (Piece 0 (bytes "change mf:pid [true]\n") 1505396351805) 20000 32768
           ∷ withOutbox (Piece 0 (bytes "change mf:pid [1,true\n") 1505396353399) 20000 32768
           ∷ withOutbox (Piece 0 (bytes "change mf:pid {\"p\":1}\n") 1505396355659) 16384 40000
-          ∷ withOutbox (Piece 0 (bytes "change mf:target  0.0000000001e0\n") 967) 16384 32768
+          ∷ withOutbox (Piece 0 (bytes "change mf:target 0.0000000001e0\n") 1505396356280) 16384 40000
           ∷ [];
       due =
           record { number = 0; used = 0; written = bytes "" }
           ∷ record { number = 0; used = 21; written = bytes "RP\0\0@error_change mf:pid [\"WrongType\",\"value has the wrong type\",{}]\n" }
           ∷ record { number = 0; used = 22; written = bytes "RP\0\06error_change mf:pid [\"BadJSON\",\"data is not JSON\",{}]\n" }
           ∷ record { number = 0; used = 22; written = bytes "RP\0\0@error_change mf:pid [\"WrongType\",\"value has the wrong type\",{}]\n" }
-          ∷ record { number = 0; used = 33; written = bytes "DR\0\0\u{f}\u{2}0.0000000001e0RP\0\0/changed mf:target [0.0000000001e0,{\"t\":0.967}]\n" }
+          ∷ record { number = 0; used = 32; written = bytes "DR\0\0\u{f}\u{2}0.0000000001e0RP\0\08changed mf:target [0.0000000001e0,{\"t\":1505396356.280}]\n" }
           ∷ [];
     }
 
@@ -764,6 +764,87 @@ history-33 =
 unfoldable pub history-34 : History
 history-34 =
     record {
+      table = bytes "ND\u{1}s\0MO\u{2}t1\0PA\u{1}m\0\0\u{4}\u{2}\u{3}off\0\0\0\0\u{2}onÿÿÿö\0\u{1}0CM\u{2}go\0\u{1}\u{4}\u{2}\u{3}off\0\0\0\0\u{2}onÿÿÿöEN";
+      area = 16384;
+      time = 1000;
+      start = 0;
+      calls =
+          withArea (Open 0 2000) 16384
+          ∷ withOutbox (Piece 0 (bytes "activate\n") 3000) 16384 32768
+          ∷ withOutbox (Piece 0 (bytes "change t1:m \"on\"\n") 4000) 16384 32768
+          ∷ withOutbox (Piece 0 (bytes "change t1:m \"On\"\n") 5000) 16384 32768
+          ∷ withOutbox (Piece 0 (bytes "change t1:m \"\\u006fn\"\n") 6000) 16384 32768
+          ∷ withOutbox (Piece 0 (bytes "change t1:m true\n") 7000) 16384 32768
+          ∷ withOutbox (Piece 0 (bytes "do t1:go  \"on\" \n") 8000) 16384 32768
+          ∷ withOutbox (Reading 0 (bytes "\"off\"") 9000) 16384 32768
+          ∷ withOutbox (Reading 0 (bytes "\"\"") 10000) 16384 32768
+          ∷ withOutbox (Piece 0 (bytes "read t1:m\n") 11000) 16384 32768
+          ∷ [];
+      due =
+          record { number = 0; used = 0; written = bytes "" }
+          ∷ record { number = 0; used = 9; written = bytes "UP\0\0\u{1c}update t1:m [0,{\"t\":1.000}]\nRP\0\0\u{7}active\n" }
+          ∷ record { number = 0; used = 17; written = bytes "DR\0\0\u{4}\0-10UP\0\0\u{1e}update t1:m [-10,{\"t\":4.000}]\nRP\0\0\u{1f}changed t1:m [-10,{\"t\":4.000}]\n" }
+          ∷ record { number = 0; used = 17; written = bytes "RP\0\0<error_change t1:m [\"RangeError\",\"value is out of range\",{}]\n" }
+          ∷ record { number = 0; used = 22; written = bytes "RP\0\0<error_change t1:m [\"RangeError\",\"value is out of range\",{}]\n" }
+          ∷ record { number = 0; used = 17; written = bytes "RP\0\0>error_change t1:m [\"WrongType\",\"value has the wrong type\",{}]\n" }
+          ∷ record { number = 0; used = 16; written = bytes "DC\0\0\u{4}\0-10RP\0\0\u{1e}done t1:go [null,{\"t\":8.000}]\n" }
+          ∷ record { number = 0; used = 0; written = bytes "UP\0\0\u{1c}update t1:m [0,{\"t\":9.000}]\n" }
+          ∷ record { number = 15; used = 0; written = bytes "" }
+          ∷ record { number = 0; used = 10; written = bytes "RP\0\0\u{1b}reply t1:m [0,{\"t\":9.000}]\n" }
+          ∷ [];
+    }
+
+unfoldable pub history-35 : History
+history-35 =
+    record {
+      table = bytes "ND\u{1}s\0MO\u{2}t1\0PA\u{1}s\0\0\u{8}\u{2}\u{2}on\u{5}\0\0\0\t\u{1}l\u{6}\0\0\0\u{2}\u{4}\u{1}\u{2}on\0\0\0\u{1}\0\u{10}{\"on\":\"\",\"l\":[]}EN";
+      area = 16384;
+      time = 1000;
+      start = 0;
+      calls =
+          withArea (Open 0 2000) 16384
+          ∷ withOutbox (Piece 0 (bytes "change t1:s {\"l\":[\"on\",1],\"on\":\"on\"}\n") 3000) 16384 32768
+          ∷ withOutbox (Piece 0 (bytes "change t1:s {\"l\":[\"on\",\"no\"],\"on\":\"on\"}\n") 4000) 16384 32768
+          ∷ withOutbox (Piece 0 (bytes "change t1:s {\"l\":[\"no\"],\"on\":1}\n") 5000) 16384 32768
+          ∷ withOutbox (Piece 0 (bytes "read t1:s\n") 6000) 16384 32768
+          ∷ [];
+      due =
+          record { number = 0; used = 0; written = bytes "" }
+          ∷ record { number = 0; used = 37; written = bytes "DR\0\0\u{16}\0{\"l\":[1,1],\"on\":\"on\"}RP\0\01changed t1:s [{\"l\":[1,1],\"on\":\"on\"},{\"t\":3.000}]\n" }
+          ∷ record { number = 0; used = 40; written = bytes "RP\0\0<error_change t1:s [\"RangeError\",\"value is out of range\",{}]\n" }
+          ∷ record { number = 0; used = 32; written = bytes "RP\0\0>error_change t1:s [\"WrongType\",\"value has the wrong type\",{}]\n" }
+          ∷ record { number = 0; used = 10; written = bytes "RP\0\0/reply t1:s [{\"l\":[1,1],\"on\":\"on\"},{\"t\":3.000}]\n" }
+          ∷ [];
+    }
+
+unfoldable pub history-36 : History
+history-36 =
+    record {
+      table = bytes "ND\u{1}s\0MO\u{2}t1\0PA\u{1}l\0\0\u{6}\0\0\u{1},\u{4}\u{4}\u{1}a\u{80}\0\0\0\tone_digit\0\0\0\u{7}\u{1}b\0\0\0\n\u{1}c\0\0\0d\0\u{2}[]EN";
+      area = 16384;
+      time = 1000;
+      start = 0;
+      calls =
+          withArea (Open 0 2000) 16384
+          ∷ withOutbox (Piece 0 (bytes "change t1:l [\"a\",\"a\",\"a\",\"a\",\"a\",\"a\",\"a\",\"a\",\"a\",\"a\",\"a\",\"a\",\"a\",\"a\",\"a\",\"a\",\"a\",\"a\",\"a\",\"a\",\"a\",\"b\"]\n") 3000) 16384 32768
+          ∷ withOutbox (Piece 0 (bytes "change t1:l [\"a\",\"a\",\"a\",\"a\",\"a\",\"a\",\"a\",\"a\",\"a\",\"a\",\"a\",\"a\",\"a\",\"a\",\"a\",\"a\",\"a\",\"a\",\"a\",\"a\",\"a\",\"c\"]\n") 4000) 16384 32768
+          ∷ withOutbox (Piece 0 (bytes "change t1:l [\"one_digit\",7,\"one_digit\",7,\"one_digit\",7,\"one_digit\",7,\"one_digit\",7,\"one_digit\",7,\"one_digit\",7,\"one_digit\",7,\"one_digit\",7,\"one_digit\",7,\"one_digit\",7,\"one_digit\",7,\"one_digit\",7,\"one_digit\",7,\"one_digit\",7,\"one_digit\",7,\"one_digit\",7,\"one_digit\",7,\"one_digit\",7,\"one_digit\",7,\"one_digit\",7,\"one_digit\",7,\"one_digit\",7,\"one_digit\",7,\"one_digit\",7,\"one_digit\",7,\"one_digit\",7,\"one_digit\",7,\"one_digit\",7,\"one_digit\",7,\"one_digit\",7,\"one_digit\",7,\"one_digit\",7,\"one_digit\",7,\"one_digit\",7,\"one_digit\",7,\"one_digit\",7,\"one_digit\",7,\"one_digit\",7,\"one_digit\",7,\"one_digit\",7,\"one_digit\",7,\"one_digit\",7,\"one_digit\",7,\"one_digit\",7,\"one_digit\",7,\"one_digit\",7,\"one_digit\",7,\"one_digit\",7,\"one_digit\",7,7,7,7,7,7,7,7,7,7,7,7,7,7,7,7,7,7,7,7,7,7,7,7,7,7,7,10]\n") 5000) 16384 32768
+          ∷ withOutbox (Piece 0 (bytes "change t1:l [\"one_digit\",7,\"one_digit\",7,\"one_digit\",7,\"one_digit\",7,\"one_digit\",7,\"one_digit\",7,\"one_digit\",7,\"one_digit\",7,\"one_digit\",7,\"one_digit\",7,\"one_digit\",7,\"one_digit\",7,\"one_digit\",7,\"one_digit\",7,\"one_digit\",7,\"one_digit\",7,\"one_digit\",7,\"one_digit\",7,\"one_digit\",7,\"one_digit\",7,\"one_digit\",7,\"one_digit\",7,\"one_digit\",7,\"one_digit\",7,\"one_digit\",7,\"one_digit\",7,\"one_digit\",7,\"one_digit\",7,\"one_digit\",7,\"one_digit\",7,\"one_digit\",7,\"one_digit\",7,\"one_digit\",7,\"one_digit\",7,\"one_digit\",7,\"one_digit\",7,\"one_digit\",7,\"one_digit\",7,\"one_digit\",7,\"one_digit\",7,\"one_digit\",7,\"one_digit\",7,\"one_digit\",7,\"one_digit\",7,\"one_digit\",7,\"one_digit\",7,\"one_digit\",7,\"one_digit\",7,\"one_digit\",7,\"one_digit\",7,7,7,7,7,7,7,7,7,7,7,7,7,7,7,7,7,7,7,7,7,7,7,7,7,7,7,\"c\"]\n") 6000) 16384 32768
+          ∷ withOutbox (Piece 0 (bytes "read t1:l\n") 7000) 16384 32768
+          ∷ [];
+      due =
+          record { number = 0; used = 0; written = bytes "" }
+          ∷ record { number = 0; used = 102; written = bytes "DR\0\u{1}\u{1}\0[-2147483648,-2147483648,-2147483648,-2147483648,-2147483648,-2147483648,-2147483648,-2147483648,-2147483648,-2147483648,-2147483648,-2147483648,-2147483648,-2147483648,-2147483648,-2147483648,-2147483648,-2147483648,-2147483648,-2147483648,-2147483648,10]RP\0\u{1}\u{1c}changed t1:l [[-2147483648,-2147483648,-2147483648,-2147483648,-2147483648,-2147483648,-2147483648,-2147483648,-2147483648,-2147483648,-2147483648,-2147483648,-2147483648,-2147483648,-2147483648,-2147483648,-2147483648,-2147483648,-2147483648,-2147483648,-2147483648,10],{\"t\":3.000}]\n" }
+          ∷ record { number = 0; used = 102; written = bytes "RP\0\0<error_change t1:l [\"RangeError\",\"value is out of range\",{}]\n" }
+          ∷ record { number = 0; used = 769; written = bytes "DR\0\u{1}\u{1}\0[7,7,7,7,7,7,7,7,7,7,7,7,7,7,7,7,7,7,7,7,7,7,7,7,7,7,7,7,7,7,7,7,7,7,7,7,7,7,7,7,7,7,7,7,7,7,7,7,7,7,7,7,7,7,7,7,7,7,7,7,7,7,7,7,7,7,7,7,7,7,7,7,7,7,7,7,7,7,7,7,7,7,7,7,7,7,7,7,7,7,7,7,7,7,7,7,7,7,7,7,7,7,7,7,7,7,7,7,7,7,7,7,7,7,7,7,7,7,7,7,7,7,7,7,7,7,10]RP\0\u{1}\u{1c}changed t1:l [[7,7,7,7,7,7,7,7,7,7,7,7,7,7,7,7,7,7,7,7,7,7,7,7,7,7,7,7,7,7,7,7,7,7,7,7,7,7,7,7,7,7,7,7,7,7,7,7,7,7,7,7,7,7,7,7,7,7,7,7,7,7,7,7,7,7,7,7,7,7,7,7,7,7,7,7,7,7,7,7,7,7,7,7,7,7,7,7,7,7,7,7,7,7,7,7,7,7,7,7,7,7,7,7,7,7,7,7,7,7,7,7,7,7,7,7,7,7,7,7,7,7,7,7,7,7,10],{\"t\":5.000}]\n" }
+          ∷ record { number = 0; used = 770; written = bytes "RP\0\0<error_change t1:l [\"RangeError\",\"value is out of range\",{}]\n" }
+          ∷ record { number = 0; used = 10; written = bytes "RP\0\u{1}\u{1a}reply t1:l [[7,7,7,7,7,7,7,7,7,7,7,7,7,7,7,7,7,7,7,7,7,7,7,7,7,7,7,7,7,7,7,7,7,7,7,7,7,7,7,7,7,7,7,7,7,7,7,7,7,7,7,7,7,7,7,7,7,7,7,7,7,7,7,7,7,7,7,7,7,7,7,7,7,7,7,7,7,7,7,7,7,7,7,7,7,7,7,7,7,7,7,7,7,7,7,7,7,7,7,7,7,7,7,7,7,7,7,7,7,7,7,7,7,7,7,7,7,7,7,7,7,7,7,7,7,7,10],{\"t\":5.000}]\n" }
+          ∷ [];
+    }
+
+unfoldable pub history-37 : History
+history-37 =
+    record {
       table = bytes "ND\u{1}s\0MO\u{2}t1\0PA\u{1}s\0\0\t\0\0\0\0\0\0\0\u{19}üÿÿÿÿÿÿÿû\u{7f}ÿÿÿÿÿÿÿ\0\u{2}-0EN";
       area = 16384;
       time = 1000;
@@ -792,8 +873,8 @@ history-34 =
           ∷ [];
     }
 
-unfoldable pub history-35 : History
-history-35 =
+unfoldable pub history-38 : History
+history-38 =
     record {
       table = bytes "ND\u{1}s\0MO\u{2}t1\0PA\u{1}b\0\0\n\0\u{1}\0\u{4}\0\u{6}\"AAAA\"EN";
       area = 16384;
@@ -825,8 +906,8 @@ history-35 =
           ∷ [];
     }
 
-unfoldable pub history-36 : History
-history-36 =
+unfoldable pub history-39 : History
+history-39 =
     record {
       table = bytes "ND\u{1}s\0MO\u{2}t1\0CM\u{2}go\0\u{1}\u{8}\u{2}\u{1}s\t\0\0\0\0\0\0\0\u{1}\u{2}\0\0\0\0\0\0\0\0\0\0\0\0\0\0\0\t\u{1}b\u{6}\0\u{1}\0\u{2}\n\0\0\0\u{2}EN";
       area = 16384;
@@ -848,8 +929,8 @@ history-36 =
           ∷ [];
     }
 
-unfoldable pub history-37 : History
-history-37 =
+unfoldable pub history-40 : History
+history-40 =
     record {
       table = bytes "ND\u{1}s\0MO\u{2}t1\0EN";
       area = 16384;
@@ -881,8 +962,8 @@ history-37 =
           ∷ [];
     }
 
-unfoldable pub history-38 : History
-history-38 =
+unfoldable pub history-41 : History
+history-41 =
     record {
       table = bytes "ND\u{1}s\0MO\u{2}t1\0EN";
       area = 16384;
@@ -908,8 +989,8 @@ history-38 =
           ∷ [];
     }
 
-unfoldable pub history-39 : History
-history-39 =
+unfoldable pub history-42 : History
+history-42 =
     record {
       table = bytes "ND\u{1}s\0MO\u{2}t1\0PA\u{1}p\0\0\u{2}\0\0\0\0\0\0\0\0\0\0\0\0\0\0\0\t\0\u{1}3EN";
       area = 16384;
@@ -939,8 +1020,8 @@ history-39 =
           ∷ [];
     }
 
-unfoldable pub history-40 : History
-history-40 =
+unfoldable pub history-43 : History
+history-43 =
     record {
       table = bytes "ND\u{1}s\0MO\u{2}t1\0PA\u{1}p\0\0\u{2}\0\0\0\0\0\0\0\0\0\0\0\0\0\0\0\t\0\u{1}3EN";
       area = 16384;
@@ -968,8 +1049,8 @@ history-40 =
           ∷ [];
     }
 
-unfoldable pub history-41 : History
-history-41 =
+unfoldable pub history-44 : History
+history-44 =
     record {
       table = bytes "ND\u{1}s\0MO\u{2}t1\0PA\u{1}p\0\0\u{2}\0\0\0\0\0\0\0\0\0\0\0\0\0\0\0\t\0\u{1}3EN";
       area = 16384;
@@ -987,8 +1068,8 @@ history-41 =
           ∷ [];
     }
 
-unfoldable pub history-42 : History
-history-42 =
+unfoldable pub history-45 : History
+history-45 =
     record {
       table = bytes "ND\u{1}s\0MO\u{2}t1\0PA\u{1}p\0\0\u{2}\0\0\0\0\0\0\0\0\0\0\0\0\0\0\0\t\0\u{1}3EN";
       area = 16383;
@@ -1006,8 +1087,8 @@ history-42 =
           ∷ [];
     }
 
-unfoldable pub history-43 : History
-history-43 =
+unfoldable pub history-46 : History
+history-46 =
     record {
       table = bytes "ND\u{1}s\0MO\u{2}t1\0EN";
       area = 16384;
@@ -1029,8 +1110,8 @@ history-43 =
           ∷ [];
     }
 
-unfoldable pub history-44 : History
-history-44 =
+unfoldable pub history-47 : History
+history-47 =
     record {
       table = bytes "ND\u{1}s\0MO\u{2}t1\0EN";
       area = 16384;
@@ -1052,8 +1133,8 @@ history-44 =
           ∷ [];
     }
 
-unfoldable pub history-45 : History
-history-45 =
+unfoldable pub history-48 : History
+history-48 =
     record {
       table = bytes "ND\u{1}s\0MO\u{2}t1\0PA\u{1}p\0\0\u{2}\0\0\0\0\0\0\0\0\0\0\0\0\0\0\0\t\0\u{1}3EN";
       area = 16384;
@@ -1079,8 +1160,8 @@ history-45 =
           ∷ [];
     }
 
-unfoldable pub history-46 : History
-history-46 =
+unfoldable pub history-49 : History
+history-49 =
     record {
       table = bytes "ND\u{1}s\0MO\u{2}t1\0NO\u{c}mind the gapPA\u{1}p\0\0\u{2}\0\0\0\0\0\0\0\0\0\0\0\0\0\0\0\t\0\u{1}3MO\u{2}mf\0NO\0EN";
       area = 16384;
@@ -1100,8 +1181,8 @@ history-46 =
           ∷ [];
     }
 
-unfoldable pub history-47 : History
-history-47 =
+unfoldable pub history-50 : History
+history-50 =
     record {
       table = bytes "ND\u{1}s\0MO\u{2}t1\0ENEN";
       area = 16384;
@@ -1115,8 +1196,8 @@ history-47 =
           ∷ [];
     }
 
-unfoldable pub history-48 : History
-history-48 =
+unfoldable pub history-51 : History
+history-51 =
     record {
       table = bytes "ND\u{1}s\0EN";
       area = 16384;
@@ -1130,8 +1211,8 @@ history-48 =
           ∷ [];
     }
 
-unfoldable pub history-49 : History
-history-49 =
+unfoldable pub history-52 : History
+history-52 =
     record {
       table = bytes "ND\u{1}s\0MO\u{2}9x\0EN";
       area = 16384;
@@ -1145,8 +1226,8 @@ history-49 =
           ∷ [];
     }
 
-unfoldable pub history-50 : History
-history-50 =
+unfoldable pub history-53 : History
+history-53 =
     record {
       table = bytes "ND\u{1}s\0MO\u{2}t1\0CM\u{1}c\0\u{1}\u{2}\0\0\0\0\0\0\0\u{1}\0\0\0\0\0\0\0\0EN";
       area = 16384;
@@ -1160,8 +1241,8 @@ history-50 =
           ∷ [];
     }
 
-unfoldable pub history-51 : History
-history-51 =
+unfoldable pub history-54 : History
+history-54 =
     record {
       table = bytes "ND\u{1}s\0MO\u{2}t1\0CM\u{1}c\0\u{1}\t\0\0\0\0\0\0\0\0\0\0\0\0\0\0\0\0\0\0\0\0\0\0\0\0\u{1}EN";
       area = 16384;
@@ -1175,8 +1256,8 @@ history-51 =
           ∷ [];
     }
 
-unfoldable pub history-52 : History
-history-52 =
+unfoldable pub history-55 : History
+history-55 =
     record {
       table = bytes "ND\u{1}s\0MO\u{2}t1\0PA\u{1}p\0\0\u{2}\0\0\0\0\0\0\0\0\0\0\0\0\0\0\0\t\0\u{2}3 EN";
       area = 16384;
@@ -1190,8 +1271,8 @@ history-52 =
           ∷ [];
     }
 
-unfoldable pub history-53 : History
-history-53 =
+unfoldable pub history-56 : History
+history-56 =
     record {
       table = bytes "ND\u{1}s\0MO\u{2}9x\0CM\u{1}c\0\u{2}EN";
       area = 16384;
@@ -1205,8 +1286,8 @@ history-53 =
           ∷ [];
     }
 
-unfoldable pub history-54 : History
-history-54 =
+unfoldable pub history-57 : History
+history-57 =
     record {
       table = bytes "ND\u{1}s\u{1}\"EN";
       area = 16384;
@@ -1220,8 +1301,8 @@ history-54 =
           ∷ [];
     }
 
-unfoldable pub history-55 : History
-history-55 =
+unfoldable pub history-58 : History
+history-58 =
     record {
       table = bytes "ND\u{1}s\0MO\u{2}t1\0CM\u{1}c\0\u{1}\u{4}\u{2}\u{1}a\0\0\0\0\u{1}A\0\0\0\0EN";
       area = 16384;
@@ -1235,8 +1316,8 @@ history-55 =
           ∷ [];
     }
 
-unfoldable pub history-56 : History
-history-56 =
+unfoldable pub history-59 : History
+history-59 =
     record {
       table = bytes "ND\u{1}s\0MO\u{2}t1\0PA\u{1}p\0\0\u{5}\0\u{1}\0\0\0\u{1}2EN";
       area = 16384;
@@ -1250,8 +1331,23 @@ history-56 =
           ∷ [];
     }
 
-unfoldable pub history-57 : History
-history-57 =
+unfoldable pub history-60 : History
+history-60 =
+    record {
+      table = bytes "ND\u{1}s\0MO\u{2}t1\0PA\u{1}m\0\0\u{4}\u{2}\u{3}off\0\0\0\0\u{2}on\0\0\u{3}è\0\u{4}\"on\"EN";
+      area = 16384;
+      time = 1000;
+      start = 5;
+      calls =
+          withArea (Open 0 2000) 16384
+          ∷ [];
+      due =
+          record { number = 5; used = 0; written = bytes "" }
+          ∷ [];
+    }
+
+unfoldable pub history-61 : History
+history-61 =
     record {
       table = bytes "ND\u{1}s\0MO\u{2}t1\0PA\u{1}p\0\0\u{2}\0\0\0\0\0\0\0\0\0\0\0\0\0\0\0\t\0\u{2}3 EN";
       area = 16383;
@@ -1266,4 +1362,4 @@ history-57 =
     }
 
 unfoldable pub histories : List History
-histories = history-1 ∷ history-2 ∷ history-3 ∷ history-4 ∷ history-5 ∷ history-6 ∷ history-7 ∷ history-8 ∷ history-9 ∷ history-10 ∷ history-11 ∷ history-12 ∷ history-13 ∷ history-14 ∷ history-15 ∷ history-16 ∷ history-17 ∷ history-18 ∷ history-19 ∷ history-20 ∷ history-21 ∷ history-22 ∷ history-23 ∷ history-24 ∷ history-25 ∷ history-26 ∷ history-27 ∷ history-28 ∷ history-29 ∷ history-30 ∷ history-31 ∷ history-32 ∷ history-33 ∷ history-34 ∷ history-35 ∷ history-36 ∷ history-37 ∷ history-38 ∷ history-39 ∷ history-40 ∷ history-41 ∷ history-42 ∷ history-43 ∷ history-44 ∷ history-45 ∷ history-46 ∷ history-47 ∷ history-48 ∷ history-49 ∷ history-50 ∷ history-51 ∷ history-52 ∷ history-53 ∷ history-54 ∷ history-55 ∷ history-56 ∷ history-57 ∷ []
+histories = history-1 ∷ history-2 ∷ history-3 ∷ history-4 ∷ history-5 ∷ history-6 ∷ history-7 ∷ history-8 ∷ history-9 ∷ history-10 ∷ history-11 ∷ history-12 ∷ history-13 ∷ history-14 ∷ history-15 ∷ history-16 ∷ history-17 ∷ history-18 ∷ history-19 ∷ history-20 ∷ history-21 ∷ history-22 ∷ history-23 ∷ history-24 ∷ history-25 ∷ history-26 ∷ history-27 ∷ history-28 ∷ history-29 ∷ history-30 ∷ history-31 ∷ history-32 ∷ history-33 ∷ history-34 ∷ history-35 ∷ history-36 ∷ history-37 ∷ history-38 ∷ history-39 ∷ history-40 ∷ history-41 ∷ history-42 ∷ history-43 ∷ history-44 ∷ history-45 ∷ history-46 ∷ history-47 ∷ history-48 ∷ history-49 ∷ history-50 ∷ history-51 ∷ history-52 ∷ history-53 ∷ history-54 ∷ history-55 ∷ history-56 ∷ history-57 ∷ history-58 ∷ history-59 ∷ history-60 ∷ history-61 ∷ []

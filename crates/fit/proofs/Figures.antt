@@ -35,7 +35,7 @@ use Rattle.datainfo.specs.Layout.{limit, doubleAt, intAt, counted, variants, en
 use Rattle.datainfo.specs.Kept.{ReadsLimit}
 use Rattle.datainfo.specs.declared.rules.Limit as L
 use Rattle.datainfo.specs.declared.rules.Limit.{Limit}
-use Rattle.fit.specs.Fit.{fits, rangeError, wrongType, inRange, expect, asNumber, doubleFit, wholeFit, betweenIntegers, isVariant, fit}
+use Rattle.fit.specs.Fit.{fits, rangeError, wrongType, inRange, expect, expectOr, asNumber, asString, doubleFit, wholeFit, betweenIntegers, isVariant, fit}
 use Rattle.fit.specs.Verdict.{meaning, Judges, numeric, plain}
 use Rattle.fit.specs.declared.Verdict.{Verdict}
 use Rattle.fit.specs.declared.Verdict.the-variants.{Fits, RangeError, WrongType}
@@ -121,7 +121,7 @@ module _ (s : List ℕ) (at : ℕ) (t : List ℕ) (r : Verdict) (u : Limit) (k :
 
 -- ## enum: the members
 
-variants-some : {S : Type 0} (n : ℕ) (xs : List ℕ) {vs : List Variant} {x : List ℕ} → 0 < n → variants n xs ≡ some (vs, x)
+pub variants-some : {S : Type 0} (n : ℕ) (xs : List ℕ) {vs : List Variant} {x : List ℕ} → 0 < n → variants n xs ≡ some (vs, x)
     → ((k r : List ℕ) (v : ℤ) (y : List ℕ) (ws : List Variant) → counted xs ≡ some (k, r) → signed 4 r ≡ some (v, y) → variants (n - 1) y ≡ some (ws, x)
     → vs ≡ record { name = k; number = v } ∷ ws → S) → S
 unfolding variants
@@ -130,7 +130,7 @@ variants-some (suc n) xs h e f =
     steps (counted xs) _ e λ p a e. steps (signed 4 (p .1)) _ e λ q b e. steps (variants n (q .1)) _ e λ w c e.
     f (p .0) (p .1) (q .0) (q .1) (w .0) a b (rw (sub-one (suc n)) (c ∙ ap (λ y. some (w .0, y)) (ap (λ p. p .1) (just e)))) (sym (ap (λ p. p .0) (just e)))
 
-enum-some : {S : Type 0} (xs : List ℕ) {d : Datainfo} {x : List ℕ} → enumAt xs ≡ some (d, x)
+pub enum-some : {S : Type 0} (xs : List ℕ) {d : Datainfo} {x : List ℕ} → enumAt xs ≡ some (d, x)
     → ((n : ℕ) (r : List ℕ) (vs : List Variant) → unsigned 1 xs ≡ some (n, r) → variants n r ≡ some (vs, x) → d ≡ enum vs → S) → S
 unfolding enumAt
 enum-some xs e f =
@@ -152,7 +152,7 @@ module _ (s : List ℕ) (at : ℕ) (t : List ℕ) (u : Unsigned) (k : ReadsUnsig
   members-short e r h = judges-none (simp (rw e at k))
 
   pub members-first : (n i : ℕ) → u ≡ U.the-variants.Read n i → Members s at t i n
-  unfolding fit expect asNumber wholeFit
+  unfolding fit expect expectOr asNumber asString wholeFit
   members-first n i e = record {
     from = λ h g. enum-some (drop at s) g λ m r vs a b z. record {
       vs = vs;
@@ -225,14 +225,14 @@ module _ (s : List ℕ) (at : ℕ) (t : List ℕ) (i n : ℕ) (m : Members s at 
 
 -- a token with a dot or an 'e'
 pub enum-wrong : (s : List ℕ) (at : ℕ) (t : List ℕ) (o : Bool) → o ≡ isWhole t → o ≡ false → Judges (enumAt (drop at s)) (some (Json.number t, [])) WrongType
-unfolding fit expect asNumber wholeFit
+unfolding fit expect expectOr asNumber asString wholeFit
 enum-wrong s at t o e h = judges-of refl λ d x g. enum-some (drop at s) g λ n r vs a b z. rw (z, ← e, h)
 
 pub enum-whole : (s : List ℕ) (at : ℕ) (t : List ℕ) (o : Bool) (r : Verdict) → o ≡ isWhole t → o ≡ true → (isWhole t ≡ true → Judges (enumAt (drop at s)) (some (Json.number t, [])) r)
     → Judges (enumAt (drop at s)) (some (Json.number t, [])) r
 enum-whole s at t o r e h f = f (sym e ∙ h)
 
--- ## The four types
+-- ## The three types
 
 module _ (k : ℕ) (xs : List ℕ) (q : Option (Json × List ℕ)) (r : Verdict) where
   pub token-double : k ≡ 1 → Judges (doubleAt xs) q r → Judges (numeric k xs) q r
@@ -243,15 +243,11 @@ module _ (k : ℕ) (xs : List ℕ) (q : Option (Json × List ℕ)) (r : Verdict)
   unfolding numeric
   token-int e h = rw e h
 
-  pub token-scaled : k ≡ 9 → Judges (scaledAt xs) q r → Judges (numeric k xs) q r
+  pub token-scaled : (k ≡ 1 → ⊥) → (k ≡ 2 → ⊥) → Judges (scaledAt xs) q r → Judges (numeric k xs) q r
   unfolding numeric
-  token-scaled e h = rw e h
-
-  pub token-enum : (k ≡ 1 → ⊥) → (k ≡ 2 → ⊥) → (k ≡ 9 → ⊥) → Judges (enumAt xs) q r → Judges (numeric k xs) q r
-  unfolding numeric
-  token-enum n1 n2 n9 h = simp (ne-eqb k 1 n1, ne-eqb k 2 n2, ne-eqb k 9 n9) (go (eqb k 4))
+  token-scaled n1 n2 h = simp (ne-eqb k 1 n1, ne-eqb k 2 n2) (go (eqb k 9))
     where
-      go : (b : Bool) → Judges (cond b (enumAt xs) none) q r
+      go : (b : Bool) → Judges (cond b (scaledAt xs) none) q r
       go true = h
       go false = judges-none refl
 
@@ -274,8 +270,7 @@ module _ (j : Json) (n : asNumber j ≡ none) where
   numeric-wrong k xs e =
       either k 1 _ _ e (λ _ e. double-wrong xs e) λ _ e.
       either k 2 _ _ e (λ _ e. int-wrong xs e) λ _ e.
-      either k 9 _ _ e (λ _ e. scaled-wrong xs e) λ _ e.
-      either k 4 _ _ e (λ _ e. enum-some xs e λ m r vs a b z. rw (z, n)) λ _ e. absurd (nothing e)
+      either k 9 _ _ e (λ _ e. scaled-wrong xs e) λ _ e. absurd (nothing e)
 
 number-from : (j : Json) {t : List ℕ} → asNumber j ≡ some t → j ≡ Json.number t
 unfolding asNumber
@@ -294,15 +289,20 @@ number-short (x ∷ xs) r e = let q = of-some (rw e at (number-takes .1 x xs)) i
 pub number-room : (v : List ℕ) (p : ℕ) (n : Next) → Ends v n (Token.number (drop p v)) → (e : ℕ) → n ≡ At e → p ≤ length v → p ≤ e
 number-room v p n l e z w = let h = number-short _ _ ((rw z at l) .0) in omega (arith, simp length-drop at h, (rw z at l) .1)
 
-module _ (k : ℕ) (ys v : List ℕ) (p : ℕ) (n : Next) (l : Ends v n (Token.number (drop p v))) (depth : ℕ) where
-  pub number-none : n ≡ Bad → Judges (numeric k ys) (bare depth (drop p v)) WrongType
-  number-none z = record { is = λ e f. numeric-wrong _ (tells-no (as-number (shape depth (drop p v) f)) none-there) k ys e }
+module _ (v : List ℕ) (p : ℕ) (n : Next) (l : Ends v n (Token.number (drop p v))) (depth : ℕ) where
+  -- where no token ends, no number stands
+  pub no-number : n ≡ Bad → {j : Json} {y : List ℕ} → bare depth (drop p v) ≡ some (j, y) → asNumber j ≡ none
+  no-number z f = tells-no (as-number (shape depth (drop p v) f)) none-there
     where
       none-there : isSome (Token.number (drop p v)) ≡ true → ⊥
       none-there h = let g : isSome (Token.number (drop p v)) ≡ false = rw (rw z at l) in let y : _≡_ {A = ℕ} 0 1 = cc in omega arith
 
-  module _ (e : ℕ) (z : n ≡ At e) where
-    pub number-token : p ≤ length v → (r : Verdict) → Judges (numeric k ys) (some (Json.number (take (e - p) (drop p v)), [])) r → Judges (numeric k ys) (bare depth (drop p v)) r
+  pub number-none : (k : ℕ) (ys : List ℕ) → n ≡ Bad → Judges (numeric k ys) (bare depth (drop p v)) WrongType
+  number-none k ys z = record { is = λ e f. numeric-wrong _ (no-number z f) k ys e }
+
+  -- by the datainfo that o reads
+  module _ (o : Option (Datainfo × List ℕ)) (e : ℕ) (z : n ≡ At e) where
+    pub number-token : p ≤ length v → (r : Verdict) → Judges o (some (Json.number (take (e - p) (drop p v)), [])) r → Judges o (bare depth (drop p v)) r
     unfolding upTo
     number-token w r h = record { is = λ g f. tells-yes (as-number (shape depth (drop p v) f)) (rw ((rw z at l) .0)) λ a i q. rw (number-from _ i, q .1, ← (same-end (q .0)), size) (h .is g refl) }
       where
@@ -319,6 +319,10 @@ module _ (k : ℕ) (xs : List ℕ) (q : Option (Json × List ℕ)) (r : Verdict)
   unfolding plain
   plain-bool e h = rw e (record { is = λ f g. rw (same-read f refl) (h .is refl g) })
 
+  pub plain-enum : k ≡ 4 → Judges (enumAt xs) q r → Judges (plain k xs) q r
+  unfolding plain
+  plain-enum e h = rw e h
+
   pub plain-string : k ≡ 5 → Judges (stringAt xs) q r → Judges (plain k xs) q r
   unfolding plain
   plain-string e h = rw e h
@@ -327,6 +331,6 @@ module _ (k : ℕ) (xs : List ℕ) (q : Option (Json × List ℕ)) (r : Verdict)
   unfolding plain
   plain-blob e h = rw e h
 
-  pub plain-number : (k ≡ 3 → ⊥) → (k ≡ 5 → ⊥) → (k ≡ 10 → ⊥) → Judges (numeric k xs) q r → Judges (plain k xs) q r
+  pub plain-number : (k ≡ 3 → ⊥) → (k ≡ 4 → ⊥) → (k ≡ 5 → ⊥) → (k ≡ 10 → ⊥) → Judges (numeric k xs) q r → Judges (plain k xs) q r
   unfolding plain
-  plain-number n3 n5 n10 h = simp (ne-eqb k 3 n3, ne-eqb k 5 n5, ne-eqb k 10 n10) h
+  plain-number n3 n4 n5 n10 h = simp (ne-eqb k 3 n3, ne-eqb k 4 n4, ne-eqb k 5 n5, ne-eqb k 10 n10) h

@@ -8,4 +8,4 @@ pub mod Nested
 pub mod Typed
 pub mod Objects
 pub mod Structs
-pub mod Stored
+pub mod Choices

@@ -50,7 +50,7 @@ unfolding unsigned
 unsigned-some n xs e = steps (part n xs) _ e λ p a e. let h = part-some n xs a in (h .0, sym (ap (λ p. p .1) (just e)) ∙ h .1)
 
 -- two limits are four bytes
-limits-part : (xs : List ℕ) {lo hi : ℕ} {y z : List ℕ} → unsigned 2 xs ≡ some (lo, y) → unsigned 2 y ≡ some (hi, z) → rest (part 4 xs) ≡ some z
+pub limits-part : (xs : List ℕ) {lo hi : ℕ} {y z : List ℕ} → unsigned 2 xs ≡ some (lo, y) → unsigned 2 y ≡ some (hi, z) → rest (part 4 xs) ≡ some z
 unfolding part
 limits-part xs {lo} {hi} {y} e f =
     let a = unsigned-some 2 xs e in
@@ -58,7 +58,7 @@ limits-part xs {lo} {hi} {y} e f =
     let n : 2 ≤ length xs - 2 = rw (a .1, length-drop) at (b .0) in
     rw (le-leb 4 (length xs) (omega arith), b .1, a .1, drop-drop)
 
-array-some : {S : Type 0} (f : List ℕ → Option (Datainfo × List ℕ)) (xs : List ℕ) {o : Datainfo} {x : List ℕ} → arrayAt f xs ≡ some (o, x)
+pub array-some : {S : Type 0} (f : List ℕ → Option (Datainfo × List ℕ)) (xs : List ℕ) {o : Datainfo} {x : List ℕ} → arrayAt f xs ≡ some (o, x)
     → ((lo hi : ℕ) (y z : List ℕ) (d : Datainfo) → unsigned 2 xs ≡ some (lo, y) → unsigned 2 y ≡ some (hi, z) → f z ≡ some (d, x) → o ≡ array lo hi d → S) → S
 unfolding arrayAt
 array-some f xs e g = steps (unsigned 2 xs) _ e λ p a e. steps (unsigned 2 (p .1)) _ e λ q b e. steps (f (q .1)) _ e λ w c e.
@@ -169,18 +169,18 @@ module _ (s : List ℕ) (at levels : ℕ) (v : List ℕ) (p depth inner : ℕ) (
 
 -- ## Tuples
 
-elements-some : {S : Type 0} (f : List ℕ → Option (Datainfo × List ℕ)) (n : ℕ) (xs : List ℕ) {ds : Elements} {x : List ℕ} → 0 < n → elements f n xs ≡ some (ds, x)
+pub elements-some : {S : Type 0} (f : List ℕ → Option (Datainfo × List ℕ)) (n : ℕ) (xs : List ℕ) {ds : Elements} {x : List ℕ} → 0 < n → elements f n xs ≡ some (ds, x)
     → ((d : Datainfo) (r : List ℕ) (es : Elements) → f xs ≡ some (d, r) → elements f (n - 1) r ≡ some (es, x) → ds ≡ element d es → S) → S
 unfolding elements
 elements-some f zero xs h e g = absurd (omega arith)
 elements-some f (suc n) xs h e g = steps (f xs) _ e λ p a e. steps (elements f n (p .1)) _ e λ q b e.
     g (p .0) (p .1) (q .0) a (rw (sub-one (suc n)) (b ∙ ap (λ y. some (q .0, y)) (ap (λ p. p .1) (just e)))) (sym (ap (λ p. p .0) (just e)))
 
-elements-none : (f : List ℕ → Option (Datainfo × List ℕ)) (n : ℕ) (xs : List ℕ) {ds : Elements} {x : List ℕ} → n ≡ 0 → elements f n xs ≡ some (ds, x) → ds ≡ no-elements
+pub elements-none : (f : List ℕ → Option (Datainfo × List ℕ)) (n : ℕ) (xs : List ℕ) {ds : Elements} {x : List ℕ} → n ≡ 0 → elements f n xs ≡ some (ds, x) → ds ≡ no-elements
 unfolding elements
 elements-none f n xs z e = sym (ap (λ p. p .0) (just (rw z at e)))
 
-tuple-some : {S : Type 0} (f : List ℕ → Option (Datainfo × List ℕ)) (xs : List ℕ) {o : Datainfo} {x : List ℕ} → tupleAt f xs ≡ some (o, x)
+pub tuple-some : {S : Type 0} (f : List ℕ → Option (Datainfo × List ℕ)) (xs : List ℕ) {o : Datainfo} {x : List ℕ} → tupleAt f xs ≡ some (o, x)
     → ((n : ℕ) (r : List ℕ) (ds : Elements) → unsigned 1 xs ≡ some (n, r) → elements f n r ≡ some (ds, x) → o ≡ tuple ds → S) → S
 unfolding tupleAt
 tuple-some f xs e g = steps (unsigned 1 xs) _ e λ p a e. steps (elements f (p .0) (p .1)) _ e λ q b e.

@@ -1,6 +1,6 @@
 // Which values fit a datainfo: the table's bytes and the value's text are walked over together. `at` is a position in the table: of a
-// datainfo, or past its type byte where the function is of one type; `p` is the position of the value. `verdict` and `is_stored` take a
-// datainfo that can be read, and any text. What they call promises nothing of bytes that can't be read, as a datainfo or as a value.
+// datainfo, or past its type byte where the function is of one type; `p` is the position of the value. Nothing is promised of bytes that
+// can't be read, as a datainfo or as a value.
 ghost use mathlib.Core.Path.{_≡_};
 ghost use Prim.Native.Nat.{ℕ, _≤_};
 ghost use mathlib.Core.List.{[]};
@@ -11,12 +11,13 @@ ghost use Rattle.decimal.specs.Token.{isWhole};
 ghost use Rattle.json.specs.Json as Json;
 ghost use Rattle.json.specs.Json.{bare, value, objectEnd};
 ghost use Rattle.datainfo.specs.Datainfo as Datainfo;
-ghost use Rattle.datainfo.specs.Layout.{doubleAt, intAt, enumAt, stringAt, arrayAt, tupleAt, structAt, scaledAt, blobAt, datainfoIn, ReadableAt};
+ghost use Rattle.datainfo.specs.Layout.{doubleAt, intAt, enumAt, stringAt, arrayAt, tupleAt, structAt, scaledAt, blobAt, datainfoIn};
 ghost use Rattle.datainfo.specs.Rules.{isBetween};
 ghost use Rattle.fit.specs.Fit as Fit;
 ghost use Rattle.fit.specs.Fit.{isFit, inRange, wholeFit, betweenIntegers};
-ghost use Rattle.fit.specs.Verdict.{meaning, Judges, JudgesFields, JudgesText, TellsStored, Limits, numeric, plain};
+ghost use Rattle.fit.specs.Verdict.{meaning, Judges, JudgesFields, Limits, numeric, plain};
 use super::Verdict;
+use super::member::number_of;
 use super::object::each_once;
 use super::object::find_key;
 use super::walk::first;
@@ -41,8 +42,6 @@ use decimal::compare::is_whole;
 use decimal::token::number_end;
 use json::characters::all_low;
 use json::characters::count;
-use json::compact::compact_length;
-use json::read::is_text;
 use json::read::spaces_end;
 
 fn severity(a: Verdict) -> u8
@@ -94,7 +93,7 @@ fn limits_fit(s: &[u8], at: usize, n: usize) -> Verdict
 }
 
 // RangeError unless a test passes.
-fn range_fit(passes: bool) -> Verdict
+pub fn range_fit(passes: bool) -> Verdict
     ensures { λ r. ⌜ meaning r ≡ inRange passes ⌝ }
 {
     if passes {
@@ -187,7 +186,7 @@ fn enum_fit(s: &[u8], at: usize, t: &[u8]) -> Verdict
     Verdict::WrongType
 }
 
-// A number token for the type k, one of double (1), int (2), scaled (9) and enum (4).
+// A number token for the type k, one of double (1), int (2) and scaled (9).
 fn token_fit(s: &[u8], at: usize, k: u64, t: &[u8]) -> Verdict
     requires { ⌜ at ≤ length (now s) ⌝ }
     ensures { λ r. ⌜ Judges (numeric k (drop at (now (s .entry)))) (some (Json.number (now (t .entry)), [])) r ⌝ }
@@ -198,10 +197,7 @@ fn token_fit(s: &[u8], at: usize, k: u64, t: &[u8]) -> Verdict
     if k == 2 {
         return int_fit(s, at, t);
     }
-    if k == 9 {
-        return scaled_fit(s, at, t);
-    }
-    enum_fit(s, at, t)
+    scaled_fit(s, at, t)
 }
 
 fn number_fit(s: &[u8], at: usize, k: u64, v: &[u8], p: usize) -> Verdict
@@ -212,6 +208,31 @@ fn number_fit(s: &[u8], at: usize, k: u64, v: &[u8], p: usize) -> Verdict
         return Verdict::WrongType;
     };
     token_fit(s, at, k, &v[p..e])
+}
+
+// A string names a member of an enum by its bytes, as they are sent.
+fn named_fit(s: &[u8], at: usize, name: &[u8]) -> Verdict
+    requires { ⌜ at ≤ length (now s) ⌝ }
+    ensures { λ r. ⌜ Judges (enumAt (drop at (now (s .entry)))) (some (Json.string (now (name .entry)), [])) r ⌝ }
+{
+    let Signed::Read(_, _) = number_of(s, at, name) else {
+        return Verdict::RangeError;
+    };
+    Verdict::Fits
+}
+
+// A member of an enum, by its name or by its number.
+fn choice_fit(s: &[u8], at: usize, v: &[u8], p: usize) -> Verdict
+    requires { ⌜ (at ≤ length (now s)) × (p ≤ length (now v)) ⌝ }
+    ensures { λ r. ⌜ ((depth : ℕ) → Judges (enumAt (drop at (now (s .entry)))) (bare depth (drop p (now (v .entry)))) r) ⌝ }
+{
+    if byte(v, p) == b'"' {
+        return named_fit(s, at, quoted(v, p));
+    }
+    let Next::At(e) = number_end(v, p) else {
+        return Verdict::WrongType;
+    };
+    enum_fit(s, at, &v[p..e])
 }
 
 // Of the values only `true` and `false` begin with a 't' or an 'f'.
@@ -277,6 +298,9 @@ fn plain_fit(s: &[u8], at: usize, k: u64, v: &[u8], p: usize) -> Verdict
 {
     if k == 3 {
         return bool_fit(v, p);
+    }
+    if k == 4 {
+        return choice_fit(s, at, v, p);
     }
     if k == 5 {
         return string_fit(s, at, v, p);
@@ -402,7 +426,7 @@ fn struct_fit(s: &[u8], at: usize, levels: usize, v: &[u8], p: usize, depth: usi
 }
 
 // The value at p, without spaces before it, and the datainfo at a position, of at most `levels` levels.
-fn fit(s: &[u8], at: usize, levels: usize, v: &[u8], p: usize, depth: usize) -> Verdict
+pub fn fit(s: &[u8], at: usize, levels: usize, v: &[u8], p: usize, depth: usize) -> Verdict
     requires { ⌜ (at ≤ length (now s)) × (p ≤ length (now v)) ⌝ }
     ensures { λ r. ⌜ Judges (datainfoIn levels (drop at (now (s .entry)))) (bare depth (drop p (now (v .entry)))) r ⌝ }
 {
@@ -424,34 +448,9 @@ fn fit(s: &[u8], at: usize, levels: usize, v: &[u8], p: usize, depth: usize) -> 
     plain_fit(s, inner, k, v, p)
 }
 
-// What a text comes to: no JSON is BadJSON, more than 256 bytes in stored form a range fault.
-pub fn verdict(s: &[u8], at: usize, v: &[u8]) -> Verdict
-    requires { ⌜ ReadableAt (now s) at 4 ⌝ }
-    ensures { λ r. ⌜ JudgesText (datainfoIn 4 (drop at (now (s .entry)))) (now (v .entry)) r ⌝ }
-{
-    if is_text(v) {
-        let size = range_fit(compact_length(v) <= 256);
-        return worse(fit(s, at, 4, v, spaces_end(v, 0), 8), size);
-    }
-    Verdict::BadJson
-}
-
-fn is_fit(a: Verdict) -> bool
+// Whether it is the verdict that lets a value in.
+pub fn is_fit(a: Verdict) -> bool
     ensures { λ r. ⌜ r ≡ isFit (meaning a) ⌝ }
 {
     severity(a) == 0
-}
-
-// Whether a text fits and is in stored form: the form is the text without some of its spaces, so it is the text where it is as long.
-pub fn is_stored(s: &[u8], at: usize, v: &[u8]) -> bool
-    requires { ⌜ ReadableAt (now s) at 4 ⌝ }
-    ensures { λ r. ⌜ TellsStored (datainfoIn 4 (drop at (now (s .entry)))) (now (v .entry)) r ⌝ }
-{
-    if is_text(v) {
-        if compact_length(v) == v.len() {
-            return is_fit(verdict(s, at, v));
-        }
-        return false;
-    }
-    false
 }

@@ -4,8 +4,9 @@ ghost use mathlib.Core.Path.{_≡_};
 ghost use Rattle.fit.specs.Theorems.{OneComparison};
 
 pub mod fit;
+pub mod member;
 mod object;
-mod walk;
+pub mod walk;
 
 // What a value comes to, each worse than the one before.
 pub enum Verdict {

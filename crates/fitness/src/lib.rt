@@ -8,7 +8,7 @@ ghost use Rattle.table.specs.Search.{parameters};
 ghost use Rattle.report.specs.Judge.{tableNumber};
 ghost use Rattle.state.specs.Fit.{isUnfit, settingsUnfit};
 ghost use Rattle.fitness.specs.Unfit.{TellsUnfit};
-use fit::fit::is_stored;
+use form::is_stored;
 use search::cursor::NextParameter;
 use search::cursor::first_cursor;
 use search::cursor::next_parameter;

@@ -1,2 +1,11 @@
+pub mod Verdicts
+pub mod Trees
+pub mod Short
+pub mod Exchange
 pub mod Stored
-pub mod Written
+pub mod Scalars
+pub mod Fields
+pub mod Rows
+pub mod Members
+pub mod Typed
+pub mod Texts

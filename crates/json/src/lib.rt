@@ -1,15 +1,21 @@
 // JSON texts over the bytes 32 to 126.
 ghost use mathlib.Core.Path.{_≡_};
 ghost use mathlib.Core.Bool.{true};
-ghost use Rattle.json.specs.Theorems.{CompactIsReadBack, CountsNeverCut};
+ghost use Rattle.json.specs.Theorems.{CompactIsReadBack, CountsNeverCut, ReadableTrees};
 
 pub mod characters;
-pub mod compact;
 pub mod read;
 
 // The compact text of a value that was read is read as the same value: nothing is run, the promise is the theorem.
 pub fn compact_is_read_back() -> bool
     ensures { λ r. ⌜ (r ≡ true) × CompactIsReadBack ⌝ }
+{
+    true
+}
+
+// What is read is a readable tree, and the compact text of every readable tree is read as that tree.
+pub fn readable_trees() -> bool
+    ensures { λ r. ⌜ (r ≡ true) × ReadableTrees ⌝ }
 {
     true
 }

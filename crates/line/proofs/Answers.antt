@@ -34,7 +34,8 @@ use Rattle.state.specs.declared.Settings.{Settings}
 use Rattle.state.specs.declared.State.{State}
 use Rattle.state.specs.View.{view, withStored, withLength, areaWith, settingsWith}
 use Rattle.state.specs.Fit.{settingsUnfit, clientUnfit, isUnfit}
-use Rattle.state.proofs.Flags.{neither, nor}
+use Rattle.ascii.proofs.Lists.{neither}
+use Rattle.state.proofs.Flags.{nor}
 use Rattle.state.proofs.Becomes.{Sized}
 use Rattle.state.proofs.Cells.{active-becomes}
 use Rattle.state.proofs.Kept.{still-fit}

@@ -27,7 +27,7 @@ use Rattle.plain.specs.Answer.{carried, outcome}
 use Rattle.sound.proofs.Room.{puts-after, puts-none}
 use Rattle.state.specs.declared.State.{State}
 use Rattle.state.specs.Fit.{pastLast, isUnfit, settingsUnfit}
-use Rattle.state.proofs.Flags.{neither}
+use Rattle.ascii.proofs.Lists.{neither}
 use Rattle.state.proofs.Kept.{each-fit}
 use Rattle.state.proofs.Cells.{fit-at}
 use Rattle.outcome.specs.Outcome.{Sends, ComesAtAny}

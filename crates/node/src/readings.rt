@@ -3,7 +3,7 @@ use crate::judge::lent_number;
 use crate::judge::quiet;
 use accepted::readings::take_reading;
 use fit::Verdict;
-use fit::fit::verdict;
+use form::verdict;
 use promise::Done;
 use search::cursor::NextParameter;
 use search::find::parameter_by_number;

@@ -1,37 +1,19 @@
 -- Decimal text and times: they are of digits, and they are read back. Assumes nothing.
 use Prim.Native.Nat.{ℕ, zero, suc, _+_, _*_, _-_, _/_, _%_, _<_}
-use mathlib.Core.Bool.{Bool, true, false, cond, _&&_}
+use mathlib.Core.Bool.{Bool, true, false, cond}
 use mathlib.Core.List.{List, [], _∷_, _++_, append-assoc}
-use mathlib.Core.Path.{_≡_, refl, sym, _∙_, ap, ap₂}
+use mathlib.Core.Path.{_≡_, refl, sym, _∙_, ap}
 use lib.Dec.{ltb, eqb}
 use native.Mathlib.Omega.{arith}
-use borrow.Author.Tests.{ltb-true, ltb-false, le-leb, ne-eqb}
+use borrow.Author.Tests.{ltb-false, ne-eqb}
 use Rattle.ascii.specs.Text.{bytes}
 use Rattle.ascii.specs.Bytes.{all, isIn, isDigit}
 use Rattle.ascii.specs.Numbers.{digit, digitsIn, decimal, seconds}
+use Rattle.ascii.proofs.Digits.{digit-is-digit, decimal-digits}
 use Rattle.ascii.proofs.Lists.{all-one, all-append, isOther, Lacks, lacks}
-
--- ## Digits
-
-pub digit-is-digit : (d : ℕ) → d < 10 → isDigit (digit d) ≡ true
-unfolding digit isIn
-digit-is-digit d h = ap₂ _&&_ (le-leb 48 (48 + d) (omega arith)) (le-leb (48 + d) 57 (omega arith))
 
 last-digit : (n : ℕ) → isDigit (digit (n % 10)) ≡ true
 last-digit n = digit-is-digit (n % 10) (omega arith)
-
-digits-are-digits : (k n : ℕ) → all isDigit (digitsIn k n) ≡ true
-unfolding digitsIn all
-digits-are-digits zero n = refl
-digits-are-digits (suc k) n = go (ltb n 10) refl (digits-are-digits k (n / 10))
-  where
-    go : (t : Bool) → ltb n 10 ≡ t → all isDigit (digitsIn k (n / 10)) ≡ true → all isDigit (digitsIn (suc k) n) ≡ true
-    go true e ih = rw (e, digitsIn) (all-one isDigit (digit n) (digit-is-digit n (ltb-true n 10 e)))
-    go false e ih = rw (e, digitsIn) (all-append isDigit (digitsIn k (n / 10)) (digit (n % 10) ∷ []) ih (all-one isDigit (digit (n % 10)) (last-digit n)))
-
-pub decimal-digits : (n : ℕ) → all isDigit (decimal n) ≡ true
-unfolding decimal
-decimal-digits n = digits-are-digits (suc n) n
 
 -- ## Reading
 

@@ -19,7 +19,7 @@ use Rattle.state.specs.declared.State.{State}
 use Rattle.state.specs.View.{isSet, clientAt, view, areaWith, settingsWith, outboxAfter, written, nextClients}
 use Rattle.state.specs.Fit.{clientUnfit, settingsUnfit, isUnfit}
 use Rattle.state.proofs.Becomes.{Becomes, Always, Joinable}
-use Rattle.state.proofs.Flags.{neither}
+use Rattle.ascii.proofs.Lists.{neither}
 use Rattle.state.proofs.Kept.{still-fit}
 use Rattle.state.proofs.Views.{client-view}
 use Rattle.promise.specs.declared.Done.{Done}

@@ -1,41 +1,20 @@
 -- The numbers of the report, read back from their text. Assumes nothing.
 use Prim.Native.Nat.{ℕ, zero, suc, _+_, _*_, _-_, _/_, _%_, _<_}
-use mathlib.Core.Bool.{Bool, true, false, cond, _&&_, _||_}
+use mathlib.Core.Bool.{Bool, true, false, cond, _||_}
 use mathlib.Core.List.{List, [], _∷_, _++_, append-assoc, append-nil}
-use mathlib.Core.Path.{_≡_, refl, _∙_, ap, ap₂}
+use mathlib.Core.Path.{_≡_, refl, _∙_, ap}
 use lib.Dec.{ltb, eqb}
 use lib.IntN.{ℤ, pos, negsuc}
 use native.Mathlib.Omega.{arith}
-use borrow.Author.Tests.{ltb-true, ltb-false, le-leb, ne-eqb}
+use borrow.Author.Tests.{ltb-false, ne-eqb}
 use Rattle.ascii.specs.Text.{bytes}
 use Rattle.ascii.specs.Bytes.{all, isIn, isDigit, head, tail}
 use Rattle.ascii.specs.Numbers.{digit, digitsIn, decimal, integer}
-use Rattle.ascii.proofs.Lists.{all-cons, all-parts, all-one, all-append, all-weaker, isOther, Lacks, lacks, head-differs}
+use Rattle.ascii.proofs.Lists.{all-cons, all-parts, all-append, all-weaker, isOther, Lacks, lacks, head-differs}
+use Rattle.ascii.proofs.Digits.{decimal-digits}
 use Rattle.ascii.proofs.Lists.{before, beyond, before-all, beyond-all, before-at, beyond-at}
 use Rattle.decimal.specs.Decimal.{Decimal}
 use Rattle.report.specs.Report.{decimalText}
-
--- ## Digits
-
-digit-is-digit : (d : ℕ) → d < 10 → isDigit (digit d) ≡ true
-unfolding digit isIn
-digit-is-digit d h = ap₂ _&&_ (le-leb 48 (48 + d) (omega arith)) (le-leb (48 + d) 57 (omega arith))
-
-digits-are-digits : (k n : ℕ) → all isDigit (digitsIn k n) ≡ true
-unfolding digitsIn all
-digits-are-digits zero n = refl
-digits-are-digits (suc k) n = go (ltb n 10) refl (digits-are-digits k (n / 10))
-  where
-    go : (t : Bool) → ltb n 10 ≡ t → all isDigit (digitsIn k (n / 10)) ≡ true → all isDigit (digitsIn (suc k) n) ≡ true
-    go true e ih = rw (e, digitsIn) (all-one isDigit (digit n) (digit-is-digit n (ltb-true n 10 e)))
-    go false e ih =
-        rw (e, digitsIn)
-        (all-append isDigit (digitsIn k (n / 10)) (digit (n % 10) ∷ []) ih
-        (all-one isDigit (digit (n % 10)) (digit-is-digit (n % 10) (omega arith))))
-
-pub decimal-digits : (n : ℕ) → all isDigit (decimal n) ≡ true
-unfolding decimal
-decimal-digits n = digits-are-digits (suc n) n
 
 -- ## Natural numbers
 

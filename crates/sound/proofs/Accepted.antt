@@ -23,7 +23,9 @@ use Rattle.report.specs.Report.{report}
 use Rattle.report.specs.Judge.{treeNumber, numberOf, tableNumber}
 use Rattle.report.proofs.Faults.{no-fault, lowest-none}
 use Rattle.plain.specs.Calls.{fault10, fault11}
-use Rattle.sound.proofs.Lists.{Each, each-append, each-both, each-all, each-map, map-each}
+use Rattle.sound.specs.Theorems.{DatainfosInTable}
+use Rattle.sound.proofs.Tabled.{ModuleLies, ParameterIn, CommandIn, table-lies, modules-in, parameters-in, commands-in}
+use Rattle.sound.proofs.Lists.{Each, each-at, each-append, each-both, each-all, each-map, map-each}
 
 -- ## Numbers
 
@@ -109,6 +111,9 @@ pub record Accepted (w : Table) : Type 0 where
   pub few : length (parameters w) ≤ 64
   pub fewCommands : length (commands w) ≤ 64
   pub short : length (report w) ≤ 32000
+  -- their datainfos are in the table
+  pub parametersIn : Each (λ (p : Placed Parameter). ParameterIn (p .it)) (parameters w)
+  pub commandsIn : Each (λ (p : Placed Command). CommandIn (p .it)) (commands w)
 
 good-module : (m : Module) → isName (m .name) ≡ true → moduleNamesGood m ≡ true → all initialGood (m .accessibles) ≡ true
     → GoodModule m
@@ -132,9 +137,9 @@ good-modules (m ∷ ms) e f g =
     let c = both (all initialGood (m .accessibles)) (all (λ (m : Module). all initialGood (m .accessibles)) ms) g in
     (good-module m (a .0) (b .0) (c .0), good-modules ms (a .1) (b .1) (c .1))
 
-accepted-tree : (w : Table) → treeNumber w ≡ 0 → Accepted w
+accepted-tree : (w : Table) → Each ModuleLies (w .modules) → treeNumber w ≡ 0 → Accepted w
 unfolding treeNumber countsGood namesGood goodNames initialsGood parameters commands isBetween
-accepted-tree w e =
+accepted-tree w lies e =
     let none-of = lowest-none _ e in
     let h2 = not-false (countsGood w) (no-fault 1 (not (countsGood w)) (none-of 0)) in
     let h3 = not-false (namesGood w) (no-fault 2 (not (namesGood w)) (none-of 1)) in
@@ -147,6 +152,7 @@ accepted-tree w e =
     let b = both texts (all isName names && unique names) (a .0) in
     let d = both (all isName names) (unique names) (b .1) in
     let ms = good-modules (w .modules) (d .0) (a .1) h5 in
+    let tabled = modules-in (w .modules) lies (a .1) in
     let between = both (leb 1 (length (w .modules))) (leb (length (w .modules)) 16) (c .0) in
     record {
       names = h3;
@@ -157,12 +163,20 @@ accepted-tree w e =
       few = omega (arith, placed-count parametersOf parameters-count 0 (w .modules), leb-true (accessibleCount (w .modules)) 64 (c .1));
       fewCommands = omega (arith, placed-count commandsOf commands-count 0 (w .modules), leb-true (accessibleCount (w .modules)) 64 (c .1));
       short = ltb-false 32000 (length (report w)) h6;
+      parametersIn = parameters-in (w .modules) tabled;
+      commandsIn = commands-in (w .modules) tabled;
     }
 
 pub accepted : (table : List ℕ) → tableNumber table ≡ 0 → Accepted (tableOf table)
 unfolding tableNumber tableOf numberOf orEmpty
-accepted table e = go (readTable table) e
+accepted table e = go (readTable table) refl e
   where
-    go : (o : Option Table) → numberOf o ≡ 0 → Accepted (orEmpty o)
-    go none e = absurd (omega arith)
-    go (some w) e = accepted-tree w e
+    go : (o : Option Table) → readTable table ≡ o → numberOf o ≡ 0 → Accepted (orEmpty o)
+    go none q e = absurd (omega arith)
+    go (some w) q e = accepted-tree w (table-lies table w q) e
+
+pub datainfos-in-table : DatainfosInTable
+datainfos-in-table = record {
+  ofParameters = λ table e k p q. each-at (λ (p : Placed Parameter). ParameterIn (p .it)) (parameters (tableOf table)) (accepted table e .parametersIn) k p q;
+  ofArguments = λ table e k c q. each-at (λ (c : Placed Command). CommandIn (c .it)) (commands (tableOf table)) (accepted table e .commandsIn) k c q;
+}

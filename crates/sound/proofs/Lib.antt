@@ -1,4 +1,5 @@
 pub mod Lists
+pub mod Tabled
 pub mod Accepted
 pub mod Room
 pub mod Records

@@ -33,6 +33,7 @@ use Rattle.plain.proofs.Numbers.{accepted-call}
 use Rattle.plain.proofs.Outcomes.{Tells, by-identify, by-describe, by-ping, by-read, LetIn, Allowed, doneOf, ordering, outcome-holds}
 use Rattle.sound.specs.Theorems.{ValueHeld, Sound}
 use Rattle.sound.proofs.Lists.{each-at}
+use Rattle.sound.proofs.Tabled.{ParameterIn}
 use Rattle.sound.proofs.Accepted.{Accepted, GoodParameter, GoodCommand, client-low, time-low}
 use Rattle.sound.proofs.Records.{Fine, Says, says-within, says-identification, says-describing, says-pong, says-active, says-inactive, says-reply, says-changed, says-done, says-error, Written, written-none, written-one, written-append, written-within, written-final, written-to, written-of}
 use Rattle.sound.proofs.Lines.{before-feed, received, content-short, ShortWord, parts-words, Asked, asked}
@@ -71,7 +72,7 @@ module _ (w : Table) (a : Accepted w) (n : Node) (s : Sound w n) where
     new = showing (storedForm (p .it .datainfo) bs) t
 
     new-value : ValueHeld (p .it) new
-    new-value = (stored (p .it .datainfo) bs f, h)
+    new-value = (stored (p .it .datainfo) bs (each-at (λ (q : Placed Parameter). ParameterIn (q .it)) (parameters w) (a .parametersIn) k p e) f, h)
 
     new-node : Sound w (withValue n k new)
     new-node = with-value w n k new (λ q j. let i : p ≡ q = cc in subst (λ q. ValueHeld (q .it) new) i new-value) s

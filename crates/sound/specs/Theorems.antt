@@ -8,11 +8,13 @@ use lib.Dec.{eqb}
 use lib.ListN.{length, getElem?}
 use Rattle.ascii.specs.Bytes.{all}
 use Rattle.ascii.specs.Numbers.{latest}
+use Rattle.datainfo.specs.Datainfo.{Datainfo}
 use Rattle.fit.specs.Fit.{isStored}
+use Rattle.form.specs.Theorems.{InTable}
 use Rattle.message.specs.Line.{Line, whole, overlong}
-use Rattle.table.specs.Table.{Parameter, Table}
+use Rattle.table.specs.Table.{Parameter, Command, Table}
 use Rattle.table.specs.Layout.{tableOf}
-use Rattle.table.specs.Search.{Placed, parameters}
+use Rattle.table.specs.Search.{Placed, parameters, commands}
 use Rattle.report.specs.Judge.{tableNumber}
 use Rattle.outbox.specs.Outbox.{encodeAll}
 use Rattle.outbox.specs.Theorems.{AllWellFormed}
@@ -39,6 +41,14 @@ pub record Sound (w : Table) (n : Node) : Type 0 where
   pub values : (k : ℕ) (p : Placed Parameter) → getElem? (parameters w) k ≡ some p → ValueHeld (p .it) (n .values k)
   pub clients : (c : ℕ) → ClientHeld w (n .clients c)
   pub above : (c : ℕ) → 7 < c → n .clients c ≡ closed
+
+-- Every datainfo of an accepted table, of a parameter or of an argument, is one of which the theorems of stored forms speak
+-- (`form::stored_forms`): read from the table's bytes, with good names.
+pub record DatainfosInTable : Type 0 where
+  pub ofParameters : (table : List ℕ) → tableNumber table ≡ 0 → (k : ℕ) (p : Placed Parameter) → getElem? (parameters (tableOf table)) k ≡ some p
+      → InTable (p .it .datainfo)
+  pub ofArguments : (table : List ℕ) → tableNumber table ≡ 0 → (k : ℕ) (c : Placed Command) → getElem? (commands (tableOf table)) k ≡ some c
+      → (d : Datainfo) → c .it .argument ≡ some d → InTable d
 
 -- The plain node only ever holds values in stored form that fit their datainfo, with times within the limit; and so on for the rest.
 abbrev pub AlwaysSound : Type 0

@@ -1,12 +1,19 @@
 ghost use mathlib.Core.Bool.{true};
 ghost use mathlib.Core.Path.{_≡_};
-ghost use Rattle.sound.specs.Theorems.{AlwaysSound, WritesAreShort, WritesAreWellFormed, CallsKeepSound};
+ghost use Rattle.sound.specs.Theorems.{DatainfosInTable, AlwaysSound, WritesAreShort, WritesAreWellFormed, CallsKeepSound};
 
 // Each function here promises a theorem about the definitions. Nothing is run.
 
 // The plain node only ever holds values in stored form that fit, times within the limit, lines within theirs, modules that are there.
 pub fn always_sound() -> bool
     ensures { λ r. ⌜ (r ≡ true) × AlwaysSound ⌝ }
+{
+    true
+}
+
+// Every datainfo of an accepted table is one of which the theorems of stored forms speak.
+pub fn datainfos_in_table() -> bool
+    ensures { λ r. ⌜ (r ≡ true) × DatainfosInTable ⌝ }
 {
     true
 }

@@ -15,7 +15,7 @@ use Rattle.state.specs.View.{isSet, bit, lineBytes, lineAt, clientAt}
 use Rattle.state.specs.Fit.{clientUnfit, pastLast}
 use Rattle.state.specs.Changed.{withOpened, withClosed, withEnded, withActive}
 use Rattle.state.proofs.Becomes.{Becomes, Always, Activatable, Sized}
-use Rattle.state.proofs.Flags.{neither}
+use Rattle.ascii.proofs.Lists.{neither}
 use Rattle.state.proofs.Masks.{no-bit, past-last}
 
 -- ## A client by what the state holds of it: is it open, is its line overlong, its mask, the length and the bytes of its line

@@ -11,7 +11,8 @@ use borrow.Author.Tests.{ltb-true, lt-ltb}
 use Rattle.ascii.specs.Bytes.{any}
 use Rattle.message.specs.Line.{whole, overlong, with-byte}
 use Rattle.plain.specs.Node.{closed, connected, receive}
-use Rattle.state.proofs.Flags.{neither, nor}
+use Rattle.ascii.proofs.Lists.{neither}
+use Rattle.state.proofs.Flags.{nor}
 
 pub receive-closed : (bs : List ℕ) → receive closed bs ≡ closed
 unfolding receive

@@ -24,7 +24,8 @@ use Rattle.state.specs.declared.Settings.{Settings}
 use Rattle.state.specs.View.{storedText, shown, shownBytes, valueAt, withStored, withLength}
 use Rattle.state.specs.Fit.{settingUnfit, settingsUnfit}
 use Rattle.state.proofs.Settings.{the-type, the-field}
-use Rattle.state.proofs.Flags.{neither, nor}
+use Rattle.ascii.proofs.Lists.{neither}
+use Rattle.state.proofs.Flags.{nor}
 use Rattle.state.proofs.Areas.{other-value, written}
 use Rattle.state.proofs.Cells.{Changed, changed}
 

@@ -25,7 +25,7 @@ use Rattle.state.specs.declared.State.{State}
 use Rattle.state.specs.View.{isSet, bit, lineBytes, lineAt, clientAt, storedText, shown, valueAt, view}
 use Rattle.state.specs.Fit.{clientUnfit, settingsUnfit, isUnfit}
 use Rattle.state.proofs.Becomes.{Sized}
-use Rattle.state.proofs.Flags.{neither}
+use Rattle.ascii.proofs.Lists.{neither}
 use Rattle.state.proofs.Masks.{not-past}
 use Rattle.state.proofs.Cells as Cells
 use Rattle.state.proofs.Settled as Settled

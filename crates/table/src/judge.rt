@@ -20,7 +20,7 @@ use ascii::Next;
 use ascii::names::is_name;
 use ascii::names::is_text;
 use ascii::names::same_lowercase;
-use fit::fit::is_stored;
+use form::is_stored;
 ghost use mathlib.Core.Path.{_≡_};
 ghost use mathlib.Core.Bool.{cond};
 ghost use mathlib.Core.List.{List};

@@ -38,7 +38,7 @@ use Rattle.state.specs.declared.Settings.{Settings}
 use Rattle.state.specs.declared.State.{State}
 use Rattle.state.specs.View.{storedText, shown, shownBytes, valueAt}
 use Rattle.state.specs.Fit.{settingsUnfit, isUnfit}
-use Rattle.state.proofs.Flags.{neither}
+use Rattle.ascii.proofs.Lists.{neither}
 use Rattle.state.proofs.Settled.{each-fit, fit-parts}
 use Rattle.state.proofs.Stands.{was-read, value-held}
 use Rattle.fitness.proofs.Whole.{drop-there, past-64}

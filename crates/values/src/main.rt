@@ -27,7 +27,7 @@ fn write_fit(info: &[u8], text: &[u8], stored: &mut [u8])
 fn write_verdict(info: &[u8], text: &[u8], stored: &mut [u8])
     requires { ⌜ ReadableAt (now info) 0 4 ⌝ }
 {
-    match fit::fit::verdict(info, 0, text) {
+    match form::verdict(info, 0, text) {
         Verdict::Fits => {
             write_fit(info, text, stored);
         }

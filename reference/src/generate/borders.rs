@@ -39,6 +39,9 @@ pub fn all() -> Vec<Border> {
     add("name of 63 bytes", &with_name(63), 0);
     add("name of 64 bytes", &with_name(64), 3);
     add("initial value of 256 bytes", &with_initial(256), 0);
+    for (name, initial, number) in initial_members() {
+        add(name, &with_mode(initial), number);
+    }
     add("initial value of 257 bytes", &with_initial(257), 5);
     add("initial blob of 189 bytes", &with_initial_blob(189), 0);
     add("initial blob of 190 bytes", &with_initial_blob(190), 5);
@@ -198,6 +201,26 @@ fn with_initial_of_blob(text: &str) -> Table {
 
 fn with_initial_of_scaled(initial: &str) -> Table {
     table(vec![parameter("p", scaled((1, -3), -7, 7), initial)])
+}
+
+/// Initial values of a list of enum members. A name is no stored form, even
+/// where the number is as long, and where it is the same bytes but for quotes.
+fn initial_members() -> [(&'static str, &'static str, u8); 7] {
+    [
+        ("initial members by number", "[1000,-0]", 0),
+        ("an initial member by name", "[\"on\"]", 5),
+        ("the second initial member by name", "[0,\"off\"]", 5),
+        ("an initial member by no name", "[\"On\"]", 5),
+        ("an initial member by its number quoted", "[\"0\"]", 5),
+        ("an initial member with a space", "[ 0]", 5),
+        ("no initial member", "[1]", 5),
+    ]
+}
+
+/// A table with a parameter of at most two enum members, and its initial value.
+fn with_mode(initial: &str) -> Table {
+    let modes = parts::enumeration(&[("off", 0), ("on", 1_000)]);
+    table(vec![parameter("modes", array(0, 2, modes), initial)])
 }
 
 /// A table of so many bytes with a report well below its limit.

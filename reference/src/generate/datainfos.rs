@@ -162,7 +162,11 @@ fn array(random: &mut Random, levels: usize) -> Datainfo {
     Datainfo::Array {
         minlen,
         maxlen,
-        members: Box::new(good(random, levels - 1)),
+        members: Box::new(if random.one_in(4) {
+            enumeration(random)
+        } else {
+            good(random, levels - 1)
+        }),
     }
 }
 

@@ -50,6 +50,9 @@ fn over_good_tables() -> Vec<(&'static str, Script)> {
         ("stored forms of 256 and 257 bytes", stored_forms()),
         ("tokens and powers", tokens_and_powers()),
         ("minus zero and enum members", whole_numbers()),
+        ("enum members by name", members_by_name()),
+        ("enum members inside others", members_inside()),
+        ("lengths after the exchange", exchanged_lengths()),
         ("whole numbers of a scaled", scaled_numbers()),
         ("sizes of a blob", blob_sizes()),
         ("scaled and blobs inside", scaled_and_blobs_inside()),
@@ -300,6 +303,62 @@ fn scaled_and_blobs_inside() -> Script {
     ])
 }
 
+/// A name is exchanged for its member's number in changes, readings and
+/// arguments; what is no name, by its raw bytes, is out of range.
+fn members_by_name() -> Script {
+    let modes = || enumeration(&[("off", 0), ("on", -10)]);
+    started(vec![
+        parameter("m", modes(), "0"),
+        command("go", Some(modes())),
+    ])
+    .open(0)
+    .line(0, "activate")
+    .lines(&[
+        r#"change t1:m "on""#,
+        r#"change t1:m "On""#,
+        r#"change t1:m "\u006fn""#,
+        "change t1:m true",
+        r#"do t1:go  "on" "#,
+    ])
+    .reading(0, r#""off""#)
+    .reading(0, r#""""#)
+    .line(0, "read t1:m")
+}
+
+/// At any depth; keys are no values, and a string is no enum member. A type
+/// fault anywhere wins over a name that nobody has.
+fn members_inside() -> Script {
+    let on = enumeration(&[("on", 1)]);
+    let both = structure(&[("on", string(0, 9)), ("l", array(0, 2, on))]);
+    started(vec![parameter("s", both, r#"{"on":"","l":[]}"#)])
+        .open(0)
+        .lines(&[
+            r#"change t1:s {"l":["on",1],"on":"on"}"#,
+            r#"change t1:s {"l":["on","no"],"on":"on"}"#,
+            r#"change t1:s {"l":["no"],"on":1}"#,
+            "read t1:s",
+        ])
+}
+
+/// 22 short names become 256 bytes, or 257; 126 numbers of one byte and one of
+/// two, some of them written as longer names, are 256 in all.
+fn exchanged_lengths() -> Script {
+    let members = [("a", i32::MIN), ("one_digit", 7), ("b", 10), ("c", 100)];
+    let list = array(0, 300, enumeration(&members));
+    let long = |last| format!(r#"change t1:l [{}"{last}"]"#, r#""a","#.repeat(21));
+    let short = |last| {
+        let names = r#""one_digit",7,"#.repeat(50);
+        format!("change t1:l [{names}{}{last}]", "7,".repeat(26))
+    };
+    started(vec![parameter("l", list, "[]")])
+        .open(0)
+        .line(0, &long("b"))
+        .line(0, &long("c"))
+        .line(0, &short("10"))
+        .line(0, &short(r#""c""#))
+        .line(0, "read t1:l")
+}
+
 fn refused_opens_and_closes() -> Script {
     started(Vec::new())
         .at(MAX_TIME)
@@ -458,6 +517,7 @@ fn over_faulty_tables() -> Vec<(&'static str, Script)> {
         ("no module and a bad text", over(no_module_and_bad_text())),
         ("enum with all twice", over(name_and_value_twice())),
         ("limits and initial value", over(limits_and_initial_value())),
+        ("initial value by name", over(initial_value_by_name())),
         (
             "unfit initial value and short start",
             with_open(short_start),
@@ -512,4 +572,10 @@ fn name_and_value_twice() -> Vec<u8> {
 
 fn limits_and_initial_value() -> Vec<u8> {
     encode::table(&one_module(vec![parameter("p", string(1, 0), "2")]))
+}
+
+/// The name in quotes is as long as the number.
+fn initial_value_by_name() -> Vec<u8> {
+    let modes = enumeration(&[("off", 0), ("on", 1_000)]);
+    encode::table(&one_module(vec![parameter("m", modes, r#""on""#)]))
 }

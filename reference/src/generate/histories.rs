@@ -221,7 +221,7 @@ impl Host {
         let text = if self.random.one_in(3) {
             values::any(&mut self.random, parameter.datainfo)
         } else {
-            values::fitting(&mut self.random, parameter.datainfo)
+            values::sent(&mut self.random, parameter.datainfo)
         };
         self.report(parameter.number as u64, text);
     }

@@ -3,9 +3,10 @@
 use crate::name::MAX_NAME;
 use crate::random::Random;
 
-const WORDS: [&str; 16] = [
+/// The last ones look like words or numbers of JSON.
+const WORDS: [&str; 20] = [
     "value", "target", "status", "mode", "ramp", "stop", "go", "reset", "t1", "mf", "a", "b", "x",
-    "_raw", "on", "off",
+    "_raw", "on", "off", "true", "null", "e5", "_1",
 ];
 const FIRST: &[u8] = b"abcdefghijklmnopqrstuvwxyzABCDEFGHIJKLMNOPQRSTUVWXYZ_";
 const LATER: &[u8] = b"abcdefghijklmnopqrstuvwxyzABCDEFGHIJKLMNOPQRSTUVWXYZ_0123456789";

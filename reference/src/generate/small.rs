@@ -215,12 +215,12 @@ fn change_seen_by_two(stage: &mut Stage) {
     stage.open(3);
     stage.line(3, "activate");
     stage.one_of(&["activate", "activate t1", "activate mf"]);
-    stage.change(0, values::fitting);
-    stage.change(3, values::fitting);
+    stage.change(0, values::sent);
+    stage.change(3, values::sent);
 }
 
 fn good_change(stage: &mut Stage) {
-    stage.change(0, values::fitting);
+    stage.change(0, values::sent);
     stage.change(0, values::any);
     let (_, specifier, _) = stage.some_parameter(true);
     stage.line(0, format!("read {specifier}"));
@@ -292,7 +292,7 @@ fn good_command(stage: &mut Stage) {
 fn reading(stage: &mut Stage) {
     stage.one_of(&["activate", "activate t1", "activate mf"]);
     let (number, specifier, datainfo) = stage.some_parameter(false);
-    let value = stage.short_value(&datainfo, values::fitting);
+    let value = stage.short_value(&datainfo, values::sent);
     stage.host.report(number, value);
     stage.line(0, format!("read {specifier}"));
     let value = stage.short_value(&datainfo, values::any);

@@ -1,9 +1,10 @@
 //! Values for a datainfo, as JSON texts: fitting ones in many spellings, ones
 //! near the limits, of a wrong type, broken ones and odd corners of JSON.
 
-use super::datainfos;
+use super::{datainfos, names};
 use crate::base64;
 use crate::datainfo::{Datainfo, Limit};
+use crate::json::{self, Json, Text};
 use crate::random::Random;
 
 /// Texts that try the corners of RFC 8259 and of the value rules.
@@ -64,6 +65,11 @@ pub fn any(random: &mut Random, datainfo: &Datainfo) -> Vec<u8> {
             damaged(random, text)
         }
     };
+    let text = if random.one_in(2) {
+        with_names(random, datainfo, &text)
+    } else {
+        text
+    };
     if random.one_in(3) {
         with_spaces(random, &text)
     } else {
@@ -71,10 +77,63 @@ pub fn any(random: &mut Random, datainfo: &Datainfo) -> Vec<u8> {
     }
 }
 
-/// A fitting value without spaces outside strings. It is over 256 bytes only
-/// where the datainfo asks for much.
+/// A fitting value in stored form: without spaces outside strings, enum
+/// members by their numbers. It is over 256 bytes only where the datainfo asks
+/// for much.
 pub fn fitting(random: &mut Random, datainfo: &Datainfo) -> Vec<u8> {
     Writer { random, odd_in: 0 }.value(datainfo)
+}
+
+/// A fitting value as it may be sent, some enum members by their names.
+pub fn sent(random: &mut Random, datainfo: &Datainfo) -> Vec<u8> {
+    let value = fitting(random, datainfo);
+    with_names(random, datainfo, &value)
+}
+
+/// The value with the names of some enum members in the place of their
+/// numbers, at any depth, and without spaces; what is no JSON stays.
+pub fn with_names(random: &mut Random, datainfo: &Datainfo, text: &[u8]) -> Vec<u8> {
+    match json::read(text) {
+        Some(value) => named(random, datainfo, value).stored_form(),
+        None => text.to_vec(),
+    }
+}
+
+fn named(random: &mut Random, datainfo: &Datainfo, value: Json) -> Json {
+    match (datainfo, value) {
+        (Datainfo::Enum(members), Json::Number(number)) => {
+            let one = members
+                .iter()
+                .find(|(_, value)| value.to_string().as_bytes() == number.token);
+            match one {
+                Some((name, _)) if !random.one_in(4) => Json::String(Text { raw: name.clone() }),
+                _ => Json::Number(number),
+            }
+        }
+        (Datainfo::Array { members, .. }, Json::Array(elements)) => {
+            let elements = elements.into_iter();
+            Json::Array(elements.map(|one| named(random, members, one)).collect())
+        }
+        (Datainfo::Tuple(members), Json::Array(elements)) if members.len() == elements.len() => {
+            let pairs = members.iter().zip(elements);
+            Json::Array(
+                pairs
+                    .map(|(member, one)| named(random, member, one))
+                    .collect(),
+            )
+        }
+        (Datainfo::Struct(members), Json::Object(sent)) => {
+            let sent = sent.into_iter().map(|(key, value)| {
+                let member = members.iter().find(|(name, _)| *name == key.raw);
+                match member {
+                    Some((_, member)) => (key, named(random, member, value)),
+                    None => (key, value),
+                }
+            });
+            Json::Object(sent.collect())
+        }
+        (_, value) => value,
+    }
 }
 
 /// A value just outside the limits, or of nearly the right kind.
@@ -83,7 +142,8 @@ pub fn nearly_fitting(random: &mut Random, datainfo: &Datainfo) -> Vec<u8> {
 }
 
 /// A fitting value of exactly so many bytes, where the datainfo holds a
-/// string, a blob or a list of bools that can be stretched.
+/// string, a blob, a list of bools or a list of enum members that can be
+/// stretched.
 pub fn fitting_of_length(
     random: &mut Random,
     datainfo: &Datainfo,
@@ -113,6 +173,18 @@ pub fn fitting_of_length(
             let counts = usize::from(*minlen)..=usize::from(*maxlen);
             bools_of_length(length)
                 .filter(|text| counts.contains(&text.split(|&byte| byte == b',').count()))
+        }
+        Datainfo::Array {
+            minlen,
+            maxlen,
+            members,
+        } if matches!(**members, Datainfo::Enum(_)) => {
+            let counts = usize::from(*minlen)..=usize::from(*maxlen);
+            let lists = (0..8).filter_map(|_| numbers_of_length(random, members, length));
+            lists
+                .collect::<Vec<_>>()
+                .into_iter()
+                .find(|text| counts.contains(&text.split(|&byte| byte == b',').count()))
         }
         Datainfo::Array {
             minlen,
@@ -171,6 +243,20 @@ fn bools_of_length(length: usize) -> Option<Vec<u8>> {
     let words = std::iter::repeat_n("true", trues).chain(std::iter::repeat_n("false", falses));
     let words: Vec<_> = words.map(|word| word.as_bytes().to_vec()).collect();
     Some(list(&words)).filter(|text| text.len() == length)
+}
+
+/// A list of an enum's numbers, of the length wanted if the last ones happen to
+/// fill it: with commas and brackets each takes a byte more than its digits,
+/// and one byte remains.
+fn numbers_of_length(random: &mut Random, datainfo: &Datainfo, length: usize) -> Option<Vec<u8>> {
+    let mut rest = length.checked_sub(1)?;
+    let mut elements = Vec::new();
+    while rest > 0 {
+        let number = fitting(random, datainfo);
+        rest = rest.checked_sub(number.len() + 1)?;
+        elements.push(number);
+    }
+    Some(list(&elements))
 }
 
 fn around_256(random: &mut Random, datainfo: &Datainfo) -> Vec<u8> {
@@ -434,9 +520,9 @@ impl Writer<'_> {
             Datainfo::Enum(members) => {
                 let (name, value) = self.random.pick(members).clone();
                 let step = *self.random.pick(&[-1, 1, 1 << 32]);
-                match self.random.below(3) {
-                    0 => quoted(&name),
-                    1 => format!("{value}.0").into_bytes(),
+                match self.random.below(4) {
+                    0..=1 => self.odd_name(&name, value),
+                    2 => format!("{value}.0").into_bytes(),
                     _ => (i128::from(value) + step).to_string().into_bytes(),
                 }
             }
@@ -464,6 +550,29 @@ impl Writer<'_> {
             }
             Datainfo::Struct(members) => self.odd_struct(members),
         }
+    }
+
+    /// A string that nearly is a member's name: its letters in another case, a
+    /// letter escaped, one too many or too few, a space; or the number quoted.
+    fn odd_name(&mut self, name: &[u8], value: i32) -> Vec<u8> {
+        let mut text = name.to_vec();
+        let at = self.random.below(text.len());
+        match self.random.below(8) {
+            0 => text = names::other_case(self.random, name),
+            1 => {
+                let escape = format!("\\u{:04x}", text[at]);
+                text.splice(at..=at, escape.bytes());
+            }
+            2 => {
+                text.remove(at);
+            }
+            3 => text.push(text[at]),
+            4 => text.insert(at, *self.random.pick(b" 0_\x7f")),
+            5 => text.extend(self.random.pick(&ESCAPES).bytes()),
+            6 => text = value.to_string().into_bytes(),
+            _ => {}
+        }
+        quoted(&text)
     }
 
     /// A number on or very near a limit, on either side of it.

@@ -48,11 +48,13 @@ impl ValueCase {
 }
 
 /// The examples E1 to E8, the corners for each type, blobs of sizes around
-/// limits, then random values; what is too long is left out.
+/// limits, enum members by name, then random values; what is too long is left
+/// out.
 pub fn value_cases(seed: u64, count: usize) -> Vec<ValueCase> {
     let mut cases = examples();
     cases.extend(corners());
     cases.extend(sizes());
+    cases.extend(named_members());
     cases.extend(random_values(seed, count));
     cases.retain(ValueCase::is_short);
     cases
@@ -134,6 +136,136 @@ fn sizes() -> Vec<ValueCase> {
             cases.push(ValueCase::new(members, &object));
             cases.push(ValueCase::new(datainfo, &text));
         }
+    }
+    cases
+}
+
+/// Enum members by name, alone and inside others; what nearly is a name; and
+/// stored forms around 256 bytes that are shorter or longer than what is sent.
+fn named_members() -> Vec<ValueCase> {
+    let mut cases = Vec::new();
+    let members = named_of_many_kinds();
+    let names = members.iter().map(|(name, _)| name.as_str());
+    let modes = enumeration(&names.clone().zip(-4..).collect::<Vec<_>>());
+    let numbers = members
+        .iter()
+        .map(|(name, number)| (name.as_str(), *number));
+    let others = enumeration(&numbers.collect::<Vec<_>>());
+    let quoted_names = names.map(|name| format!("\"{name}\""));
+    let spellings = NEARLY_NAMES.iter().map(|text| text.to_string());
+    for text in quoted_names.chain(spellings) {
+        for datainfo in [&modes, &others] {
+            let mut add = |datainfo, text: &str| cases.push(ValueCase::new(datainfo, text));
+            add(datainfo.clone(), &text);
+            add(array(0, 2, datainfo.clone()), &format!("[1, {text} ]"));
+            let tuple = Datainfo::Tuple(vec![string(0, 99), datainfo.clone(), Datainfo::Bool]);
+            add(tuple.clone(), &format!("[{text},{text},true]"));
+            add(tuple, &format!("[\"on\",{text},\"on\"]"));
+            let object = structure(&[("on", datainfo.clone()), ("off", string(0, 99))]);
+            add(object, &format!("{{\"off\":\"on\",\"on\":{text}}}"));
+            let deep = structure(&[("a", array(0, 1, Datainfo::Tuple(vec![datainfo.clone()])))]);
+            add(deep, &format!("{{\"a\":[[{text}]]}}"));
+        }
+    }
+    cases.extend(exchanged_lengths());
+    cases
+}
+
+/// Names that look like words or numbers of JSON, names longer than a number
+/// may be, the longest; numbers as long as their names in quotes, the ends.
+fn named_of_many_kinds() -> Vec<(String, i32)> {
+    let short = [
+        ("on", 1_000),
+        ("off", 0),
+        ("true", -1),
+        ("null", 100_000),
+        ("e5", 5),
+        ("_1", 1),
+        ("NaN", i32::MAX),
+        ("a", i32::MIN),
+        ("A0", 10),
+    ];
+    let long = [(32, 2), (33, 3), (63, 4)];
+    let short = short.map(|(name, number)| (name.to_string(), number));
+    let long = long.map(|(length, number)| ("n".repeat(length), number));
+    short.into_iter().chain(long).collect()
+}
+
+/// What is no name of them, whatever it looks like.
+const NEARLY_NAMES: &[&str] = &[
+    "\"On\"",
+    "\"ON\"",
+    "\"o\"",
+    "\"onn\"",
+    "\"on \"",
+    "\" on\"",
+    "\"\"",
+    "\" \"",
+    "\"1\"",
+    "\"1000\"",
+    "\"-0\"",
+    "\"0\"",
+    "\"nobody\"",
+    "\"\\u006fn\"",
+    "\"o\\u006E\"",
+    "\"on\\u0000\"",
+    "\"on\\n\"",
+    "\"\\/\"",
+    "\"\\\"on\\\"\"",
+    "\"\\u0080\"",
+    "\"\\x\"",
+    "\"on",
+    "on\"",
+    "'on'",
+    "on",
+    "-0",
+    "1",
+    "1000",
+    "-2147483648",
+    "01",
+    "1.0",
+    "1e3",
+    "true",
+    "null",
+    "[\"on\"]",
+    "{\"on\":1}",
+    "111111111111111111111111111111111",
+    "\"nnnnnnnnnnnnnnnnnnnnnnnnnnnnnnnnnnnnnnnnnnnnnnnnnnnnnnnnnnnnnnnn\"",
+];
+
+/// Lists of members with stored forms of 254 to 259 bytes: by names alone,
+/// shorter or longer than these, and by names and numbers mixed.
+fn exchanged_lengths() -> Vec<ValueCase> {
+    let members = [
+        ("a", i32::MIN),
+        ("number_of_one_digit", 7),
+        ("b", 10),
+        ("c", 100),
+        ("d", 1_000),
+        ("e", 10_000),
+        ("f", 100_000),
+        ("g", 1_000_000),
+    ];
+    let datainfo = array(0, 999, enumeration(&members));
+    let name = |at: usize| format!("\"{}\"", members[at].0);
+    let number = |at: usize| members[at].1.to_string();
+    let list = |elements: &[String]| format!("[{}]", elements.join(","));
+    let mut cases = Vec::new();
+    for last in 1..members.len() {
+        // 21 of eleven bytes and their commas take 252 bytes.
+        let long: Vec<String> = (0..21).map(|_| name(0)).chain([name(last)]).collect();
+        cases.push(ValueCase::new(datainfo.clone(), &list(&long)));
+        // 84 of one byte, a comma after each, and 7 of eleven.
+        let short = (0..84).map(|_| name(1)).chain((0..7).map(|_| name(0)));
+        let short: Vec<String> = short.chain([name(last)]).collect();
+        cases.push(ValueCase::new(datainfo.clone(), &list(&short)));
+        let mixed = (0..84).map(|at| if at % 2 == 0 { name(1) } else { number(1) });
+        let mixed: Vec<String> = mixed.chain((0..7).map(|_| name(0))).collect();
+        let mixed: Vec<String> = mixed.into_iter().chain([number(last)]).collect();
+        cases.push(ValueCase::new(datainfo.clone(), &list(&mixed)));
+        // A type fault wins over the length.
+        let wrong: Vec<String> = long.into_iter().chain(["true".to_string()]).collect();
+        cases.push(ValueCase::new(datainfo.clone(), &list(&wrong)));
     }
     cases
 }

@@ -405,6 +405,83 @@ fn minus_zero_and_enum_members() {
 }
 
 #[test]
+fn enum_members_by_name() {
+    assert_course(
+        "enum members by name",
+        r#"
+        @1000 start
+        @2000 open 0
+        @3000 0 > activate\n
+        0 * update t1:m [0,{"t":1.000}]
+        0 < active
+        @4000 0 > change t1:m "on"\n
+        0 DR 0 -10
+        0 * update t1:m [-10,{"t":4.000}]
+        0 < changed t1:m [-10,{"t":4.000}]
+        @5000 0 > change t1:m "On"\n
+        0 < error_change t1:m ["RangeError","value is out of range",{}]
+        @6000 0 > change t1:m "\u006fn"\n
+        0 < error_change t1:m ["RangeError","value is out of range",{}]
+        @7000 0 > change t1:m true\n
+        0 < error_change t1:m ["WrongType","value has the wrong type",{}]
+        @8000 0 > do t1:go  "on" \n
+        0 DC 0 -10
+        0 < done t1:go [null,{"t":8.000}]
+        @9000 reading 0 "off"
+        0 * update t1:m [0,{"t":9.000}]
+        @10000 reading 0 "" = 15
+        @11000 0 > read t1:m\n
+        0 < reply t1:m [0,{"t":9.000}]
+        "#,
+    );
+}
+
+#[test]
+fn enum_members_inside_others() {
+    assert_course(
+        "enum members inside others",
+        r#"
+        @1000 start
+        @2000 open 0
+        @3000 0 > change t1:s {"l":["on",1],"on":"on"}\n
+        0 DR 0 {"l":[1,1],"on":"on"}
+        0 < changed t1:s [{"l":[1,1],"on":"on"},{"t":3.000}]
+        @4000 0 > change t1:s {"l":["on","no"],"on":"on"}\n
+        0 < error_change t1:s ["RangeError","value is out of range",{}]
+        @5000 0 > change t1:s {"l":["no"],"on":1}\n
+        0 < error_change t1:s ["WrongType","value has the wrong type",{}]
+        @6000 0 > read t1:s\n
+        0 < reply t1:s [{"l":[1,1],"on":"on"},{"t":3.000}]
+        "#,
+    );
+}
+
+#[test]
+fn lengths_after_the_exchange() {
+    let answers = history("lengths after the exchange").run().unwrap().answers;
+    let replies: Vec<String> = answers[2..]
+        .iter()
+        .map(|answer| shown(&outbox::read(&answer.outbox).unwrap()).join("; "))
+        .collect();
+    let long = format!("[{}10]", "-2147483648,".repeat(21));
+    let short = format!("[{}10]", "7,".repeat(126));
+    assert_eq!((long.len(), short.len()), (256, 256));
+    let refused = r#"0 < error_change t1:l ["RangeError","value is out of range",{}]"#;
+    let changed =
+        |value, time| format!("0 DR 0 {value}; 0 < changed t1:l [{value},{{\"t\":{time}.000}}]");
+    assert_eq!(
+        replies,
+        [
+            changed(&long, 3),
+            refused.to_string(),
+            changed(&short, 5),
+            refused.to_string(),
+            format!("0 < reply t1:l [{short},{{\"t\":5.000}}]"),
+        ]
+    );
+}
+
+#[test]
 fn refused_opens_and_closes() {
     assert_course(
         "refused opens and closes",

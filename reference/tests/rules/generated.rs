@@ -2,6 +2,7 @@
 
 use crate::build::line_of;
 use crate::watch::{watch, Seen};
+use reference::datainfo::Datainfo;
 use reference::error::ErrorClass;
 use reference::generate::{
     borders, datainfos, directed, encode, histories, second, small, tables, values,
@@ -117,7 +118,7 @@ fn any_tables_have_the_number_that_is_known() {
 }
 
 /// A datainfo with its own generator.
-fn some_datainfos(count: u64) -> impl Iterator<Item = (reference::datainfo::Datainfo, Random)> {
+fn some_datainfos(count: u64) -> impl Iterator<Item = (Datainfo, Random)> {
     (0..count).map(|seed| {
         let mut random = Random::new(seed);
         let levels = random.between(1, 4);
@@ -172,14 +173,43 @@ fn without_spaces(text: &[u8]) -> Vec<u8> {
         .collect()
 }
 
+fn has_enum(datainfo: &Datainfo) -> bool {
+    let inner = datainfo.inner();
+    matches!(datainfo, Datainfo::Enum(_)) || inner.into_iter().any(has_enum)
+}
+
+/// Names are put in at any depth, so that texts of all lengths meet the limit.
+#[test]
+fn sent_values_are_stored_as_the_fitting_ones_they_are_made_of() {
+    let (mut grown, mut shrunk) = (0, 0);
+    for (datainfo, mut random) in some_datainfos(6_000) {
+        let longest = values::fitting_of_length(&mut random, &datainfo, 256);
+        let value = longest.unwrap_or_else(|| values::fitting(&mut random, &datainfo));
+        let sent = values::with_names(&mut random, &datainfo, &value);
+        let judged = judge(&datainfo, &sent);
+        if value.len() <= 256 {
+            grown += usize::from(value.len() == 256 && sent.len() < 256);
+            shrunk += usize::from(value.len() == 256 && sent.len() > 256);
+            assert_eq!(judged, Ok(value), "{datainfo:?}");
+        } else {
+            assert_eq!(judged, Err(ValueFault::RangeError), "{datainfo:?}");
+        }
+    }
+    assert!(grown > 0 && shrunk > 20, "{grown} {shrunk}");
+}
+
 #[test]
 fn any_values_get_every_judgement() {
     let mut counts = [0; 4];
+    let mut exchanged = 0;
     for (datainfo, mut random) in some_datainfos(6_000) {
         let value = values::any(&mut random, &datainfo);
         match judge(&datainfo, &value) {
             Ok(stored) => {
-                assert_eq!(stored, without_spaces(&value));
+                if stored != without_spaces(&value) {
+                    assert!(has_enum(&datainfo), "{datainfo:?}");
+                    exchanged += 1;
+                }
                 assert_eq!(judge(&datainfo, &stored), Ok(stored));
                 counts[0] += 1;
             }
@@ -192,6 +222,7 @@ fn any_values_get_every_judgement() {
         }
     }
     assert!(counts.iter().all(|&count| count > 300), "{counts:?}");
+    assert!(exchanged > 100, "{exchanged}");
 }
 
 /// The histories that the tests below look at.

@@ -127,6 +127,25 @@ fn unfit_settings() {
     assert_fit(&[Poke::StoredLength(2, 257), Poke::StoredTime(2, u64::MAX)]);
 }
 
+/// Stored values have numbers: a name is unfit, even one as long as its number.
+#[test]
+fn unfit_names() {
+    let modes = enumeration(&[("off", 0), ("on", 1_000)]);
+    let table = one_module(&[pa("m", "", 0, &modes, b"0")]);
+    let mut kept = Kept::new(VALUES);
+    for call in [start(), open(0), reading(0, "\"on\"")] {
+        assert_eq!(kept.call(&table, &call).number, 0);
+    }
+    assert!(kept.values.starts_with(b"1000\0") && kept.is_fit(&table));
+    for name in ["\"on\"", "\"off\"", "\"no\""] {
+        let mut named = kept.clone();
+        for poke in value(name) {
+            poke.apply(&mut named);
+        }
+        assert!(!named.is_fit(&table), "{name}");
+    }
+}
+
 #[test]
 fn unfit_clients() {
     let line = |bytes: &str, length| {

@@ -354,7 +354,7 @@ fn errors_of_each_class_in_their_order() {
         ("change t1:target", "WrongType"),
         ("change t1:target    ", "WrongType"),
         ("change t1:target null", "WrongType"),
-        ("change mf:mode \"on\"", "WrongType"),
+        ("change mf:mode [\"on\"]", "WrongType"),
         ("change mf:target 1.0", "WrongType"),
         ("do t1:stop 0", "WrongType"),
         ("do t1:stop [null]", "WrongType"),
@@ -365,6 +365,8 @@ fn errors_of_each_class_in_their_order() {
         ("change t1:target 300.0000000000000000001", "RangeError"),
         ("change mf:target 11", "RangeError"),
         ("change mf:mode 2", "RangeError"),
+        ("change mf:mode \"On\"", "RangeError"),
+        ("change mf:mode \"\\u006fn\"", "RangeError"),
         ("change mf:label \"\\u00e9\"", "RangeError"),
         ("do mf:go 10", "RangeError"),
     ];

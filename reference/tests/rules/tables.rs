@@ -431,6 +431,16 @@ fn number_5_initial_values() {
     for bad in ["\"\"", "\"Zm9vYg==\"", "\"Zm9\"", "\"Zm9v\" ", "1"] {
         assert_eq!(parameter_number(&blob(1, 3), bad.as_bytes()), 5, "{bad}");
     }
+    // Initial values keep numbers: a name is no stored form, even one that is
+    // as long as its number.
+    let modes = enumeration(&[("off", 0), ("on", 1_000)]);
+    assert_eq!(parameter_number(&modes, b"1000"), 0);
+    assert_eq!(parameter_number(&modes, b"\"on\""), 5);
+    assert_eq!(parameter_number(&modes, b"\"off\""), 5);
+    assert_eq!(parameter_number(&modes, b"\"1000\""), 5);
+    let inside = tuple(&[string(0, 9), array(0, 9, &modes)]);
+    assert_eq!(parameter_number(&inside, br#"["on",[0]]"#), 0);
+    assert_eq!(parameter_number(&inside, br#"["on",["on"]]"#), 5);
     // A readonly parameter's initial value is judged too.
     let readonly = pa("p", "", 1, &boolean(), b"0");
     assert_eq!(number(&one_module(&[readonly])), 5);

@@ -402,8 +402,163 @@ fn enum_takes_the_numbers_of_its_members() {
     assert_faults(
         &members,
         WrongType,
-        &["\"on\"", "1.0", "1e0", "true", "null"],
+        &[
+            "1.0",
+            "1e0",
+            "true",
+            "null",
+            "[]",
+            "{}",
+            "[\"on\"]",
+            "{\"on\":1}",
+        ],
     );
+}
+
+/// Each text fits and is stored as the other.
+fn assert_stored(bytes: &[u8], pairs: &[(&str, &str)]) {
+    for (text, stored) in pairs {
+        assert_eq!(judged(bytes, text), Ok(stored.to_string()), "{text}");
+    }
+}
+
+#[test]
+fn an_enum_takes_the_names_of_its_members_too() {
+    let longest = "n".repeat(63);
+    let members = enumeration(&[
+        ("off", 0),
+        ("on", 1),
+        ("low", i32::MIN),
+        ("high", i32::MAX),
+        ("true", -7),
+        ("null", 8),
+        ("e5", 6),
+        ("_1", 5),
+        (&longest, 9),
+        (&longest[..33], 10),
+    ]);
+    assert_stored(
+        &members,
+        &[
+            ("\"off\"", "0"),
+            ("\"on\"", "1"),
+            ("  \"on\"  ", "1"),
+            ("\"low\"", "-2147483648"),
+            ("\"high\"", "2147483647"),
+            ("\"true\"", "-7"),
+            ("\"null\"", "8"),
+            ("\"e5\"", "6"),
+            ("\"_1\"", "5"),
+            (&format!("\"{longest}\""), "9"),
+            (&format!("\"{}\"", &longest[..33]), "10"),
+            // Numbers stay as they are sent.
+            ("-0", "-0"),
+            ("1", "1"),
+        ],
+    );
+    // Names are compared by raw bytes: case, spaces and escapes tell apart.
+    assert_faults(
+        &members,
+        RangeError,
+        &[
+            "\"\"",
+            "\"On\"",
+            "\"ON\"",
+            "\"o\"",
+            "\"onn\"",
+            "\" on\"",
+            "\"on \"",
+            "\"1\"",
+            "\"0\"",
+            "\"-0\"",
+            "\"\\u006fn\"",
+            "\"o\\u006e\"",
+            "\"on\\u0000\"",
+            "\"\\u0080\"",
+            "\"\\\"on\\\"\"",
+            &format!("\"{longest}n\""),
+            &format!("\"{}\"", &longest[..62]),
+        ],
+    );
+    assert_faults(
+        &members,
+        BadJson,
+        &["\"on", "on\"", "\"\\on\"", "'on'", "on"],
+    );
+    assert_faults(&members, WrongType, &["true", "null"]);
+}
+
+#[test]
+fn names_are_exchanged_at_any_depth_where_an_enum_is() {
+    let mode = enumeration(&[("off", 0), ("on", 12)]);
+    let deep = structure(&[
+        ("on", tuple(&[mode.clone(), string(0, 9)])),
+        ("off", array(0, 3, &tuple(&[mode.clone()]))),
+    ]);
+    assert_stored(
+        &deep,
+        &[
+            (
+                r#"{"on":["on","on"],"off":[["off"],[0],["on"]]}"#,
+                r#"{"on":[12,"on"],"off":[[0],[0],[12]]}"#,
+            ),
+            (
+                r#" { "off" : [ ] , "on" : [ "off" , " \"on" ] } "#,
+                r#"{"off":[],"on":[0," \"on"]}"#,
+            ),
+        ],
+    );
+    // Another enum's name is none of this one's.
+    let other = tuple(&[enumeration(&[("on", 1)]), enumeration(&[("off", 2)])]);
+    assert_stored(&other, &[(r#"["on","off"]"#, "[1,2]")]);
+    assert_faults(&other, RangeError, &[r#"["off","off"]"#, r#"["off","on"]"#]);
+    // Of an int or a double no name is right.
+    let numbers = tuple(&[int(0, 9), double((0, 0), (9, 0)), mode]);
+    assert_faults(
+        &numbers,
+        WrongType,
+        &[r#"["on",1,"on"]"#, r#"[1,"on","on"]"#],
+    );
+}
+
+#[test]
+fn a_type_fault_wins_over_a_name_that_nobody_has() {
+    let mode = enumeration(&[("off", 0), ("on", 1)]);
+    let pair = tuple(&[mode.clone(), int(0, 9)]);
+    assert_faults(&pair, RangeError, &[r#"["nobody",1]"#, r#"["nobody",10]"#]);
+    assert_faults(
+        &pair,
+        WrongType,
+        &[r#"["nobody",true]"#, r#"["nobody"]"#, r#"["nobody","on"]"#],
+    );
+    let both = structure(&[("a", mode.clone()), ("b", mode.clone())]);
+    assert_faults(&both, RangeError, &[r#"{"a":"nobody","b":"on"}"#]);
+    assert_faults(
+        &both,
+        WrongType,
+        &[r#"{"a":"nobody","b":true}"#, r#"{"a":"nobody"}"#],
+    );
+    assert_faults(&array(0, 1, &mode), RangeError, &[r#"["on","on"]"#]);
+}
+
+#[test]
+fn the_256_bytes_are_counted_after_the_exchange() {
+    let mode = enumeration(&[("a", i32::MIN), ("number_7", 7), ("b", 10), ("c", 100)]);
+    let list = array(0, 300, &mode);
+    // 21 times eleven bytes and a comma are 252, the brackets 2, then 10 or 100.
+    let grown = |last: &str| format!("[{}{last}]", "\"a\",".repeat(21));
+    let numbers = |last: &str| format!("[{}{last}]", "-2147483648,".repeat(21));
+    assert_eq!(numbers("10").len(), 256);
+    assert_eq!(judged(&list, &grown("\"b\"")), Ok(numbers("10")));
+    assert_eq!(judged(&list, &grown("10")), Ok(numbers("10")));
+    assert_faults(&list, RangeError, &[&grown("\"c\""), &grown("100")]);
+    // 126 times a digit and a comma are 252 too.
+    let shrunk = |last: &str| format!("[{}{last}]", "\"number_7\",".repeat(126));
+    let digits = format!("[{}10]", "7,".repeat(126));
+    assert_eq!(digits.len(), 256);
+    assert_eq!(judged(&list, &shrunk("\"b\"")), Ok(digits));
+    assert_faults(&list, RangeError, &[&shrunk("\"c\""), &shrunk("100")]);
+    assert_faults(&list, WrongType, &[&shrunk("true"), &grown("\"c\",true")]);
 }
 
 #[test]

@@ -12,6 +12,9 @@ use reference::text::from_hex;
 /// Blobs of 16 sizes for 10 pairs of limits, alone and in two others.
 const SIZES: usize = 10 * 16 * 3;
 
+/// 50 strings for two enums, alone and in five others, and 28 long lists.
+const NAMED: usize = 50 * 2 * 6 + 28;
+
 /// A datainfo, a text and the line due.
 type Case = (Vec<u8>, Vec<u8>, String);
 
@@ -80,7 +83,7 @@ fn corner_lines(cases: &[Case], text: &str) -> Vec<String> {
 #[test]
 fn corners_are_given_to_each_type() {
     let cases = value_cases("1", "0");
-    assert_eq!(cases.len(), 8 + 10 * CORNERS.len() + SIZES);
+    assert_eq!(cases.len(), 8 + 10 * CORNERS.len() + SIZES + NAMED);
     let lines = |text| corner_lines(&cases, text);
     assert_eq!(lines(""), ["BadJSON"; 10]);
     assert_eq!(lines("[1,]"), ["BadJSON"; 10]);
@@ -99,20 +102,25 @@ fn corners_are_given_to_each_type() {
     let above = lines("9223372036854775808");
     assert_eq!(above, only(&[1, 2, 4, 9], "RangeError"));
     assert_eq!(lines(" false"), only(&[3], "fits false"));
-    assert_eq!(lines("\"\\u0080\""), only(&[5], "RangeError"));
-    assert_eq!(lines("\"\\u007F\""), only(&[5], "fits \"\\u007F\""));
+    // A string that names no enum member is out of range.
+    let string = |line: &str, others: &[usize]| -> Vec<String> {
+        let mut lines = only(others, line);
+        lines[3] = "RangeError".to_string();
+        lines
+    };
+    assert_eq!(lines("\"\\u0080\""), string("RangeError", &[5]));
+    assert_eq!(lines("\"\\u007F\""), string("fits \"\\u007F\"", &[5]));
     assert_eq!(lines("[ 1 , 2 ]"), only(&[6, 7], "fits [1,2]"));
     assert_eq!(lines("{ \"a\" : 1 }"), only(&[8], "fits {\"a\":1}"));
-    assert_eq!(lines("\"Zg==\""), only(&[5, 10], "fits \"Zg==\""));
-    assert_eq!(lines("\"Zh==\""), only(&[5], "fits \"Zh==\""));
-    assert_eq!(lines("\"Zm9vYmFyYg==\""), only(&[5, 10], "RangeError"));
+    assert_eq!(lines("\"Zg==\""), string("fits \"Zg==\"", &[5, 10]));
+    assert_eq!(lines("\"Zh==\""), string("fits \"Zh==\"", &[5]));
+    assert_eq!(lines("\"Zm9vYmFyYg==\""), string("RangeError", &[5, 10]));
 }
 
 #[test]
 fn blobs_have_sizes_on_both_sides_of_each_limit() {
     let cases = value_cases("1", "0");
-    let sizes = &cases[8 + 10 * CORNERS.len()..];
-    assert_eq!(sizes.len(), SIZES);
+    let sizes = &cases[8 + 10 * CORNERS.len()..][..SIZES];
     let alone: Vec<&Case> = sizes.iter().filter(|case| case.0[0] == 10).collect();
     assert_eq!(alone.len(), 10 * 16);
     for (datainfo, text, line) in alone {
@@ -128,6 +136,64 @@ fn blobs_have_sizes_on_both_sides_of_each_limit() {
         fitting.filter(|case| case.1.len() == size).count()
     };
     assert!(fitting_of(254) > 0 && fitting_of(256) > 0, "189 bytes");
+}
+
+#[test]
+fn enum_members_are_named_alone_and_inside_others() {
+    let cases = value_cases("1", "0");
+    let named = &cases[8 + 10 * CORNERS.len() + SIZES..];
+    assert_eq!(named.len(), NAMED);
+    let lines = |text: &str| -> Vec<&str> {
+        let of_text = named.iter().filter(|case| case.1 == text.as_bytes());
+        of_text.map(|case| &case.2[..]).collect()
+    };
+    assert_eq!(lines("\"on\""), ["fits -4", "fits 1000"]);
+    assert_eq!(lines("[1, \"on\" ]"), ["fits [1,-4]", "fits [1,1000]"]);
+    assert_eq!(
+        lines("[\"on\",\"on\",true]"),
+        ["fits [\"on\",-4,true]", "fits [\"on\",1000,true]"]
+    );
+    assert_eq!(
+        lines("{\"off\":\"on\",\"on\":\"on\"}"),
+        [
+            "fits {\"off\":\"on\",\"on\":-4}",
+            "fits {\"off\":\"on\",\"on\":1000}"
+        ]
+    );
+    assert_eq!(
+        lines("{\"a\":[[\"on\"]]}"),
+        ["fits {\"a\":[[-4]]}", "fits {\"a\":[[1000]]}"]
+    );
+    assert_eq!(lines("\"true\""), ["fits -2", "fits -1"]);
+    let longest = format!("\"{}\"", "n".repeat(63));
+    assert_eq!(lines(&longest), ["fits 7", "fits 4"]);
+    assert_eq!(lines("\"NaN\""), ["fits 2", "fits 2147483647"]);
+    for nearly in ["\"On\"", "\"\\u006fn\"", "\"1\"", "\"\"", "\"\\u0080\""] {
+        assert_eq!(lines(nearly), ["RangeError"; 2], "{nearly}");
+    }
+    for wrong in ["true", "null", "[\"on\"]", "{\"on\":1}", "1.0"] {
+        assert_eq!(lines(wrong), ["WrongType"; 2], "{wrong}");
+    }
+    assert_eq!(lines("\"on"), ["BadJSON"; 2]);
+    assert_eq!(lines("[\"on\",\"nobody\",\"on\"]"), ["WrongType"; 2]);
+}
+
+#[test]
+fn stored_forms_around_256_bytes_are_longer_or_shorter_than_what_is_sent() {
+    let cases = value_cases("1", "0");
+    let lists = &cases[cases.len() - 28..];
+    for (at, (_, text, line)) in lists.iter().enumerate() {
+        let expected = match (at % 4, at / 4) {
+            (3, _) => "WrongType",
+            (_, last) if 255 + last > 256 => "RangeError",
+            _ => "fits",
+        };
+        assert!(line.starts_with(expected), "{at} {line}");
+        assert_eq!(at % 4 == 0 || at % 4 == 3, text.len() < 256);
+        if line.starts_with("fits") {
+            assert_eq!(line.len(), "fits ".len() + 255 + at / 4);
+        }
+    }
 }
 
 /// What `values` prints, with stored forms as they are.
@@ -154,7 +220,7 @@ fn values_follow_but_for_those_too_long() {
         let short: Vec<Case> = all.iter().filter(|case| is_short(case)).cloned().collect();
         left_out += all.len() - short.len();
         let cases = value_cases(seed, "3000");
-        assert_eq!(cases[8 + 10 * CORNERS.len() + SIZES..], short);
+        assert_eq!(cases[8 + 10 * CORNERS.len() + SIZES + NAMED..], short);
     }
     assert!(left_out > 0);
 }

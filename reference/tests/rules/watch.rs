@@ -107,8 +107,9 @@ impl Watcher {
     }
 
     fn follow_reading(&mut self, parameter: usize, time: u64, text: &[u8], records: &[Record]) {
-        // A value without spaces is stored as it is.
-        if !text.contains(&b' ') {
+        // A value without spaces and strings is stored as it is; a string may
+        // be an enum member's name.
+        if !text.contains(&b' ') && !text.contains(&b'"') {
             let value = String::from_utf8(text.to_vec()).expect("ASCII");
             self.parameters[parameter].1 = format!("[{value},{{\"t\":{}}}]", seconds(time));
         } else if let Some(update) = records.first() {

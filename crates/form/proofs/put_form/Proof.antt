@@ -1,11 +1,11 @@
 -- `form::put_form` meets its contract. Assumes nothing.
+use Rattle.form.proofs.Texts.{form-put}
 use borrow.Author.Needs.{needs}
-use Rattle.form.proofs.Written.{is-json, compact-room, form-put}
 use Rattle.form.proofs.put_form.Statement.{statement}
 use Rattle.form.proofs.put_form.Tie as tie
 
-put-compact-requires : tie.Need-put-compact-requires
-put-compact-requires c κs = (search is-json, search compact-room)
+put-text-requires : tie.Need-put-text-requires
+put-text-requires c κs = search needs
 
 same-length : tie.Need-same-length
 same-length c = search needs
@@ -14,4 +14,4 @@ returns : tie.Need-returns
 returns c = search form-put
 
 pub put-form-spec : {M : Type 1} → statement M
-put-form-spec = tie.close (tie.spec put-compact-requires same-length returns)
+put-form-spec = tie.close (tie.spec put-text-requires same-length returns)

@@ -4,13 +4,14 @@
 use super::course::Course;
 use crate::datainfo::Datainfo;
 use crate::generate::encode;
-use crate::generate::parts::{digit, module, parameter, string, table};
+use crate::generate::parts::{array, digit, enumeration, module, parameter, string, table};
 use crate::node::MAX_TIME;
 use crate::operation::Poke;
 
 pub(super) fn all(course: &mut Course) {
     unfit(course);
     unfit_in_the_last_places(course);
+    unfit_members(course);
     over_another_table(course);
     fit(course);
     sixteen_modules(course);
@@ -84,6 +85,32 @@ fn unfit(course: &mut Course) {
     course.show();
     four_calls(course);
     course.show();
+}
+
+/// A stored name is unfit, even one as long as its number.
+fn unfit_members(course: &mut Course) {
+    let modes = enumeration(&[("off", 0), ("on", 1_000)]);
+    let list = array(0, 2, modes.clone());
+    let accessibles = vec![parameter("m", modes, "0"), parameter("l", list, "[]")];
+    let bytes = encode::table(&table(vec![module("t1", accessibles)]));
+    course.started("unfit enum members", &bytes);
+    course.open(0);
+    course.line(0, "change t1:m \"on\"");
+    course.reading(1, "[\"off\",\"on\"]");
+    for pokes in [
+        value(0, "\"on\""),
+        value(0, "1"),
+        value(1, "[\"on\"]"),
+        value(1, "[0,\"off\"]"),
+    ] {
+        course.poked_for(&pokes, |course| {
+            assert!(!course.is_fit(), "{pokes:?}");
+            course.line(0, "read t1:m");
+            course.reading(1, "[]");
+        });
+    }
+    course.show();
+    course.lines(0, &["read t1:m", "read t1:l"]);
 }
 
 fn unfit_values() -> Vec<(&'static str, Vec<Poke>)> {

@@ -1,5 +1,5 @@
 -- `fit::fit::is_fit` meets its contract. Assumes nothing.
-use Rattle.fit.proofs.Stored.{fit-is}
+use Rattle.fit.proofs.Judged.{fit-is}
 use borrow.Author.Needs.{needs}
 use Rattle.fit.proofs.fit.is_fit.Statement.{statement}
 use Rattle.fit.proofs.fit.is_fit.Tie as tie

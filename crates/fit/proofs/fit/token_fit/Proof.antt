@@ -1,5 +1,5 @@
 -- `fit::fit::token_fit` meets its contract: each type by its own function. Assumes nothing.
-use Rattle.fit.proofs.Figures.{token-double, token-int, token-scaled, token-enum}
+use Rattle.fit.proofs.Figures.{token-double, token-int, token-scaled}
 use borrow.Author.Needs.{needs}
 use Rattle.fit.proofs.fit.token_fit.Statement.{statement}
 use Rattle.fit.proofs.fit.token_fit.Tie as tie
@@ -22,13 +22,7 @@ scaled-fit-requires c κs = search needs
 returns-3 : tie.Need-returns-3
 returns-3 c = search token-scaled
 
-enum-fit-requires : tie.Need-enum-fit-requires
-enum-fit-requires c κs = search needs
-
-returns-4 : tie.Need-returns-4
-returns-4 c = search token-enum
-
 pub token-fit-spec : {M : Type 1} → statement M
 token-fit-spec =
     tie.close
-    (tie.spec double-fit-requires returns int-fit-requires returns-2 scaled-fit-requires returns-3 enum-fit-requires returns-4)
+    (tie.spec double-fit-requires returns int-fit-requires returns-2 scaled-fit-requires returns-3)
