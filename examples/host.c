@@ -72,6 +72,14 @@ static void read_driver(uint64_t parameter, uint64_t time, const char *text)
     keep("reading", &done);
 }
 
+/* Feeds a driver's report that it can't read a parameter. */
+static void fail_driver(uint64_t parameter, uint64_t time, enum jihfasul_error error)
+{
+    struct jihfasul_done done = jihfasul_unreadable(table, table_length, values, sizeof values, outbox, sizeof outbox,
+        state, parameter, time, error);
+    keep("unreadable", &done);
+}
+
 static void open_client(uint64_t client, uint64_t time)
 {
     struct jihfasul_done done = jihfasul_open(table, table_length, values, sizeof values, state, client, time);
@@ -90,7 +98,9 @@ static void show(uint64_t parameter)
     struct jihfasul_shown shown = jihfasul_value(table, table_length, values, sizeof values, state, parameter);
     const uint8_t *area = shown.stored ? values : table;
     printf("value: number %d\n", shown.number);
-    if (shown.number == JIHFASUL_ACCEPTED)
+    if (shown.number == JIHFASUL_ACCEPTED && shown.error)
+        printf("  parameter %d: %d (error) at %d ms\n", (int)parameter, shown.error, (int)shown.time);
+    else if (shown.number == JIHFASUL_ACCEPTED)
         printf("  parameter %d: %.*s (%s) at %d ms\n", (int)parameter, (int)shown.size, (const char *)area + shown.from,
             shown.stored ? "set" : "initial", (int)shown.time);
 }
@@ -114,5 +124,10 @@ int main(void)
     receive(2, 2300, "change t1:target 2e2\nread t1:target\nping\n");
     show(1);
     show(2); /* refused: there are two parameters */
+    fail_driver(0, 2400, JIHFASUL_COMMUNICATION_FAILED);
+    receive(2, 2500, "read t1:value\n");
+    show(0); /* in error */
+    read_driver(0, 2600, "4.6");
+    show(0);
     return 0;
 }

@@ -30,6 +30,14 @@ extern "C" {
 #define JIHFASUL_MAX_TABLE 16384          /* bytes of a table, at most */
 #define JIHFASUL_MAX_TIME 9999999999999u  /* milliseconds */
 
+/* Why a parameter can't be read, as its driver reports it. */
+enum jihfasul_error {
+    JIHFASUL_HARDWARE_ERROR = 1,
+    JIHFASUL_COMMUNICATION_FAILED = 2,
+    JIHFASUL_READ_FAILED = 3,
+    JIHFASUL_OUT_OF_RANGE = 4
+};
+
 /*
  * Numbers that a call answers with. Where several apply, it is the lowest. Every call judges what it is lent, the table included.
  * A refusal (any number but 0) uses no bytes and writes none; the state that it answers is the one handed in (for a start: no
@@ -43,15 +51,16 @@ enum jihfasul_number {
     JIHFASUL_BAD_DATAINFO = 4,      /* a datainfo in it breaks its own rules */
     JIHFASUL_BAD_INITIAL = 5,       /* an initial value isn't in stored form, is over 256 bytes, or doesn't fit its datainfo */
     JIHFASUL_LONG_REPORT = 6,       /* its structure report would be over 32,000 bytes */
-    JIHFASUL_SMALL_OUTBOX = 7,      /* the outbox is under 32,768 bytes (piece, reading) */
+    JIHFASUL_SMALL_OUTBOX = 7,      /* the outbox is under 32,768 bytes (piece, reading, unreadable) */
     JIHFASUL_SMALL_VALUES = 8,      /* the values area is under 16,384 bytes */
     JIHFASUL_UNFIT_STATE = 9,       /* the state can't stand over this table and this values area: see struct jihfasul_state */
     JIHFASUL_LATE_TIME = 10,        /* the time is above its limit */
     JIHFASUL_NO_SUCH_CLIENT = 11,   /* the client's number is above 7 */
     JIHFASUL_NOT_OPEN = 12,         /* the client isn't open (piece, close) */
     JIHFASUL_ALREADY_OPEN = 13,     /* the client is open (open) */
-    JIHFASUL_NO_SUCH_PARAMETER = 14,/* no parameter has this number (reading, value) */
-    JIHFASUL_BAD_READING = 15       /* the value rules refuse the reading's value */
+    JIHFASUL_NO_SUCH_PARAMETER = 14,/* no parameter has this number (reading, unreadable, value) */
+    JIHFASUL_BAD_READING = 15,      /* the value rules refuse the reading's value */
+    JIHFASUL_UNKNOWN_ERROR = 16     /* no error has this number (unreadable) */
 };
 
 /*
@@ -67,17 +76,21 @@ struct jihfasul_clients {
     uint8_t lines[JIHFASUL_CLIENTS * JIHFASUL_LINE];
 };
 
-/* Of each parameter: the length of its stored value, 0 if it was never set, and its time. Places past the last parameter don't count. */
+/*
+ * Of each parameter: the length of its stored value, 0 if it was never set; the error that stands in the value's place, 0 if there is none;
+ * and the time of the value or of the error. Places past the last parameter don't count.
+ */
 struct jihfasul_settings {
     uint16_t length[JIHFASUL_PARAMETERS];
+    uint8_t error[JIHFASUL_PARAMETERS];
     uint64_t time[JIHFASUL_PARAMETERS];
 };
 
 /*
  * What the host keeps between calls, besides the values area. It may be stored and restored byte for byte. It is unfit (number 9)
  * over a table and a values area if
- * - of a parameter: its length is above 256, or isn't 0 and its bytes in the values area are no stored form that fits, or its time is above
- *   the limit;
+ * - of a parameter: its length is above 256, or isn't 0 and its bytes in the values area are no stored form that fits (also while it is in
+ *   error), or its error is above 4, or its time is above the limit;
  * - of a line: it has more than 1,024 bytes or a line feed, or bytes though it is marked overlong;
  * - of a client: it has a module active that the table doesn't have, or is closed and has anything at all.
  */
@@ -96,11 +109,13 @@ struct jihfasul_done {
 
 /*
  * Where the value that a parameter shows lies: in the table if `stored` is 0 (its initial value, it was never set), in the values area
- * if it is 1; from which byte on and how many; and its time. After a refusal only the number counts.
+ * if it is 1; from which byte on and how many; and its time. If the parameter can't be read, `error` says why (otherwise it is 0), with
+ * its time, and there is no value: `stored`, `from` and `size` are 0. After a refusal only the number counts.
  */
 struct jihfasul_shown {
     uint8_t number;
     uint8_t stored;
+    uint8_t error;
     size_t from;
     size_t size;
     uint64_t time;
@@ -137,7 +152,7 @@ struct jihfasul_done jihfasul_piece(
     struct jihfasul_state state, uint64_t client, uint64_t time,
     const uint8_t *bytes, size_t bytes_length);
 
-/* Takes a driver's value for a parameter, as JSON text, stores it and writes the updates. Numbers 0 to 10, 14, 15. */
+/* Takes a driver's value for a parameter, as JSON text, stores it in place of a value or an error and writes the updates. Numbers 0 to 10, 14, 15. */
 struct jihfasul_done jihfasul_reading(
     const uint8_t *table, size_t table_length,
     uint8_t *values, size_t values_length,
@@ -145,7 +160,19 @@ struct jihfasul_done jihfasul_reading(
     struct jihfasul_state state, uint64_t parameter, uint64_t time,
     const uint8_t *bytes, size_t bytes_length);
 
-/* The value that a parameter shows; nothing is copied. Numbers 0 to 6, 8, 9, 14. */
+/*
+ * Takes a driver's report that a parameter can't be read: an error (enum jihfasul_error) stands in the value's place until the next value
+ * is stored, by a reading or by a change. Writes the updates, which are `error_update` lines; a `read` is answered with `error_read`. The
+ * values area isn't written. Numbers 0 to 10, 14, 16.
+ */
+struct jihfasul_done jihfasul_unreadable(
+    const uint8_t *table, size_t table_length,
+    const uint8_t *values, size_t values_length,
+    uint8_t *outbox, size_t outbox_length,
+    struct jihfasul_state state, uint64_t parameter, uint64_t time,
+    uint64_t error);
+
+/* The value that a parameter shows, or why it can't be read; nothing is copied. Numbers 0 to 6, 8, 9, 14. */
 struct jihfasul_shown jihfasul_value(
     const uint8_t *table, size_t table_length,
     const uint8_t *values, size_t values_length,

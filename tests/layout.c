@@ -31,6 +31,7 @@ static void print_layout(void)
     FIELD(state, clients.lines);
     FIELD(state, settings);
     FIELD(state, settings.length);
+    FIELD(state, settings.error);
     FIELD(state, settings.time);
     SIZE(done);
     FIELD(done, number);
@@ -40,6 +41,7 @@ static void print_layout(void)
     SIZE(shown);
     FIELD(shown, number);
     FIELD(shown, stored);
+    FIELD(shown, error);
     FIELD(shown, from);
     FIELD(shown, size);
     FIELD(shown, time);
@@ -72,7 +74,7 @@ static void value(uint64_t parameter)
     struct jihfasul_shown shown = jihfasul_value(table, table_length, values, sizeof values, state, parameter);
     printf("number %d\n", shown.number);
     if (shown.number == JIHFASUL_ACCEPTED)
-        printf("stored %d, from %d, size %d, time %d\n", shown.stored, (int)shown.from, (int)shown.size, (int)shown.time);
+        printf("stored %d, error %d, from %d, size %d, time %d\n", shown.stored, shown.error, (int)shown.from, (int)shown.size, (int)shown.time);
 }
 
 static void print_state(void)
@@ -82,7 +84,7 @@ static void print_state(void)
         printf("client %d: open %d, overlong %d, active %d, line \"%.*s\"\n", c, clients->open[c] != 0, clients->overlong[c] != 0,
             clients->active[c], (int)clients->length[c], (const char *)clients->lines + JIHFASUL_LINE * c);
     for (int p = 0; p < 2; p++)
-        printf("parameter %d: length %d, time %d\n", p, state.settings.length[p], (int)state.settings.time[p]);
+        printf("parameter %d: length %d, error %d, time %d\n", p, state.settings.length[p], state.settings.error[p], (int)state.settings.time[p]);
 }
 
 int main(void)
@@ -105,5 +107,9 @@ int main(void)
     value(0);
     value(1);
     value(2);
+    keep(jihfasul_unreadable(table, table_length, values, sizeof values, outbox, sizeof outbox, state, 0, 901, JIHFASUL_READ_FAILED));
+    keep(jihfasul_unreadable(table, table_length, values, sizeof values, outbox, sizeof outbox, state, 0, 902, 259));
+    print_state();
+    value(0);
     return 0;
 }

@@ -171,7 +171,9 @@ fn library_cost(table: &[u8], count: usize, line: &[u8]) -> f64 {
             Call::Piece { bytes, .. } => {
                 call::piece(table, &mut values, &mut outbox, &state, 0, 1, bytes)
             }
-            Call::Close { .. } => unreachable!("nothing is closed"),
+            Call::Close { .. } | Call::Unreadable { .. } => {
+                unreachable!("nothing is closed and nothing fails")
+            }
         };
         assert_eq!(done.number, 0);
         state = done.state;

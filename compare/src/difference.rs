@@ -14,7 +14,7 @@ pub struct Difference {
 #[derive(Default)]
 pub struct Counts {
     pub calls: usize,
-    pub numbers: [usize; 16],
+    pub numbers: [usize; 17],
 }
 
 impl Counts {

@@ -75,11 +75,15 @@ fn same_values(
     }
     let mut values = Vec::new();
     for (held, parameter) in node.parameters.iter().zip(0..) {
-        let due = Shown {
-            number: 0,
-            text: readable(&held.value),
-            time: held.time,
-            set: held.set,
+        let due = match held.error {
+            Some(error) => Shown::in_error(error.class(), held.time),
+            None => Shown {
+                number: 0,
+                error: 0,
+                text: readable(&held.value),
+                time: held.time,
+                set: held.set,
+            },
         };
         let found = library.value(MIN_VALUES, parameter);
         same("value", &found, &due)?;

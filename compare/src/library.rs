@@ -16,6 +16,8 @@ pub struct Library {
 #[derive(Debug, PartialEq)]
 pub struct Shown {
     pub number: u8,
+    /// The class of the error in the value's place, or 0.
+    pub error: u8,
     pub text: String,
     pub time: u64,
     pub set: bool,
@@ -29,9 +31,19 @@ impl Shown {
     pub fn refused(number: u8) -> Shown {
         Shown {
             number,
+            error: 0,
             text: String::new(),
             time: 0,
             set: false,
+        }
+    }
+
+    /// What a parameter in error shows: no value.
+    pub fn in_error(class: u8, time: u64) -> Shown {
+        Shown {
+            error: class,
+            time,
+            ..Shown::refused(0)
         }
     }
 }
@@ -65,7 +77,9 @@ impl Library {
         }
         self.state = state;
         let outbox = match call {
-            Call::Piece { outbox_len, .. } | Call::Reading { outbox_len, .. } => *outbox_len,
+            Call::Piece { outbox_len, .. }
+            | Call::Reading { outbox_len, .. }
+            | Call::Unreadable { outbox_len, .. } => *outbox_len,
             _ => 0,
         };
         if written > outbox {
@@ -120,6 +134,16 @@ impl Library {
                 let (values, outbox) = (values.front(*values_len), outbox.front(*outbox_len));
                 call::reading(table, values, outbox, state, *parameter, *time, text)
             }
+            Call::Unreadable {
+                parameter,
+                values_len,
+                outbox_len,
+                time,
+                class,
+            } => {
+                let (values, outbox) = (values.front(*values_len), outbox.front(*outbox_len));
+                call::unreadable(table, values, outbox, state, *parameter, *time, *class)
+            }
         }
     }
 
@@ -135,6 +159,7 @@ impl Library {
         };
         Shown {
             number: shown.number,
+            error: shown.error,
             text: readable(&area[shown.from..][..shown.size]),
             time: shown.time,
             set: shown.stored != 0,
@@ -154,6 +179,7 @@ impl Library {
             }
             Poke::StoredLength(number, length) => settings.length[*number] = *length,
             Poke::StoredTime(number, time) => settings.time[*number] = *time,
+            Poke::StoredError(number, class) => settings.error[*number] = *class,
             Poke::Values(place, bytes) => self.values.set(*place, bytes),
         }
     }

@@ -98,6 +98,9 @@ impl Pair {
 
     fn shown(&self, parameter: usize) -> Shown {
         let setting = self.kept.settings[parameter];
+        if setting.error != 0 {
+            return Shown::in_error(setting.error, setting.time);
+        }
         let initial = || {
             let table = Table::judge(&self.library.table).expect("a good table");
             readable(table.parameters()[parameter].initial)
@@ -106,6 +109,7 @@ impl Pair {
         let set = setting.length != 0;
         Shown {
             number: 0,
+            error: 0,
             text: if set { readable(stored) } else { initial() },
             time: setting.time,
             set,

@@ -12,8 +12,9 @@ use reference::node;
 #[derive(Debug, PartialEq)]
 pub struct Seen {
     clients: Vec<Client>,
-    /// Of each parameter the length of its stored value and its time.
-    settings: Vec<(u16, u64)>,
+    /// Of each parameter the length of its stored value, the class of its error
+    /// and its time.
+    settings: Vec<(u16, u8, u64)>,
 }
 
 #[derive(Debug, PartialEq)]
@@ -37,7 +38,8 @@ impl Seen {
             same(&format!("client {c}"), found, due)?;
         }
         for (p, (found, due)) in self.settings.iter().zip(&due.settings).enumerate() {
-            same(&format!("length and time of parameter {p}"), found, due)?;
+            let what = format!("length, error and time of parameter {p}");
+            same(&what, found, due)?;
         }
         same("state", self, due)
     }
@@ -50,11 +52,11 @@ impl Seen {
             active: clients.active[c],
             line: readable(line, clients.length[c]),
         };
-        let settings = state.settings.length.iter().zip(&state.settings.time);
-        let settings = settings.map(|(length, time)| (*length, *time));
+        let settings = &state.settings;
+        let setting = |p: usize| (settings.length[p], settings.error[p], settings.time[p]);
         Seen {
             clients: clients.lines.chunks(LINE).enumerate().map(client).collect(),
-            settings: settings.take(parameters).collect(),
+            settings: (0..parameters).map(setting).collect(),
         }
     }
 
@@ -68,9 +70,10 @@ impl Seen {
                 Unfinished::Overlong => String::new(),
             }),
         };
-        let setting = |held: &node::Held| match held.set {
-            true => (held.value.len() as u16, held.time),
-            false => (0, held.time),
+        let setting = |held: &node::Held| {
+            let length = if held.set { held.value.len() } else { 0 };
+            let error = held.error.map_or(0, |error| error.class());
+            (length as u16, error, held.time)
         };
         Seen {
             clients: state.clients.iter().map(client).collect(),
@@ -88,7 +91,9 @@ impl Seen {
         let settings = kept.settings[..parameters].iter();
         Seen {
             clients: clients.collect(),
-            settings: settings.map(|one| (one.length, one.time)).collect(),
+            settings: settings
+                .map(|one| (one.length, one.error, one.time))
+                .collect(),
         }
     }
 }

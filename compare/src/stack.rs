@@ -80,6 +80,7 @@ struct Deepest {
     close: usize,
     piece: usize,
     reading: usize,
+    unreadable: usize,
     value: usize,
 }
 
@@ -91,6 +92,7 @@ impl Deepest {
             Call::Close { .. } => &mut self.close,
             Call::Piece { .. } => &mut self.piece,
             Call::Reading { .. } => &mut self.reading,
+            Call::Unreadable { .. } => &mut self.unreadable,
         }
     }
 }
@@ -111,12 +113,13 @@ pub fn print() -> ExitCode {
     let (state, done) = (size_of::<State>(), size_of::<Done>());
     println!("a state has {state} bytes, an answer {done}");
     println!("deepest stack of a call, with the state handed in and the answer:");
-    println!("start    {:6} bytes", deepest.start);
-    println!("open     {:6} bytes", deepest.open);
-    println!("close    {:6} bytes", deepest.close);
-    println!("piece    {:6} bytes", deepest.piece);
-    println!("reading  {:6} bytes", deepest.reading);
-    println!("value    {:6} bytes", deepest.value);
+    println!("start      {:6} bytes", deepest.start);
+    println!("open       {:6} bytes", deepest.open);
+    println!("close      {:6} bytes", deepest.close);
+    println!("piece      {:6} bytes", deepest.piece);
+    println!("reading    {:6} bytes", deepest.reading);
+    println!("unreadable {:6} bytes", deepest.unreadable);
+    println!("value      {:6} bytes", deepest.value);
     ExitCode::SUCCESS
 }
 

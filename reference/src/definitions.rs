@@ -7,7 +7,7 @@ const HEADER: &str = "\
 -- Histories that the reference program generated, with the answers that it gives. Printed by it; not edited by hand. Assumes nothing.
 use mathlib.Core.List.{List, [], _∷_}
 use Rattle.ascii.specs.Text.{bytes}
-use Rattle.plain.specs.Calls.{Open, Close, Piece, Reading, withArea, withOutbox}
+use Rattle.plain.specs.Calls.{Open, Close, Piece, Reading, Unreadable, withArea, withOutbox}
 use Rattle.examples.specs.Told.{History}
 ";
 
@@ -83,6 +83,15 @@ fn call(call: &Call) -> Option<String> {
             "withOutbox (Reading {parameter} ({}) {time}) {values_len} {outbox_len}",
             bytes(text)
         ),
+        Call::Unreadable {
+            parameter,
+            values_len,
+            outbox_len,
+            time,
+            class,
+        } => {
+            format!("withOutbox (Unreadable {parameter} {class} {time}) {values_len} {outbox_len}")
+        }
     })
 }
 

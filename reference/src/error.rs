@@ -1,4 +1,5 @@
-//! The error classes of requests, with their texts.
+//! The error classes of requests, with their texts, and those of parameters
+//! that can't be read.
 
 use crate::value::ValueFault;
 
@@ -47,6 +48,46 @@ impl ErrorClass {
     /// The error report.
     pub fn report(self) -> String {
         format!("[\"{}\",\"{}\",{{}}]", self.name(), self.text())
+    }
+}
+
+/// Why a parameter can't be read, as its driver reports it; the number is that
+/// of the report.
+#[derive(Clone, Copy, Debug, PartialEq, Eq)]
+pub enum SensorError {
+    HardwareError = 1,
+    CommunicationFailed = 2,
+    ReadFailed = 3,
+    OutOfRange = 4,
+}
+
+impl SensorError {
+    pub const ALL: [SensorError; 4] = [
+        SensorError::HardwareError,
+        SensorError::CommunicationFailed,
+        SensorError::ReadFailed,
+        SensorError::OutOfRange,
+    ];
+
+    /// The error of a class's number.
+    pub fn of(class: u64) -> Option<SensorError> {
+        SensorError::ALL
+            .into_iter()
+            .find(|error| u64::from(error.class()) == class)
+    }
+
+    pub fn class(self) -> u8 {
+        self as u8
+    }
+
+    /// The class as it stands in a report.
+    pub fn name(self) -> &'static str {
+        match self {
+            SensorError::HardwareError => "HardwareError",
+            SensorError::CommunicationFailed => "CommunicationFailed",
+            SensorError::ReadFailed => "ReadFailed",
+            SensorError::OutOfRange => "OutOfRange",
+        }
     }
 }
 

@@ -35,10 +35,17 @@ pub enum Call {
         time: u64,
         text: Vec<u8>,
     },
+    Unreadable {
+        parameter: u64,
+        values_len: usize,
+        outbox_len: usize,
+        time: u64,
+        class: u64,
+    },
 }
 
 /// What a call answers: its number, and for pieces the bytes used, for pieces
-/// and readings the bytes written.
+/// and what drivers report the bytes written.
 #[derive(Clone, Debug, Default, PartialEq)]
 pub struct Answer {
     pub number: u8,
@@ -71,6 +78,14 @@ impl Answer {
             number: refusal.number(),
             ..Answer::default()
         }
+    }
+
+    fn driver(result: Result<Vec<u8>, Refusal>) -> Answer {
+        result.map_or_else(Answer::refused, |outbox| Answer {
+            number: ACCEPTED,
+            used: 0,
+            outbox,
+        })
     }
 
     pub(crate) fn plain(result: Result<(), Refusal>) -> Answer {
@@ -142,14 +157,14 @@ pub(crate) fn answer(node: &mut Node, call: &Call) -> Answer {
             outbox_len,
             time,
             text,
-        } => match node.reading(*parameter, *values_len, *outbox_len, *time, text) {
-            Ok(outbox) => Answer {
-                number: ACCEPTED,
-                used: 0,
-                outbox,
-            },
-            Err(refusal) => Answer::refused(refusal),
-        },
+        } => Answer::driver(node.reading(*parameter, *values_len, *outbox_len, *time, text)),
+        Call::Unreadable {
+            parameter,
+            values_len,
+            outbox_len,
+            time,
+            class,
+        } => Answer::driver(node.unreadable(*parameter, *values_len, *outbox_len, *time, *class)),
     }
 }
 

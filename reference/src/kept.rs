@@ -2,6 +2,7 @@
 //! in memory, whether they are fit for a table (number 9), and the calls over
 //! it. What a call does is the plain node's affair.
 
+use crate::error::SensorError;
 use crate::history::{self, Answer, Call};
 use crate::line::{Unfinished, LINE_FEED, MAX_LINE};
 use crate::node::{Client, Held, Node, State, CLIENTS, MAX_TIME};
@@ -31,10 +32,12 @@ pub struct KeptClient {
     pub line: [u8; MAX_LINE],
 }
 
-/// A parameter's stored value. A length of 0 means that it was never set.
+/// A parameter's stored value. A length of 0 means that it was never set, an
+/// error's class of 0 that there is none.
 #[derive(Clone, Copy, Debug, Default, PartialEq)]
 pub struct Setting {
     pub length: u16,
+    pub error: u8,
     pub time: u64,
 }
 
@@ -145,9 +148,14 @@ impl Kept {
     }
 
     fn held(&self, parameter: &Parameter) -> Option<Held> {
-        let Setting { length, time } = self.settings[parameter.number];
+        let Setting {
+            length,
+            error: class,
+            time,
+        } = self.settings[parameter.number];
         let length = usize::from(length);
-        if length > MAX_STORED || time > MAX_TIME {
+        let error = SensorError::of(class.into());
+        if length > MAX_STORED || time > MAX_TIME || error.is_none() && class != 0 {
             return None;
         }
         if length == 0 {
@@ -155,6 +163,7 @@ impl Kept {
                 value: parameter.initial.to_vec(),
                 time,
                 set: false,
+                error,
             });
         }
         let value = &self.values[MAX_STORED * parameter.number..][..length];
@@ -162,6 +171,7 @@ impl Kept {
             value: value.to_vec(),
             time,
             set: true,
+            error,
         })
     }
 
@@ -175,11 +185,12 @@ impl Kept {
         }
         let parameters = before.parameters.iter().zip(&after.parameters);
         for (number, (_, new)) in parameters.enumerate().filter(|(_, (old, new))| old != new) {
-            self.settings[number] = Setting {
-                length: new.value.len() as u16,
-                time: new.time,
-            };
-            self.values[MAX_STORED * number..][..new.value.len()].copy_from_slice(&new.value);
+            self.settings[number].time = new.time;
+            self.settings[number].error = new.error.map_or(0, SensorError::class);
+            if new.error.is_none() {
+                self.settings[number].length = new.value.len() as u16;
+                self.values[MAX_STORED * number..][..new.value.len()].copy_from_slice(&new.value);
+            }
         }
     }
 }

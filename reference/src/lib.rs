@@ -1,4 +1,5 @@
-//! The plain node of document 01 as an ordinary Rust program.
+//! The plain node of document 01, with broken sensors (M-102) as document 02
+//! asks for them, as an ordinary Rust program.
 //!
 //! It is written from the documents alone and shares nothing with the proved
 //! core, so that the two can be compared. Trees, `Vec` and plain recursion

@@ -15,7 +15,7 @@ use std::io::{self, Write};
 use std::process::ExitCode;
 
 const HELP: &str = "\
-The plain node of document 01, and generators for comparing others with it.
+The plain node of document 01 with M-102, and generators for comparing others with it.
 
 usage: reference COMMAND ...
 

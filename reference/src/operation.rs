@@ -32,6 +32,8 @@ pub enum Poke {
     Lines(usize, Vec<u8>),
     StoredLength(usize, u16),
     StoredTime(usize, u64),
+    /// The class of a parameter's error.
+    StoredError(usize, u8),
     /// Bytes from a place of the values area on.
     Values(usize, Vec<u8>),
 }
@@ -127,6 +129,13 @@ fn call_bytes(call: &Call) -> Vec<u8> {
             time,
             text,
         } => head(b'R', *parameter, *values_len, *outbox_len, *time).to_bytes(text),
+        Call::Unreadable {
+            parameter,
+            values_len,
+            outbox_len,
+            time,
+            class,
+        } => head(b'U', *parameter, *values_len, *outbox_len, *time).to_bytes(&class.to_be_bytes()),
     }
 }
 
@@ -141,6 +150,7 @@ impl Poke {
             Poke::Lines(place, bytes) => Head::about(b'l', *place, 0u8).to_bytes(bytes),
             Poke::StoredLength(number, length) => alone(Head::about(b'z', *number, *length)),
             Poke::StoredTime(number, time) => alone(Head::about(b't', *number, *time)),
+            Poke::StoredError(number, class) => alone(Head::about(b'e', *number, *class)),
             Poke::Values(place, bytes) => Head::about(b'w', *place, 0u8).to_bytes(bytes),
         }
     }
@@ -160,6 +170,9 @@ impl Poke {
                 Poke::StoredLength(*number, kept.settings[*number].length)
             }
             Poke::StoredTime(number, _) => Poke::StoredTime(*number, kept.settings[*number].time),
+            Poke::StoredError(number, _) => {
+                Poke::StoredError(*number, kept.settings[*number].error)
+            }
             Poke::Values(place, bytes) => {
                 Poke::Values(*place, kept.values[*place..][..bytes.len()].to_vec())
             }
@@ -179,6 +192,7 @@ impl Poke {
             }
             Poke::StoredLength(number, length) => kept.settings[*number].length = *length,
             Poke::StoredTime(number, time) => kept.settings[*number].time = *time,
+            Poke::StoredError(number, class) => kept.settings[*number].error = *class,
             Poke::Values(place, bytes) => {
                 kept.values[*place..][..bytes.len()].copy_from_slice(bytes);
             }
@@ -216,6 +230,7 @@ fn answer_line(call: &Call, answer: &Answer, values: &[u8]) -> String {
         Call::Close { .. } => "close",
         Call::Piece { .. } => "piece",
         Call::Reading { .. } => "reading",
+        Call::Unreadable { .. } => "unreadable",
     };
     let Answer {
         number,
@@ -252,9 +267,19 @@ fn state_lines(kept: &Kept, parameters: usize) -> String {
     let clients = kept.clients.iter().enumerate();
     let settings = kept.settings[..parameters].iter().enumerate();
     let clients = clients.map(|(number, client)| client_line(number, client));
-    let settings = settings
-        .map(|(number, Setting { length, time })| format!("parameter {number} {length} {time}\n"));
+    let settings = settings.map(|(number, setting)| setting_line(number, setting));
     clients.chain(settings).collect()
+}
+
+/// A parameter's number, the length of its stored value, its error's class and
+/// its time.
+fn setting_line(number: usize, setting: &Setting) -> String {
+    let Setting {
+        length,
+        error,
+        time,
+    } = setting;
+    format!("parameter {number} {length} {error} {time}\n")
 }
 
 /// A client's number, whether it is open and in an overlong line, its active

@@ -36,6 +36,8 @@ pub enum Refusal {
     NoSuchParameter = 14,
     /// The reading's value doesn't fit.
     Reading = 15,
+    /// No error class has this number.
+    UnknownClass = 16,
 }
 
 impl Refusal {

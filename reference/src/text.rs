@@ -74,6 +74,13 @@ fn print_call(call: &Call) -> String {
             "reading {parameter} {values_len} {outbox_len} {time} {}",
             hex(text)
         ),
+        Call::Unreadable {
+            parameter,
+            values_len,
+            outbox_len,
+            time,
+            class,
+        } => format!("unreadable {parameter} {values_len} {outbox_len} {time} {class}"),
     }
 }
 
@@ -85,7 +92,7 @@ fn print_answer(call: &Call, answer: &Answer) -> String {
     } = answer;
     match call {
         Call::Piece { .. } => format!("{number} {used} {}", hex(outbox)),
-        Call::Reading { .. } => format!("{number} {}", hex(outbox)),
+        Call::Reading { .. } | Call::Unreadable { .. } => format!("{number} {}", hex(outbox)),
         _ => number.to_string(),
     }
 }
@@ -105,12 +112,12 @@ fn print_state(state: &State) -> String {
         );
     }
     for (number, held) in state.parameters.iter().enumerate() {
-        let origin = if held.set { "set" } else { "initial" };
-        let (time, value) = (held.time, hex(&held.value));
-        let _ = writeln!(
-            text,
-            "parameter {number} time={time} value={value} {origin}"
-        );
+        let shown = match (held.error, held.set) {
+            (Some(error), _) => format!("error={}", error.name()),
+            (None, true) => format!("value={} set", hex(&held.value)),
+            (None, false) => format!("value={} initial", hex(&held.value)),
+        };
+        let _ = writeln!(text, "parameter {number} time={} {shown}", held.time);
     }
     text
 }
@@ -176,6 +183,13 @@ fn read_call(words: &[&str]) -> Option<Call> {
             outbox_len: outbox_len.parse().ok()?,
             time: time.parse().ok()?,
             text: from_hex(text)?,
+        },
+        ["unreadable", parameter, values_len, outbox_len, time, class] => Call::Unreadable {
+            parameter: parameter.parse().ok()?,
+            values_len: values_len.parse().ok()?,
+            outbox_len: outbox_len.parse().ok()?,
+            time: time.parse().ok()?,
+            class: class.parse().ok()?,
         },
         _ => return None,
     })

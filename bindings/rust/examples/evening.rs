@@ -9,7 +9,7 @@ mod script;
 mod table;
 
 use jihfasul::state::CLIENTS;
-use jihfasul::{Mark, Node, Record, Refusal};
+use jihfasul::{Held, Mark, Node, Record, Records, Refusal, SensorError};
 use script::{clock, entries, fault, Act, Entry, Event};
 use std::fmt::Write;
 use std::{env, fs, process};
@@ -19,6 +19,7 @@ const SCRIPT: &str = concat!(env!("CARGO_MANIFEST_DIR"), "/examples/evening.scri
 
 /// The marks of the columns, and what the times in the reports are.
 const HEAD: &str = "  >  to the node: a line, or what a driver has read
+  !  to the node: what a driver can't read
   ~  to the node: some bytes of a line, without its line feed
   <  from the node: a line, or an order to a driver
 Times in what the node sends are seconds since midnight: 20:00:00 is 72000.000.
@@ -171,7 +172,15 @@ impl Evening {
             Act::Read(parameter, value) => {
                 let number = self.parameter(parameter)?;
                 self.log.say(&clock, who, what);
-                self.read(*time, number, value);
+                let result = self.node.reading(number as u64, *time, value.as_bytes());
+                told_by_driver(&mut self.log, result);
+            }
+            Act::Fail(parameter, class) => {
+                let number = self.parameter(parameter)?;
+                let error = error_named(class)?;
+                self.log.say(&clock, who, what);
+                let result = self.node.unreadable(number as u64, *time, error);
+                told_by_driver(&mut self.log, result);
             }
         }
         Ok(())
@@ -221,25 +230,36 @@ impl Evening {
         }
     }
 
-    fn read(&mut self, time: u64, parameter: usize, value: &str) {
-        match self.node.reading(parameter as u64, time, value.as_bytes()) {
-            Ok(records) => records.for_each(|record| self.log.record(record)),
-            Err(refusal) => self.log.refusal(refusal),
-        }
-    }
-
     /// The values that are shown at the end.
     fn end(&mut self) -> Result<(), Refusal> {
         self.log.caption("What the node shows at the end:");
         for number in 0..self.log.table.parameters.len() {
             let value = self.node.value(number as u64)?;
-            let text = String::from_utf8_lossy(value.text);
-            let origin = if value.set { "" } else { "  (initial)" };
-            let what = format!("{:18}  {text}{origin}", self.log.table.parameters[number]);
+            let text = |bytes| String::from_utf8_lossy(bytes).to_string();
+            let shown = match value.held {
+                Held::Set(bytes) => text(bytes),
+                Held::Initial(bytes) => text(bytes) + "  (initial)",
+                Held::Error(error) => format!("can't be read: {error}"),
+            };
+            let what = format!("{:18}  {shown}", self.log.table.parameters[number]);
             self.log.say(&clock(value.time), "node", &what);
         }
         Ok(())
     }
+}
+
+/// What a driver's report did.
+fn told_by_driver(log: &mut Log, result: Result<Records, Refusal>) {
+    match result {
+        Ok(records) => records.for_each(|record| log.record(record)),
+        Err(refusal) => log.refusal(refusal),
+    }
+}
+
+fn error_named(name: &str) -> Result<SensorError, String> {
+    let mut all = SensorError::ALL.into_iter();
+    let found = all.find(|error| error.to_string() == name);
+    found.ok_or_else(|| format!("there is no error {name}"))
 }
 
 /// Plays a script and gives what is printed.

@@ -3,7 +3,7 @@
 //! example and a few more, the same as `examples/host.c`, and prints the same:
 //! `examples/host.expected`; `docs/LIBRARY.md` says why.
 
-use jihfasul::{Mark, Node, Record, Refusal};
+use jihfasul::{Held, Mark, Node, Record, Records, Refusal, SensorError};
 
 /// One module "t1": two parameters, "value" (read only) and "target", doubles
 /// from 0 to 300, and a command "stop".
@@ -55,14 +55,20 @@ fn receive(node: &mut Node, client: u64, time: u64, mut bytes: &[u8]) {
     }
 }
 
+/// What a driver's report did.
+fn reported(call: &str, result: Result<Records, Refusal>) {
+    say(call, &result.as_ref().map(drop).map_err(|refusal| *refusal));
+    result.into_iter().flatten().for_each(hand_on);
+}
+
 /// Feeds a value that a driver has read.
 fn read_driver(node: &mut Node, parameter: u64, time: u64, text: &[u8]) {
-    let result = node.reading(parameter, time, text);
-    say(
-        "reading",
-        &result.as_ref().map(drop).map_err(|refusal| *refusal),
-    );
-    result.into_iter().flatten().for_each(hand_on);
+    reported("reading", node.reading(parameter, time, text));
+}
+
+/// Feeds a driver's report that it can't read a parameter.
+fn fail_driver(node: &mut Node, parameter: u64, time: u64, error: SensorError) {
+    reported("unreadable", node.unreadable(parameter, time, error));
 }
 
 /// The host's own look at a parameter.
@@ -70,11 +76,15 @@ fn show(node: &Node, parameter: u64) {
     match node.value(parameter) {
         Err(refusal) => println!("value: number {}", refusal.number()),
         Ok(value) => {
-            let text = String::from_utf8_lossy(value.text);
-            let origin = if value.set { "set" } else { "initial" };
+            let text = |bytes| String::from_utf8_lossy(bytes).to_string();
+            let (shown, origin) = match value.held {
+                Held::Set(bytes) => (text(bytes), "set"),
+                Held::Initial(bytes) => (text(bytes), "initial"),
+                Held::Error(error) => (error.class().to_string(), "error"),
+            };
             println!("value: number 0");
             println!(
-                "  parameter {parameter}: {text} ({origin}) at {} ms",
+                "  parameter {parameter}: {shown} ({origin}) at {} ms",
                 value.time
             );
         }
@@ -109,5 +119,10 @@ fn main() -> Result<(), Refusal> {
     );
     show(&node, 1);
     show(&node, 2); // refused: there are two parameters
+    fail_driver(&mut node, 0, 2400, SensorError::CommunicationFailed);
+    receive(&mut node, 2, 2500, b"read t1:value\n");
+    show(&node, 0); // in error
+    read_driver(&mut node, 0, 2600, b"4.6");
+    show(&node, 0);
     Ok(())
 }

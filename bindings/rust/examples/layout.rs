@@ -36,6 +36,10 @@ fn print_layout() {
         offset_of!(State, settings.length)
     );
     println!(
+        "state settings.error at {}",
+        offset_of!(State, settings.error)
+    );
+    println!(
         "state settings.time at {}",
         offset_of!(State, settings.time)
     );
@@ -51,6 +55,7 @@ fn print_answers_layout() {
     println!("shown of {} bytes", size_of::<Shown>());
     println!("shown number at {}", offset_of!(Shown, number));
     println!("shown stored at {}", offset_of!(Shown, stored));
+    println!("shown error at {}", offset_of!(Shown, error));
     println!("shown from at {}", offset_of!(Shown, from));
     println!("shown size at {}", offset_of!(Shown, size));
     println!("shown time at {}", offset_of!(Shown, time));
@@ -77,8 +82,9 @@ fn print_state(state: &State) {
         );
     }
     for p in 0..2 {
-        let (length, time) = (state.settings.length[p], state.settings.time[p]);
-        println!("parameter {p}: length {length}, time {time}");
+        let settings = &state.settings;
+        let (length, error, time) = (settings.length[p], settings.error[p], settings.time[p]);
+        println!("parameter {p}: length {length}, error {error}, time {time}");
     }
 }
 
@@ -118,17 +124,24 @@ impl Host {
         self.keep(done);
     }
 
+    fn unreadable(&mut self, time: u64, class: u64) {
+        let (values, outbox) = (&self.values, &mut self.outbox);
+        let done = call::unreadable(TABLE, values, outbox, &self.state, 0, time, class);
+        self.keep(done);
+    }
+
     fn value(&self, parameter: u64) {
         let Shown {
             number,
             stored,
+            error,
             from,
             size,
             time,
         } = call::value(TABLE, &self.values, &self.state, parameter);
         println!("number {number}");
         if number == 0 {
-            println!("stored {stored}, from {from}, size {size}, time {time}");
+            println!("stored {stored}, error {error}, from {from}, size {size}, time {time}");
         }
     }
 }
@@ -154,4 +167,8 @@ fn main() {
     for parameter in 0..3 {
         host.value(parameter);
     }
+    host.unreadable(901, 3);
+    host.unreadable(902, 259);
+    print_state(&host.state);
+    host.value(0);
 }

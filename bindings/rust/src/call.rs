@@ -65,6 +65,19 @@ mod library {
             bytes_length: usize,
         ) -> Done;
 
+        pub fn jihfasul_unreadable(
+            table: *const u8,
+            table_length: usize,
+            values: *const u8,
+            values_length: usize,
+            outbox: *mut u8,
+            outbox_length: usize,
+            state: State,
+            parameter: u64,
+            time: u64,
+            class: u64,
+        ) -> Done;
+
         pub fn jihfasul_value(
             table: *const u8,
             table_length: usize,
@@ -170,6 +183,33 @@ pub fn reading(
             time,
             bytes.as_ptr(),
             bytes.len(),
+        )
+    }
+}
+
+/// The class is any number: one that is none of
+/// [`SensorError`](crate::SensorError) is refused.
+pub fn unreadable(
+    table: &[u8],
+    values: &[u8],
+    outbox: &mut [u8],
+    state: &State,
+    parameter: u64,
+    time: u64,
+    class: u64,
+) -> Done {
+    unsafe {
+        library::jihfasul_unreadable(
+            table.as_ptr(),
+            table.len(),
+            values.as_ptr(),
+            values.len(),
+            outbox.as_mut_ptr(),
+            outbox.len(),
+            *state,
+            parameter,
+            time,
+            class,
         )
     }
 }

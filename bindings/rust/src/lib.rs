@@ -12,9 +12,11 @@ pub mod call;
 mod node;
 mod outbox;
 mod refusal;
+mod sensor;
 pub mod state;
 
-pub use node::{Node, Taken, Value, OUTBOX, VALUES};
+pub use node::{Held, Node, Taken, Value, OUTBOX, VALUES};
 pub use outbox::{Mark, Record, Records};
 pub use refusal::Refusal;
+pub use sensor::SensorError;
 pub use state::{Done, Shown, State};

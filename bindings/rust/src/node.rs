@@ -3,6 +3,7 @@
 use crate::call;
 use crate::outbox::{Record, Records};
 use crate::refusal::Refusal;
+use crate::sensor::SensorError;
 use crate::state::{Done, State};
 
 /// The bytes of a values area and of an outbox.
@@ -27,15 +28,22 @@ pub struct Taken<'a> {
     pub records: Records<'a>,
 }
 
-/// The value that a parameter shows.
+/// What a parameter shows, and since when.
 #[derive(Clone, Copy, Debug, PartialEq, Eq)]
 pub struct Value<'a> {
-    /// In stored form: JSON without spaces outside strings, an enum's members
-    /// by their numbers.
-    pub text: &'a [u8],
+    pub held: Held<'a>,
     pub time: u64,
-    /// Whether it was ever set; until then it is the table's initial value.
-    pub set: bool,
+}
+
+/// A value in stored form, JSON without spaces outside strings, or an error in
+/// its place.
+#[derive(Clone, Copy, Debug, PartialEq, Eq)]
+pub enum Held<'a> {
+    /// The table's initial value: it was never set.
+    Initial(&'a [u8]),
+    Set(&'a [u8]),
+    /// It can't be read.
+    Error(SensorError),
 }
 
 impl Node {
@@ -140,17 +148,38 @@ impl Node {
         self.keep(done)
     }
 
-    /// The value that a parameter shows.
+    /// Takes a driver's report that a parameter can't be read: the error stands
+    /// in the value's place until the next value is stored.
+    pub fn unreadable(
+        &mut self,
+        parameter: u64,
+        time: u64,
+        error: SensorError,
+    ) -> Result<Records<'_>, Refusal> {
+        let done = call::unreadable(
+            &self.table,
+            &self.values,
+            &mut self.outbox,
+            &self.state,
+            parameter,
+            time,
+            error.class().into(),
+        );
+        self.keep(done)
+    }
+
+    /// What a parameter shows: a value, or why it can't be read.
     pub fn value(&self, parameter: u64) -> Result<Value<'_>, Refusal> {
         let shown = call::value(&self.table, &self.values, &self.state, parameter);
         Refusal::judge(shown.number)?;
-        let set = shown.stored != 0;
-        let area = if set { &self.values } else { &self.table };
-        Ok(Value {
-            text: &area[shown.from..][..shown.size],
-            time: shown.time,
-            set,
-        })
+        let place = shown.from..shown.from + shown.size;
+        let held = match (SensorError::of(shown.error), shown.stored) {
+            (Some(error), _) => Held::Error(error),
+            (None, 0) => Held::Initial(&self.table[place]),
+            (None, _) => Held::Set(&self.values[place]),
+        };
+        let time = shown.time;
+        Ok(Value { held, time })
     }
 
     /// Keeps the next state and gives what was written, unless the call was

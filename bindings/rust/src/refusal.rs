@@ -23,9 +23,10 @@ pub enum Refusal {
     AlreadyOpen = 13,
     NoSuchParameter = 14,
     Reading = 15,
+    UnknownError = 16,
 }
 
-const ALL: [(Refusal, &str); 15] = [
+const ALL: [(Refusal, &str); 16] = [
     (Refusal::Layout, "the table is too long or can't be read"),
     (
         Refusal::Counts,
@@ -62,6 +63,7 @@ const ALL: [(Refusal, &str); 15] = [
         Refusal::Reading,
         "the reading's value is refused by the value rules",
     ),
+    (Refusal::UnknownError, "there is no error of this number"),
 ];
 
 impl Refusal {

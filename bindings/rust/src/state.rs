@@ -21,12 +21,15 @@ pub struct Clients {
     pub lines: [u8; CLIENTS * LINE],
 }
 
-/// Of each parameter: the length of its stored value, 0 if it was never set,
-/// and its time. Places past the last parameter don't count.
+/// Of each parameter: the length of its stored value, 0 if it was never set;
+/// the class of the error in the value's place, 0 if there is none; and the
+/// time of the value or of the error. Places past the last parameter don't
+/// count.
 #[repr(C)]
 #[derive(Clone, Copy, Debug, PartialEq, Eq)]
 pub struct Settings {
     pub length: [u16; PARAMETERS],
+    pub error: [u8; PARAMETERS],
     pub time: [u64; PARAMETERS],
 }
 
@@ -51,6 +54,7 @@ impl State {
         },
         settings: Settings {
             length: [0; PARAMETERS],
+            error: [0; PARAMETERS],
             time: [0; PARAMETERS],
         },
     };
@@ -68,12 +72,14 @@ pub struct Done {
 }
 
 /// Where the value lies that a parameter shows: in the table if `stored` is 0,
-/// in the values area if it is 1.
+/// in the values area if it is 1. If the parameter can't be read, `error` is
+/// the class and not 0, and there is no value: its size is 0.
 #[repr(C)]
 #[derive(Clone, Copy, Debug, PartialEq, Eq)]
 pub struct Shown {
     pub number: u8,
     pub stored: u8,
+    pub error: u8,
     pub from: usize,
     pub size: usize,
     pub time: u64,

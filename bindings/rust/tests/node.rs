@@ -1,7 +1,7 @@
 //! The wrapper over the library: what it keeps, and that a refusal alters
-//! nothing. What is expected stands in document 01.
+//! nothing. What is expected stands in documents 01 and 02 (M-102).
 
-use jihfasul::{Mark, Node, Refusal, State};
+use jihfasul::{Held, Mark, Node, Refusal, SensorError, State, Value};
 
 /// One module "m" with two parameters, both bool: "p", true, and "q", false.
 fn table() -> Vec<u8> {
@@ -55,13 +55,34 @@ fn readings_and_values() {
     assert_eq!((update.mark, update.client), (Mark::Update, 0));
     assert_eq!(update.body, b"update m:q [true,{\"t\":0.777}]\n");
     assert_eq!((records.next(), records.rest()), (None, b"".as_slice()));
-    let shown = |parameter| {
-        node.value(parameter)
-            .map(|one| (one.text, one.time, one.set))
-    };
-    assert_eq!(shown(0), Ok((b"true".as_slice(), 5, false)));
-    assert_eq!(shown(1), Ok((b"true".as_slice(), 777, true)));
-    assert_eq!(shown(2), Err(Refusal::NoSuchParameter));
+    let shown = |held, time| Ok(Value { held, time });
+    assert_eq!(node.value(0), shown(Held::Initial(b"true"), 5));
+    assert_eq!(node.value(1), shown(Held::Set(b"true"), 777));
+    assert_eq!(node.value(2), Err(Refusal::NoSuchParameter));
+}
+
+#[test]
+fn a_broken_sensor_is_reported_as_such() {
+    let mut node = started();
+    node.open(0, 6).expect("closed until now");
+    fed(&mut node, 0, b"activate m\n");
+    for (error, class) in SensorError::ALL.into_iter().zip(1..) {
+        let mut records = node.unreadable(1, 777, error).expect("a parameter");
+        let update = records.next().expect("an update");
+        assert_eq!((update.mark, update.client), (Mark::Update, 0));
+        let line = format!("error_update m:q [\"{error}\",\"{error}\",{{\"t\":0.777}}]\n");
+        assert_eq!(update.body, line.as_bytes());
+        assert_eq!((records.next(), records.rest()), (None, b"".as_slice()));
+        let (held, time) = (Held::Error(error), 777);
+        assert_eq!(node.value(1), Ok(Value { held, time }));
+        assert_eq!(node.state().settings.error[1], class);
+        let reply = format!("error_read m:q:x [\"{error}\",\"{error}\",{{\"t\":0.777}}]\n");
+        assert_eq!(fed(&mut node, 0, b"read m:q:x\n"), reply);
+    }
+    assert!(node.values().iter().all(|byte| *byte == 0));
+    node.reading(1, 778, b"false").expect("a bool");
+    let (held, time) = (Held::Set(b"false".as_slice()), 778);
+    assert_eq!(node.value(1), Ok(Value { held, time }));
 }
 
 #[test]
@@ -77,6 +98,8 @@ fn a_refusal_alters_nothing() {
         node.reading(2, 7, b"true").err(),
         Some(Refusal::NoSuchParameter)
     );
+    let missing = node.unreadable(2, 7, SensorError::ReadFailed).err();
+    assert_eq!(missing, Some(Refusal::NoSuchParameter));
     assert_eq!(node.piece(4, 7, b"").err(), Some(Refusal::NotOpen));
     assert_eq!((node.state(), node.values()), (&state, values.as_slice()));
 }
@@ -90,6 +113,10 @@ fn a_kept_state_is_gone_on_with() {
     let mut again = Node::resume(table(), values.clone(), state);
     let reply = "reply m:q [true,{\"t\":1.500}]\n";
     assert_eq!(fed(&mut again, 3, b":q\n"), reply);
+    state.settings.error[0] = 5;
+    let mut unknown = Node::resume(table(), values.clone(), state);
+    assert_eq!(unknown.close(3, 7), Err(Refusal::State));
+    state.settings.error[0] = 0;
     state.clients.active[3] = 2;
     let mut unfit = Node::resume(table(), values, state);
     assert_eq!(unfit.close(3, 7), Err(Refusal::State));

@@ -1,3 +1,4 @@
 pub mod Feeds
 pub mod Joins
+pub mod Tells
 pub mod Takes

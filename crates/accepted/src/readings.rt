@@ -1,5 +1,6 @@
 // A reading that fits its parameter.
 use form::put_form;
+use message::say::Sensor;
 use promise::Done;
 use search::cursor::Cursor;
 use state::State;
@@ -7,6 +8,7 @@ use state::setting::stored;
 use table::layout::ParameterAt;
 use update::bytes_of;
 use update::put_updates_to;
+ghost use Rattle.plain.specs.Calls.{Reading};
 ghost use Rattle.accepted.specs.Fitting.{Fitting, Taken};
 
 // "An accepted reading stores the value ..": of parameter k, of which p has the positions; `home` is the cursor after it, in its module. The
@@ -23,7 +25,7 @@ pub fn take_reading(
     home: Cursor,
 ) -> Done
     requires { ⌜ Fitting (now table) state (now values) (now outbox) k time (now bytes) p home ⌝ }
-    ensures { λ r. ⌜ Taken (now (table .entry)) state (now (values .entry)) (now (outbox .entry)) k time (now (bytes .entry)) r (now (values .exit)) (now (outbox .exit)) ⌝ }
+    ensures { λ r. ⌜ Taken (now (table .entry)) state (now (values .entry)) (now (outbox .entry)) (Reading k (now (bytes .entry)) time) r (now (values .exit)) (now (outbox .exit)) ⌝ }
 {
     let clients = state.clients;
     let at = 256 * k;
@@ -38,6 +40,7 @@ pub fn take_reading(
         number,
         module,
         name,
+        Sensor::Works,
         &values[at..end],
         time,
     );

@@ -14,7 +14,8 @@ use Rattle.table.specs.Layout.{tableOf}
 use Rattle.table.specs.Table.{Parameter}
 use Rattle.table.specs.Search.{Placed}
 use Rattle.search.specs.Found.{ParameterFound}
-use Rattle.message.specs.Reply.{changed}
+use Rattle.message.specs.Error.{class}
+use Rattle.message.specs.Reply.{valued, changed}
 use Rattle.message.specs.Said.{classOf, reportOf}
 use Rattle.message.specs.declared.say.Class.{Class}
 use Rattle.outbox.specs.Outbox.{orderChange}
@@ -50,7 +51,7 @@ module _ (s : List ℕ) (st : State) (values out : List ℕ) (c t : ℕ) (g : Re
   pub change-refused : (e : Class) → v ≡ J.Refused e → OfParameter s st values out c t (Refused e) values out m a (λ w n c t. changes w n c t xs)
   unfolding changes
   change-refused e z =
-      the-parameter p (λ x. Refuses (tableOf s) (view s st values) c t out out values values (change x) (refused (classOf e)))
+      the-parameter p (λ x. Refuses (tableOf s) (view s st values) c t out out values values (change x) (refused (class (classOf e))))
       (record { is = rw (p .readonly) (subst (Lets (q .readonly) (Fit.verdict (p .it .it .datainfo) xs)) z lets setting); quiet = refl; area = refl })
 
   module _ (z : v ≡ J.LetIn) where
@@ -101,8 +102,8 @@ module _ (s : List ℕ) (st : State) (values out : List ℕ) (c t : ℕ) (g : Re
           long = refl;
           carries =
               record {
-                records = orderChange c k (storedForm (p .it .it .datainfo) xs) ∷ updatesTo (clientAt (st .clients)) h (reportOf m a (storedForm (p .it .it .datainfo) xs) t) clientNumbers;
-                reply = changed (reportOf m a (storedForm (p .it .it .datainfo) xs) t);
+                records = orderChange c k (storedForm (p .it .it .datainfo) xs) ∷ updatesTo (clientAt (st .clients)) h (reportOf m a (valued (storedForm (p .it .it .datainfo) xs)) t) clientNumbers;
+                reply = changed (reportOf m a (valued (storedForm (p .it .it .datainfo) xs)) t);
                 is = is-set ∙ rw (p .home, p .moduleNamed, p .named);
                 puts = i .puts;
               };

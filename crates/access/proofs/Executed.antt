@@ -12,7 +12,8 @@ use Rattle.fit.specs.declared.Verdict.{Verdict}
 use Rattle.table.specs.Layout.{argumentAt, tableOf}
 use Rattle.search.specs.Found.{CommandFound}
 use Rattle.table.specs.declared.layout.CommandAt.{CommandAt}
-use Rattle.message.specs.Reply.{done}
+use Rattle.message.specs.Error.{class}
+use Rattle.message.specs.Reply.{valued, done}
 use Rattle.message.specs.Said.{classOf, reportOf}
 use Rattle.message.specs.declared.say.Class.{Class}
 use Rattle.outbox.specs.Outbox.{orderCommand}
@@ -36,7 +37,7 @@ module _ (s out : List ℕ) (c t : ℕ) (l : Lent s out c) (m a xs : List ℕ) (
   judged-is = j .is (g .argument)
 
   abbrev ordered : Node → Outcome
-  ordered n = carried n [] (orderCommand c k (argumentForm (g .it .it .argument) xs) ∷ []) (done (reportOf m a (bytes "null") t))
+  ordered n = carried n [] (orderCommand c k (argumentForm (g .it .it .argument) xs) ∷ []) (done (reportOf m a (valued (bytes "null")) t))
 
   let-in : (n : Node) → does (tableOf s) n c t xs (k, g .it) ≡ letIn (meaning v) (ordered n)
   unfolding does
@@ -44,7 +45,7 @@ module _ (s out : List ℕ) (c t : ℕ) (l : Lent s out c) (m a xs : List ℕ) (
 
   pub execute-refused : (e : Class) → r ≡ J.Refused e → OfCommand s out c t (Refused e) out m a (λ w n c t. does w n c t xs)
   execute-refused e z n values =
-      the-command g (λ x. Refuses (tableOf s) n c t out out values values (does (tableOf s) n c t xs x) (refused (classOf e)))
+      the-command g (λ x. Refuses (tableOf s) n c t out out values values (does (tableOf s) n c t xs x) (refused (class (classOf e))))
       (record { is = let-in n ∙ subst (Lets false (meaning v)) z d (ordered n); quiet = refl; area = refl })
 
   module _ (z : r ≡ J.LetIn) where
@@ -76,7 +77,7 @@ module _ (s out : List ℕ) (c t : ℕ) (l : Lent s out c) (m a xs : List ℕ) (
           carries =
               record {
                 records = orderCommand c k (argumentForm (g .it .it .argument) xs) ∷ [];
-                reply = done (reportOf m a (bytes "null") t);
+                reply = done (reportOf m a (valued (bytes "null")) t);
                 is = let-in n ∙ rw fits-it;
                 puts = p .is (g .argument);
               };

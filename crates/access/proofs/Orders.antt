@@ -18,7 +18,7 @@ use Rattle.fit.specs.Fit.{storedForm, isFit}
 use Rattle.form.specs.Formed.{FitsAt, PutsForm}
 use Rattle.form.proofs.Stored.{stored-short}
 use Rattle.table.specs.Layout.{argumentAt}
-use Rattle.message.specs.Reply.{done}
+use Rattle.message.specs.Reply.{valued, done}
 use Rattle.message.specs.Said.{reportOf}
 use Rattle.outbox.specs.Outbox.{Record, final, orderCommand, mark, body, encode, encodeAll}
 use Rattle.outbox.specs.Written.{RoomFor}
@@ -93,7 +93,7 @@ module _ (table : List ℕ) (info : ℕ) (out : List ℕ) (k : ℕ) (b : Bool) (
   command d = orderCommand c k (argumentForm d xs)
 
   abbrev reply : Record
-  reply = final c (done (reportOf m a (bytes "null") t))
+  reply = final c (done (reportOf m a (valued (bytes "null")) t))
 
   -- the argument that is declared, or none
   abbrev argument : Option Datainfo
@@ -102,9 +102,9 @@ module _ (table : List ℕ) (info : ℕ) (out : List ℕ) (k : ℕ) (b : Bool) (
   records-short : Written (command argument ∷ (reply ∷ [])) 683
   unfolding body bytes
   records-short =
-      let fine : Fine (reportOf m a (bytes "null") t) = record { names = (n .module-name, n .name); small = omega arith; inTime = n .inTime } in
+      let fine : Fine (reportOf m a (valued (bytes "null")) t) = record { names = (n .module-name, n .name); small = omega arith; inTime = n .inTime } in
       let f = form-short argument xs (o .argument .fits) in
-      written-append (command argument ∷ []) (reply ∷ []) 262 421 (written-one (command argument) 262 tt (omega arith)) (written-final c _ 415 (says-done _ fine))
+      written-append (command argument ∷ []) (reply ∷ []) 262 421 (written-one (command argument) 262 tt (omega arith)) (written-final c _ 415 (says-done _ fine tt))
 
   one : {d : Option Datainfo} {y : List ℕ} → argumentAt b (drop info table) ≡ some (d, y) → Puts out 0 (encodeAll (command d ∷ [])) after told
   unfolding encodeAll

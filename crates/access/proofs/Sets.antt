@@ -12,7 +12,7 @@ use Rattle.datainfo.specs.Layout.{datainfoIn}
 use Rattle.fit.specs.Fit.{storedForm}
 use Rattle.form.specs.Formed.{FitsAt, PutsForm}
 use Rattle.form.proofs.Stored.{stored-short}
-use Rattle.message.specs.Reply.{Report, changed}
+use Rattle.message.specs.Reply.{valued, Report, changed}
 use Rattle.message.specs.Said.{reportOf}
 use Rattle.outbox.specs.Outbox.{Record, final, orderChange, body, encode, encodeAll}
 use Rattle.outbox.specs.Written.{RoomFor}
@@ -29,7 +29,7 @@ use Rattle.access.specs.Set.{setRecords, Settable, Accepts, IsSet, IsSet
 
 module _ (out : List ℕ) (k h : ℕ) (m a : List ℕ) (t : ℕ) (g : Settable out k h m a t) (s : Clients) (c : ℕ) (v : List ℕ) (n : length v ≤ 256) where
   abbrev report : Report
-  report = reportOf m a v t
+  report = reportOf m a (valued v) t
 
   abbrev order : Record
   order = orderChange c k v
@@ -53,7 +53,7 @@ module _ (out : List ℕ) (k h : ℕ) (m a : List ℕ) (t : ℕ) (g : Settable o
   all-short : Written ((order ∷ updates) ++ (reply ∷ [])) 4043
   all-short =
       written-append (order ∷ updates) (reply ∷ []) 3622 421 (written-append (order ∷ []) updates 262 3360 (order-short c k) updates-short)
-      (written-final c (changed report) 415 (says-changed report fine-report))
+      (written-final c (changed report) 415 (says-changed report fine-report tt))
 
   -- whatever the numbers
   pub order-room : (i j : ℕ) → RoomFor out 0 (orderChange i j v)
@@ -89,7 +89,7 @@ module _ (out : List ℕ) (k h : ℕ) (m a : List ℕ) (t : ℕ) (g : Settable o
           let room = at .fits in
           record { fits = omega arith; short = at .short }
 
-      pub set-put : (d : List ℕ) (i : ℕ) → Puts f q (encode reply) d i → Puts out 0 (encodeAll (setRecords s c k h report)) d i
+      pub set-put : (d : List ℕ) (i : ℕ) → Puts f q (encode reply) d i → Puts out 0 (encodeAll (setRecords s c k h m a v t)) d i
       unfolding setRecords
       set-put d i z = puts-after (order ∷ updates) reply out f q told d i z
 
@@ -119,7 +119,7 @@ module _ (out : List ℕ) (k h : ℕ) (m a : List ℕ) (t : ℕ) (g : Settable o
     value-settable = (g, rw (value-is (w .fitting .reads .is)) (stored-short (w .fitting .reads .datainfo) xs (w .fitting .fits)))
 
     pub set-is : (s : Clients) (c : ℕ) (last : List ℕ) (written : ℕ)
-        → Puts out 0 (encodeAll (setRecords s c k h (reportOf m a (take (r - 256 * k) (drop (256 * k) after)) t))) last written
+        → Puts out 0 (encodeAll (setRecords s c k h m a (take (r - 256 * k) (drop (256 * k) after)) t)) last written
         → IsSetBy read s c k h m a xs t values out (Stored k (r - 256 * k) written) after last
     unfolding withStored
     set-is s c last written p = record { is = λ e. by e }

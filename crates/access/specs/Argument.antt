@@ -14,7 +14,7 @@ use Rattle.fit.specs.Fit.{isFit}
 use Rattle.fit.specs.Verdict.{meaning}
 use Rattle.fit.specs.declared.Verdict.{Verdict}
 use Rattle.table.specs.At.{ArgumentReadable}
-use Rattle.message.specs.Reply.{done}
+use Rattle.message.specs.Reply.{valued, done}
 use Rattle.message.specs.Said.{reportOf}
 use Rattle.outbox.specs.Outbox.{Record, final, orderCommand, encode, encodeAll}
 use Rattle.plain.specs.Answer.{argumentVerdict, argumentForm}
@@ -42,7 +42,7 @@ pub record Reported (m a : List ℕ) (t : ℕ) : Type 0 where
 
 -- "the driver's order, then `done M:C [null,{"t":now}]`"
 unfoldable pub orderRecords : ℕ → ℕ → List ℕ → List ℕ → List ℕ → ℕ → List Record
-orderRecords c k form m a t = orderCommand c k form ∷ (final c (done (reportOf m a (bytes "null") t)) ∷ [])
+orderRecords c k form m a t = orderCommand c k form ∷ (final c (done (reportOf m a (valued (bytes "null")) t)) ∷ [])
 
 -- the order of client c to carry out command k, with the form of a text by the argument that o reads, is at the front of the outbox
 pub record PutsOrder (o : Option (Option Datainfo × List ℕ)) (c k : ℕ) (xs before after : List ℕ) (end : ℕ) : Type 0 where

@@ -11,7 +11,7 @@ use Rattle.ascii.specs.Writer.{Puts}
 use Rattle.datainfo.specs.Datainfo.{Datainfo}
 use Rattle.fit.specs.Fit.{storedForm}
 use Rattle.form.specs.Formed.{FitsAt}
-use Rattle.message.specs.Reply.{Report, changed}
+use Rattle.message.specs.Reply.{valued, Report, changed}
 use Rattle.message.specs.Said.{reportOf}
 use Rattle.outbox.specs.Outbox.{Record, final, orderChange, encodeAll}
 use Rattle.plain.specs.Node.{clientNumbers, updatesTo}
@@ -20,9 +20,11 @@ use Rattle.state.specs.View.{clientAt, withStored}
 use Rattle.outcome.specs.declared.Outcome.{Outcome}
 use Rattle.outcome.specs.declared.Outcome.the-variants.{Stored}
 
--- the records of `plain/Answer.sets`: parameter k of the module of number h, set by client c
-unfoldable pub setRecords : Clients → ℕ → ℕ → ℕ → Report → List Record
-setRecords s c k h r = orderChange c k (r .value) ∷ (updatesTo (clientAt s) h r clientNumbers ++ (final c (changed r) ∷ []))
+-- the records of `plain/Answer.sets`: parameter k, a of the module m, which has the number h, set by client c to the text v at the time t
+unfoldable pub setRecords : Clients → ℕ → ℕ → ℕ → List ℕ → List ℕ → List ℕ → ℕ → List Record
+setRecords s c k h m a v t =
+    let r : Report = reportOf m a (valued v) t in
+    orderChange c k v ∷ (updatesTo (clientAt s) h r clientNumbers ++ (final c (changed r) ∷ []))
 
 -- the parameter a of the module m has these numbers, reports of it can be written, and the outbox has room for the records
 pub record Settable (out : List ℕ) (k h : ℕ) (m a : List ℕ) (t : ℕ) : Type 0 where
@@ -43,7 +45,7 @@ pub record IsSet (d : Datainfo) (s : Clients) (c k h : ℕ) (m a xs : List ℕ) 
   pub written : ℕ
   pub is : r ≡ Stored k (length (storedForm d xs)) written
   pub area : stored ≡ withStored values k (storedForm d xs)
-  pub puts : Puts out 0 (encodeAll (setRecords s c k h (reportOf m a (storedForm d xs) t))) after written
+  pub puts : Puts out 0 (encodeAll (setRecords s c k h m a (storedForm d xs) t)) after written
 
 -- the same by the datainfo that o reads
 pub record IsSetBy (o : Option (Datainfo × List ℕ)) (s : Clients) (c k h : ℕ) (m a xs : List ℕ) (t : ℕ) (values out : List ℕ)

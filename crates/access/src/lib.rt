@@ -15,16 +15,18 @@ use crate::judge::Judged;
 use crate::judge::judge_change;
 use crate::judge::let_in;
 use crate::setting::set;
+use message::say::Sensor;
 use outbox::write::Told;
 use outbox::write::put_final_report;
 use outcome::Outcome;
 use state::State;
+use state::setting::sensor_at;
 use state::setting::shown;
 use table::layout::CommandAt;
 use table::layout::ParameterAt;
 
 // "`reply M:P [value,{"t":time}]`, the stored time", with the value that the parameter shows, at the front of the outbox: of the parameter that
-// these names find, with its number, its module's, and its positions.
+// these names find, with its number, its module's, and its positions; or an error where it can't be read, and the outbox is as it was.
 pub fn read<'a>(
     table: &'a [u8],
     values: &'a [u8],
@@ -42,11 +44,17 @@ pub fn read<'a>(
         (now (out .exit)) (now («module» .entry)) (now (name .entry)) reads) ⌝ }
 {
     let settings = state.settings;
-    let initial = q.initial;
-    let value = shown(table, values, settings, k, initial);
-    let time = settings.time[k];
-    let end = put_final_report(out, 0, client, Told::Reply, module, name, value, time);
-    Outcome::Sent(end)
+    let times = settings.time;
+    let time = times[k];
+    match sensor_at(settings, k) {
+        Sensor::Fails(fault) => Outcome::Unreadable(fault, time),
+        Sensor::Works => {
+            let initial = q.initial;
+            let value = shown(table, values, settings, k, initial);
+            let end = put_final_report(out, 0, client, Told::Reply, module, name, value, time);
+            Outcome::Sent(end)
+        }
+    }
 }
 
 // A parameter's value is set; or an error, and outbox and values area are as they were.

@@ -3,10 +3,10 @@ ghost use Prim.Native.Nat.{_≤_};
 ghost use lib.ListN.{length, drop};
 ghost use Rattle.ascii.specs.Writer.{Puts};
 ghost use Rattle.datainfo.specs.Layout.{datainfoIn};
-ghost use Rattle.message.specs.Said.{reportOf};
 ghost use Rattle.outbox.specs.Outbox.{encodeAll};
 ghost use Rattle.access.specs.Set.{Settable, Accepts, IsSetBy, setRecords};
 use form::put_form;
+use message::say::Sensor;
 use outbox::write::Told;
 use outbox::write::put_final_report;
 use outbox::write::put_order_change;
@@ -27,10 +27,20 @@ fn put_set(
     value: &[u8],
 ) -> usize
     requires { ⌜ Settable (now out) k home (now «module») (now name) time × (length (now value) ≤ 256) ⌝ }
-    ensures { λ r. ⌜ Puts (now (out .entry)) 0 (encodeAll (setRecords clients client k home (reportOf (now («module» .entry)) (now (name .entry)) (now (value .entry)) time))) (now (out .exit)) r ⌝ }
+    ensures { λ r. ⌜ Puts (now (out .entry)) 0 (encodeAll (setRecords clients client k home (now («module» .entry)) (now (name .entry)) (now (value .entry)) time)) (now (out .exit)) r ⌝ }
 {
     let order = put_order_change(out, 0, client, k as u8, value);
-    let told = put_updates_to(out, order, clients, home, module, name, value, time);
+    let told = put_updates_to(
+        out,
+        order,
+        clients,
+        home,
+        module,
+        name,
+        Sensor::Works,
+        value,
+        time,
+    );
     put_final_report(out, told, client, Told::Changed, module, name, value, time)
 }
 

@@ -1,4 +1,4 @@
-// Runs the five calls of a node over a script from standard input and writes what each answers. `script::operation` says what a script is
+// Runs the six calls of a node over a script from standard input and writes what each answers. `script::operation` says what a script is
 // made of, `script::say` what is written.
 use libc::STDIN_FILENO;
 use node::clients::jihfasul_close;
@@ -6,8 +6,10 @@ use node::clients::jihfasul_open;
 use node::pieces::jihfasul_piece;
 use node::readings::jihfasul_reading;
 use node::start::jihfasul_start;
+use node::unreadable::jihfasul_unreadable;
 use promise::Done;
 use script::operation::Operation;
+use script::operation::class_of;
 use script::operation::read_operation;
 use script::poke::blank;
 use script::poke::poked;
@@ -27,7 +29,7 @@ struct Kept {
 
 fn is_call(code: u8) -> bool {
     match code {
-        b'S' | b'O' | b'C' | b'P' | b'R' => true,
+        b'S' | b'O' | b'C' | b'P' | b'R' | b'U' => true,
         _ => false,
     }
 }
@@ -47,7 +49,16 @@ fn call(
         b'O' => jihfasul_open(table, values, state, o.number, o.time),
         b'C' => jihfasul_close(table, values, state, o.number, o.time),
         b'P' => jihfasul_piece(table, values, outbox, state, o.number, o.time, bytes),
-        _ => jihfasul_reading(table, values, outbox, state, o.number, o.time, bytes),
+        b'R' => jihfasul_reading(table, values, outbox, state, o.number, o.time, bytes),
+        _ => jihfasul_unreadable(
+            table,
+            values,
+            outbox,
+            state,
+            o.number,
+            o.time,
+            class_of(bytes),
+        ),
     }
 }
 

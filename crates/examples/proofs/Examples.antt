@@ -2,7 +2,7 @@
 use mathlib.Core.Path.{_≡_, refl}
 use Rattle.report.specs.Notes.{noteMember, notedMembers, notedValue, notedReport}
 use Rattle.examples.specs.Demo.{demo, noted, stage, oneModule, reported, onOff, kelvin, initial, small, counted}
-use Rattle.examples.specs.Theorems.{examples, exchanges, changing, pieceCalls, repliesTo, lastWritten, ExamplesAreRight, FiveMilliseconds, WholeReport, NotedReport, TablesAreGood, OutboxExample, ExchangesAreRight}
+use Rattle.examples.specs.Theorems.{examples, exchanges, changing, failing, pieceCalls, repliesTo, lastWritten, ExamplesAreRight, FiveMilliseconds, WholeReport, NotedReport, TablesAreGood, OutboxExample, BrokenSensor, ExchangesAreRight}
 use Rattle.examples.proofs.Computed.{computed}
 
 pub examples-are-right : ExamplesAreRight
@@ -33,3 +33,7 @@ tables-are-good = (refl, refl, refl)
 pub outbox-example : OutboxExample
 unfolding computed stage oneModule kelvin initial small counted changing lastWritten
 outbox-example = refl
+
+pub broken-sensor : BrokenSensor
+unfolding computed stage oneModule kelvin initial small counted failing lastWritten
+broken-sensor = refl

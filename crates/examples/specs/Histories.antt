@@ -1,7 +1,7 @@
 -- Histories that the reference program generated, with the answers that it gives. Printed by it; not edited by hand. Assumes nothing.
 use mathlib.Core.List.{List, [], _∷_}
 use Rattle.ascii.specs.Text.{bytes}
-use Rattle.plain.specs.Calls.{Open, Close, Piece, Reading, withArea, withOutbox}
+use Rattle.plain.specs.Calls.{Open, Close, Piece, Reading, Unreadable, withArea, withOutbox}
 use Rattle.examples.specs.Told.{History}
 
 unfoldable pub history-1 : History
@@ -166,17 +166,17 @@ history-8 =
           withArea (Open 0 1000) 16384
           ∷ withArea (Open 0 1000) 16384
           ∷ withArea (Open 5 1345) 16384
-          ∷ withArea (Close 4 1927) 16384
+          ∷ withOutbox (Unreadable 0 4 1927) 16384 32767
           ∷ withOutbox (Piece 0 (bytes "ping\n") 1) 16384 32767
-          ∷ withOutbox (Piece 0 (bytes "ping\n") 3916) 16385 40000
+          ∷ withOutbox (Piece 0 (bytes "ping\n") 2326) 20000 40000
           ∷ [];
       due =
           record { number = 0; used = 0; written = bytes "" }
           ∷ record { number = 13; used = 0; written = bytes "" }
           ∷ record { number = 0; used = 0; written = bytes "" }
-          ∷ record { number = 12; used = 0; written = bytes "" }
           ∷ record { number = 7; used = 0; written = bytes "" }
-          ∷ record { number = 0; used = 5; written = bytes "RP\0\0\u{19}pong  [null,{\"t\":3.916}]\n" }
+          ∷ record { number = 7; used = 0; written = bytes "" }
+          ∷ record { number = 0; used = 5; written = bytes "RP\0\0\u{19}pong  [null,{\"t\":2.326}]\n" }
           ∷ [];
     }
 
@@ -306,6 +306,8 @@ history-14 =
           ∷ withOutbox (Reading 2 (bytes "{\"q\":true,\"p\":-0}") 7146) 16384 32768
           ∷ withOutbox (Piece 0 (bytes "read mf:pid\n") 9232) 20000 32768
           ∷ withOutbox (Reading 2 (bytes "{\"p\":9,\"q\":false}") 9392) 16384 32768
+          ∷ withOutbox (Unreadable 2 2 9999999999999) 16384 32768
+          ∷ withOutbox (Piece 0 (bytes "read mf:pid:x\n") 10789) 16385 32768
           ∷ [];
       due =
           record { number = 0; used = 0; written = bytes "" }
@@ -313,6 +315,8 @@ history-14 =
           ∷ record { number = 0; used = 0; written = bytes "" }
           ∷ record { number = 0; used = 12; written = bytes "RP\0\0-reply mf:pid [{\"q\":true,\"p\":-0},{\"t\":7.146}]\n" }
           ∷ record { number = 0; used = 0; written = bytes "" }
+          ∷ record { number = 0; used = 0; written = bytes "" }
+          ∷ record { number = 0; used = 14; written = bytes "RP\0\0Werror_read mf:pid:x [\"CommunicationFailed\",\"CommunicationFailed\",{\"t\":9999999999.999}]\n" }
           ∷ [];
     }
 
@@ -326,7 +330,7 @@ history-15 =
       calls =
           withArea (Open 0 1000) 16384
           ∷ withArea (Open 8 1000) 16384
-          ∷ withOutbox (Piece 5 (bytes "ping x\n") 1789) 0 32769
+          ∷ withArea (Close 5 1789) 0
           ∷ withOutbox (Piece 4 (bytes "ping x\n") 9919879936878) 16383 32768
           ∷ withOutbox (Piece 7 (bytes "ping\n") 9999999999999) 16384 32768
           ∷ withOutbox (Piece 0 (bytes "ping\n") 9999999999999) 20000 32769
@@ -375,6 +379,8 @@ history-17 =
           ∷ withOutbox (Reading 2 (bytes "[false,0]") 3892) 16384 32769
           ∷ withOutbox (Piece 0 (bytes "read t1:pair\n") 5473) 16384 32768
           ∷ withOutbox (Reading 2 (bytes "[false]") 6634) 16384 32768
+          ∷ withOutbox (Unreadable 2 4 9433) 16384 32769
+          ∷ withOutbox (Piece 0 (bytes "read t1:pair:x\n") 5835988796933) 20000 32769
           ∷ [];
       due =
           record { number = 0; used = 0; written = bytes "" }
@@ -382,6 +388,8 @@ history-17 =
           ∷ record { number = 0; used = 0; written = bytes "UP\0\0'update t1:pair [[false,0],{\"t\":3.892}]\n" }
           ∷ record { number = 0; used = 13; written = bytes "RP\0\0&reply t1:pair [[false,0],{\"t\":3.892}]\n" }
           ∷ record { number = 15; used = 0; written = bytes "" }
+          ∷ record { number = 0; used = 0; written = bytes "UP\0\0=error_update t1:pair [\"OutOfRange\",\"OutOfRange\",{\"t\":9.433}]\n" }
+          ∷ record { number = 0; used = 15; written = bytes "RP\0\0=error_read t1:pair:x [\"OutOfRange\",\"OutOfRange\",{\"t\":9.433}]\n" }
           ∷ [];
     }
 
@@ -440,11 +448,15 @@ history-20 =
           withArea (Open 0 1000) 16384
           ∷ withOutbox (Reading 3 (bytes " ") 1505396349286) 16385 32768
           ∷ withOutbox (Reading 4294967296 (bytes "1") 1505396349779) 16385 32768
-          ∷ withOutbox (Piece 0 (bytes "read t1:list\n") 4132618558464) 16385 32769
+          ∷ withOutbox (Unreadable 3 257 1505396349779) 16385 32769
+          ∷ withOutbox (Unreadable 4294967296 1 9999999999999) 20000 32768
+          ∷ withOutbox (Piece 0 (bytes "read t1:list\n") 1505396347489) 16384 32768
           ∷ [];
       due =
           record { number = 0; used = 0; written = bytes "" }
           ∷ record { number = 15; used = 0; written = bytes "" }
+          ∷ record { number = 14; used = 0; written = bytes "" }
+          ∷ record { number = 16; used = 0; written = bytes "" }
           ∷ record { number = 14; used = 0; written = bytes "" }
           ∷ record { number = 0; used = 13; written = bytes "RP\0\0(reply t1:list [[],{\"t\":1505396349.440}]\n" }
           ∷ [];
@@ -1023,6 +1035,103 @@ history-42 =
 unfoldable pub history-43 : History
 history-43 =
     record {
+      table = bytes "ND\u{1}s\0MO\u{2}t1\0PA\u{1}p\0\0\u{2}\0\0\0\0\0\0\0\0\0\0\0\0\0\0\0\t\0\u{1}3PA\u{1}q\0\0\u{3}\0\u{4}trueMO\u{2}mf\0PA\u{1}r\0\0\u{2}\0\0\0\0\0\0\0\0\0\0\0\0\0\0\0\t\0\u{1}0EN";
+      area = 16384;
+      time = 1000;
+      start = 0;
+      calls =
+          withArea (Open 0 2000) 16384
+          ∷ withArea (Open 2 3000) 16384
+          ∷ withOutbox (Piece 2 (bytes "activate t1\n") 4000) 16384 32768
+          ∷ withOutbox (Unreadable 0 1 5000) 16384 32768
+          ∷ withOutbox (Unreadable 2 2 6000) 16384 32768
+          ∷ withOutbox (Piece 0 (bytes "read t1:p\n") 7000) 16384 32768
+          ∷ withOutbox (Piece 0 (bytes "read mf:r:x\n") 8000) 16384 32768
+          ∷ withOutbox (Piece 0 (bytes "activate\n") 9000) 16384 32768
+          ∷ withOutbox (Unreadable 0 3 10000) 16384 32768
+          ∷ [];
+      due =
+          record { number = 0; used = 0; written = bytes "" }
+          ∷ record { number = 0; used = 0; written = bytes "" }
+          ∷ record { number = 0; used = 12; written = bytes "UP\u{2}\0\u{1c}update t1:p [3,{\"t\":1.000}]\nUP\u{2}\0\u{1f}update t1:q [true,{\"t\":1.000}]\nRP\u{2}\0\nactive t1\n" }
+          ∷ record { number = 0; used = 0; written = bytes "UP\u{2}\0@error_update t1:p [\"HardwareError\",\"HardwareError\",{\"t\":5.000}]\n" }
+          ∷ record { number = 0; used = 0; written = bytes "" }
+          ∷ record { number = 0; used = 10; written = bytes "RP\0\0>error_read t1:p [\"HardwareError\",\"HardwareError\",{\"t\":5.000}]\n" }
+          ∷ record { number = 0; used = 12; written = bytes "RP\0\0Lerror_read mf:r:x [\"CommunicationFailed\",\"CommunicationFailed\",{\"t\":6.000}]\n" }
+          ∷ record { number = 0; used = 9; written = bytes "UP\0\0@error_update t1:p [\"HardwareError\",\"HardwareError\",{\"t\":5.000}]\nUP\0\0\u{1f}update t1:q [true,{\"t\":1.000}]\nUP\0\0Lerror_update mf:r [\"CommunicationFailed\",\"CommunicationFailed\",{\"t\":6.000}]\nRP\0\0\u{7}active\n" }
+          ∷ record { number = 0; used = 0; written = bytes "UP\0\0;error_update t1:p [\"ReadFailed\",\"ReadFailed\",{\"t\":10.000}]\nUP\u{2}\0;error_update t1:p [\"ReadFailed\",\"ReadFailed\",{\"t\":10.000}]\n" }
+          ∷ [];
+    }
+
+unfoldable pub history-44 : History
+history-44 =
+    record {
+      table = bytes "ND\u{1}s\0MO\u{2}t1\0PA\u{1}p\0\0\u{2}\0\0\0\0\0\0\0\0\0\0\0\0\0\0\0\t\0\u{1}3EN";
+      area = 16384;
+      time = 1000;
+      start = 0;
+      calls =
+          withArea (Open 0 2000) 16384
+          ∷ withOutbox (Unreadable 0 4 3000) 16384 32768
+          ∷ withOutbox (Reading 0 (bytes "10") 4000) 16384 32768
+          ∷ withOutbox (Piece 0 (bytes "change t1:p true\n") 5000) 16384 32768
+          ∷ withOutbox (Piece 0 (bytes "read t1:p\n") 6000) 16384 32768
+          ∷ withOutbox (Reading 0 (bytes "3") 7000) 16384 32768
+          ∷ withOutbox (Piece 0 (bytes "read t1:p\n") 8000) 16384 32768
+          ∷ withOutbox (Unreadable 0 4 9000) 16384 32768
+          ∷ withOutbox (Piece 0 (bytes "activate\n") 10000) 16384 32768
+          ∷ withOutbox (Piece 0 (bytes "change t1:p 3\n") 11000) 16384 32768
+          ∷ [];
+      due =
+          record { number = 0; used = 0; written = bytes "" }
+          ∷ record { number = 0; used = 0; written = bytes "" }
+          ∷ record { number = 15; used = 0; written = bytes "" }
+          ∷ record { number = 0; used = 17; written = bytes "RP\0\0>error_change t1:p [\"WrongType\",\"value has the wrong type\",{}]\n" }
+          ∷ record { number = 0; used = 10; written = bytes "RP\0\08error_read t1:p [\"OutOfRange\",\"OutOfRange\",{\"t\":3.000}]\n" }
+          ∷ record { number = 0; used = 0; written = bytes "" }
+          ∷ record { number = 0; used = 10; written = bytes "RP\0\0\u{1b}reply t1:p [3,{\"t\":7.000}]\n" }
+          ∷ record { number = 0; used = 0; written = bytes "" }
+          ∷ record { number = 0; used = 9; written = bytes "UP\0\0:error_update t1:p [\"OutOfRange\",\"OutOfRange\",{\"t\":9.000}]\nRP\0\0\u{7}active\n" }
+          ∷ record { number = 0; used = 14; written = bytes "DR\0\0\u{2}\03UP\0\0\u{1d}update t1:p [3,{\"t\":11.000}]\nRP\0\0\u{1e}changed t1:p [3,{\"t\":11.000}]\n" }
+          ∷ [];
+    }
+
+unfoldable pub history-45 : History
+history-45 =
+    record {
+      table = bytes "ND\u{1}s\0MO\u{2}t1\0PA\u{1}p\0\0\u{2}\0\0\0\0\0\0\0\0\0\0\0\0\0\0\0\t\0\u{1}3EN";
+      area = 16384;
+      time = 1000;
+      start = 0;
+      calls =
+          withArea (Open 0 2000) 16384
+          ∷ withOutbox (Piece 0 (bytes "activate\n") 3000) 16384 32768
+          ∷ withOutbox (Unreadable 0 1 4000) 16384 32767
+          ∷ withOutbox (Unreadable 0 1 5000) 16383 32768
+          ∷ withOutbox (Unreadable 0 1 10000000000000) 16384 32768
+          ∷ withOutbox (Unreadable 1 0 7000) 16384 32768
+          ∷ withOutbox (Unreadable 0 0 8000) 16384 32768
+          ∷ withOutbox (Unreadable 0 5 9000) 16384 32768
+          ∷ withOutbox (Unreadable 0 257 10000) 16384 32768
+          ∷ withOutbox (Unreadable 0 4 9999999999999) 16384 32768
+          ∷ [];
+      due =
+          record { number = 0; used = 0; written = bytes "" }
+          ∷ record { number = 0; used = 9; written = bytes "UP\0\0\u{1c}update t1:p [3,{\"t\":1.000}]\nRP\0\0\u{7}active\n" }
+          ∷ record { number = 7; used = 0; written = bytes "" }
+          ∷ record { number = 8; used = 0; written = bytes "" }
+          ∷ record { number = 10; used = 0; written = bytes "" }
+          ∷ record { number = 14; used = 0; written = bytes "" }
+          ∷ record { number = 16; used = 0; written = bytes "" }
+          ∷ record { number = 16; used = 0; written = bytes "" }
+          ∷ record { number = 16; used = 0; written = bytes "" }
+          ∷ record { number = 0; used = 0; written = bytes "UP\0\0Cerror_update t1:p [\"OutOfRange\",\"OutOfRange\",{\"t\":9999999999.999}]\n" }
+          ∷ [];
+    }
+
+unfoldable pub history-46 : History
+history-46 =
+    record {
       table = bytes "ND\u{1}s\0MO\u{2}t1\0PA\u{1}p\0\0\u{2}\0\0\0\0\0\0\0\0\0\0\0\0\0\0\0\t\0\u{1}3EN";
       area = 16384;
       time = 1000;
@@ -1049,8 +1158,8 @@ history-43 =
           ∷ [];
     }
 
-unfoldable pub history-44 : History
-history-44 =
+unfoldable pub history-47 : History
+history-47 =
     record {
       table = bytes "ND\u{1}s\0MO\u{2}t1\0PA\u{1}p\0\0\u{2}\0\0\0\0\0\0\0\0\0\0\0\0\0\0\0\t\0\u{1}3EN";
       area = 16384;
@@ -1068,8 +1177,8 @@ history-44 =
           ∷ [];
     }
 
-unfoldable pub history-45 : History
-history-45 =
+unfoldable pub history-48 : History
+history-48 =
     record {
       table = bytes "ND\u{1}s\0MO\u{2}t1\0PA\u{1}p\0\0\u{2}\0\0\0\0\0\0\0\0\0\0\0\0\0\0\0\t\0\u{1}3EN";
       area = 16383;
@@ -1087,8 +1196,8 @@ history-45 =
           ∷ [];
     }
 
-unfoldable pub history-46 : History
-history-46 =
+unfoldable pub history-49 : History
+history-49 =
     record {
       table = bytes "ND\u{1}s\0MO\u{2}t1\0EN";
       area = 16384;
@@ -1110,8 +1219,8 @@ history-46 =
           ∷ [];
     }
 
-unfoldable pub history-47 : History
-history-47 =
+unfoldable pub history-50 : History
+history-50 =
     record {
       table = bytes "ND\u{1}s\0MO\u{2}t1\0EN";
       area = 16384;
@@ -1133,8 +1242,8 @@ history-47 =
           ∷ [];
     }
 
-unfoldable pub history-48 : History
-history-48 =
+unfoldable pub history-51 : History
+history-51 =
     record {
       table = bytes "ND\u{1}s\0MO\u{2}t1\0PA\u{1}p\0\0\u{2}\0\0\0\0\0\0\0\0\0\0\0\0\0\0\0\t\0\u{1}3EN";
       area = 16384;
@@ -1160,8 +1269,8 @@ history-48 =
           ∷ [];
     }
 
-unfoldable pub history-49 : History
-history-49 =
+unfoldable pub history-52 : History
+history-52 =
     record {
       table = bytes "ND\u{1}s\0MO\u{2}t1\0NO\u{c}mind the gapPA\u{1}p\0\0\u{2}\0\0\0\0\0\0\0\0\0\0\0\0\0\0\0\t\0\u{1}3MO\u{2}mf\0NO\0EN";
       area = 16384;
@@ -1181,8 +1290,8 @@ history-49 =
           ∷ [];
     }
 
-unfoldable pub history-50 : History
-history-50 =
+unfoldable pub history-53 : History
+history-53 =
     record {
       table = bytes "ND\u{1}s\0MO\u{2}t1\0ENEN";
       area = 16384;
@@ -1196,8 +1305,8 @@ history-50 =
           ∷ [];
     }
 
-unfoldable pub history-51 : History
-history-51 =
+unfoldable pub history-54 : History
+history-54 =
     record {
       table = bytes "ND\u{1}s\0EN";
       area = 16384;
@@ -1211,8 +1320,8 @@ history-51 =
           ∷ [];
     }
 
-unfoldable pub history-52 : History
-history-52 =
+unfoldable pub history-55 : History
+history-55 =
     record {
       table = bytes "ND\u{1}s\0MO\u{2}9x\0EN";
       area = 16384;
@@ -1226,8 +1335,8 @@ history-52 =
           ∷ [];
     }
 
-unfoldable pub history-53 : History
-history-53 =
+unfoldable pub history-56 : History
+history-56 =
     record {
       table = bytes "ND\u{1}s\0MO\u{2}t1\0CM\u{1}c\0\u{1}\u{2}\0\0\0\0\0\0\0\u{1}\0\0\0\0\0\0\0\0EN";
       area = 16384;
@@ -1241,8 +1350,8 @@ history-53 =
           ∷ [];
     }
 
-unfoldable pub history-54 : History
-history-54 =
+unfoldable pub history-57 : History
+history-57 =
     record {
       table = bytes "ND\u{1}s\0MO\u{2}t1\0CM\u{1}c\0\u{1}\t\0\0\0\0\0\0\0\0\0\0\0\0\0\0\0\0\0\0\0\0\0\0\0\0\u{1}EN";
       area = 16384;
@@ -1256,8 +1365,8 @@ history-54 =
           ∷ [];
     }
 
-unfoldable pub history-55 : History
-history-55 =
+unfoldable pub history-58 : History
+history-58 =
     record {
       table = bytes "ND\u{1}s\0MO\u{2}t1\0PA\u{1}p\0\0\u{2}\0\0\0\0\0\0\0\0\0\0\0\0\0\0\0\t\0\u{2}3 EN";
       area = 16384;
@@ -1271,8 +1380,8 @@ history-55 =
           ∷ [];
     }
 
-unfoldable pub history-56 : History
-history-56 =
+unfoldable pub history-59 : History
+history-59 =
     record {
       table = bytes "ND\u{1}s\0MO\u{2}9x\0CM\u{1}c\0\u{2}EN";
       area = 16384;
@@ -1286,8 +1395,8 @@ history-56 =
           ∷ [];
     }
 
-unfoldable pub history-57 : History
-history-57 =
+unfoldable pub history-60 : History
+history-60 =
     record {
       table = bytes "ND\u{1}s\u{1}\"EN";
       area = 16384;
@@ -1301,8 +1410,8 @@ history-57 =
           ∷ [];
     }
 
-unfoldable pub history-58 : History
-history-58 =
+unfoldable pub history-61 : History
+history-61 =
     record {
       table = bytes "ND\u{1}s\0MO\u{2}t1\0CM\u{1}c\0\u{1}\u{4}\u{2}\u{1}a\0\0\0\0\u{1}A\0\0\0\0EN";
       area = 16384;
@@ -1316,8 +1425,8 @@ history-58 =
           ∷ [];
     }
 
-unfoldable pub history-59 : History
-history-59 =
+unfoldable pub history-62 : History
+history-62 =
     record {
       table = bytes "ND\u{1}s\0MO\u{2}t1\0PA\u{1}p\0\0\u{5}\0\u{1}\0\0\0\u{1}2EN";
       area = 16384;
@@ -1331,8 +1440,8 @@ history-59 =
           ∷ [];
     }
 
-unfoldable pub history-60 : History
-history-60 =
+unfoldable pub history-63 : History
+history-63 =
     record {
       table = bytes "ND\u{1}s\0MO\u{2}t1\0PA\u{1}m\0\0\u{4}\u{2}\u{3}off\0\0\0\0\u{2}on\0\0\u{3}è\0\u{4}\"on\"EN";
       area = 16384;
@@ -1346,8 +1455,8 @@ history-60 =
           ∷ [];
     }
 
-unfoldable pub history-61 : History
-history-61 =
+unfoldable pub history-64 : History
+history-64 =
     record {
       table = bytes "ND\u{1}s\0MO\u{2}t1\0PA\u{1}p\0\0\u{2}\0\0\0\0\0\0\0\0\0\0\0\0\0\0\0\t\0\u{2}3 EN";
       area = 16383;
@@ -1362,4 +1471,4 @@ history-61 =
     }
 
 unfoldable pub histories : List History
-histories = history-1 ∷ history-2 ∷ history-3 ∷ history-4 ∷ history-5 ∷ history-6 ∷ history-7 ∷ history-8 ∷ history-9 ∷ history-10 ∷ history-11 ∷ history-12 ∷ history-13 ∷ history-14 ∷ history-15 ∷ history-16 ∷ history-17 ∷ history-18 ∷ history-19 ∷ history-20 ∷ history-21 ∷ history-22 ∷ history-23 ∷ history-24 ∷ history-25 ∷ history-26 ∷ history-27 ∷ history-28 ∷ history-29 ∷ history-30 ∷ history-31 ∷ history-32 ∷ history-33 ∷ history-34 ∷ history-35 ∷ history-36 ∷ history-37 ∷ history-38 ∷ history-39 ∷ history-40 ∷ history-41 ∷ history-42 ∷ history-43 ∷ history-44 ∷ history-45 ∷ history-46 ∷ history-47 ∷ history-48 ∷ history-49 ∷ history-50 ∷ history-51 ∷ history-52 ∷ history-53 ∷ history-54 ∷ history-55 ∷ history-56 ∷ history-57 ∷ history-58 ∷ history-59 ∷ history-60 ∷ history-61 ∷ []
+histories = history-1 ∷ history-2 ∷ history-3 ∷ history-4 ∷ history-5 ∷ history-6 ∷ history-7 ∷ history-8 ∷ history-9 ∷ history-10 ∷ history-11 ∷ history-12 ∷ history-13 ∷ history-14 ∷ history-15 ∷ history-16 ∷ history-17 ∷ history-18 ∷ history-19 ∷ history-20 ∷ history-21 ∷ history-22 ∷ history-23 ∷ history-24 ∷ history-25 ∷ history-26 ∷ history-27 ∷ history-28 ∷ history-29 ∷ history-30 ∷ history-31 ∷ history-32 ∷ history-33 ∷ history-34 ∷ history-35 ∷ history-36 ∷ history-37 ∷ history-38 ∷ history-39 ∷ history-40 ∷ history-41 ∷ history-42 ∷ history-43 ∷ history-44 ∷ history-45 ∷ history-46 ∷ history-47 ∷ history-48 ∷ history-49 ∷ history-50 ∷ history-51 ∷ history-52 ∷ history-53 ∷ history-54 ∷ history-55 ∷ history-56 ∷ history-57 ∷ history-58 ∷ history-59 ∷ history-60 ∷ history-61 ∷ history-62 ∷ history-63 ∷ history-64 ∷ []

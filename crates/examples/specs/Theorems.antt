@@ -14,7 +14,7 @@ use Rattle.report.specs.Report.{report}
 use Rattle.report.specs.Notes.{notedReport}
 use Rattle.report.specs.Judge.{tableNumber}
 use Rattle.plain.specs.Node.{begin}
-use Rattle.plain.specs.Calls.{Open, Piece, Call, withArea, withOutbox}
+use Rattle.plain.specs.Calls.{Open, Piece, Reading, Unreadable, Call, withArea, withOutbox}
 use Rattle.plain.specs.History.{answers, sent, sentBytes}
 use Rattle.rule.specs.Records.{repliesFor}
 use Rattle.examples.specs.Demo.{demo, noted, stage}
@@ -100,7 +100,7 @@ changing =
     ∷ withOutbox (Piece 2 (bytes "change t1:target 12\n") 1500) 16384 32768
     ∷ []
 
--- what the last of these calls writes
+-- what the calls after the first four write
 unfoldable pub lastWritten : List Call → List ℕ
 lastWritten h = sentBytes (drop 4 (answers stage (begin (tableOf stage) 0) h))
 
@@ -113,6 +113,32 @@ OutboxExample = lastWritten changing
     ++ bytes "update t1:target [12,{\"t\":1.500}]\n"
     ++ (0x52 ∷ 0x50 ∷ 0x02 ∷ 0x00 ∷ 0x23 ∷ [])
     ++ bytes "changed t1:target [12,{\"t\":1.500}]\n"
+
+-- ## A broken sensor (M-102): client 5 is told since it has the module active, client 2 by its `read`, and "the specifier there is as sent"; "The next
+-- value stored clears it."
+
+unfoldable pub failing : List Call
+failing =
+    withArea (Open 2 0) 16384
+    ∷ withArea (Open 5 0) 16384
+    ∷ withOutbox (Piece 5 (bytes "activate t1\n") 0) 16384 32768
+    ∷ withOutbox (Piece 2 (bytes "ping\n") 0) 16384 32768
+    ∷ withOutbox (Unreadable 0 1 1500) 16384 32768
+    ∷ withOutbox (Piece 2 (bytes "read t1:value:x\n") 2000) 16384 32768
+    ∷ withOutbox (Reading 0 (bytes "12") 2500) 16384 32768
+    ∷ withOutbox (Piece 2 (bytes "read t1:value\n") 3000) 16384 32768
+    ∷ []
+
+abbrev pub BrokenSensor : Type 0
+BrokenSensor = lastWritten failing
+    ≡ (0x55 ∷ 0x50 ∷ 0x05 ∷ 0x00 ∷ 0x44 ∷ [])
+    ++ bytes "error_update t1:value [\"HardwareError\",\"HardwareError\",{\"t\":1.500}]\n"
+    ++ (0x52 ∷ 0x50 ∷ 0x02 ∷ 0x00 ∷ 0x44 ∷ [])
+    ++ bytes "error_read t1:value:x [\"HardwareError\",\"HardwareError\",{\"t\":1.500}]\n"
+    ++ (0x55 ∷ 0x50 ∷ 0x05 ∷ 0x00 ∷ 0x21 ∷ [])
+    ++ bytes "update t1:value [12,{\"t\":2.500}]\n"
+    ++ (0x52 ∷ 0x50 ∷ 0x02 ∷ 0x00 ∷ 0x20 ∷ [])
+    ++ bytes "reply t1:value [12,{\"t\":2.500}]\n"
 
 -- ## Exchanges of SECoP 1.0, with document 01's error texts and times
 

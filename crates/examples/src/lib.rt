@@ -1,6 +1,6 @@
 ghost use mathlib.Core.Bool.{true};
 ghost use mathlib.Core.Path.{_≡_};
-ghost use Rattle.examples.specs.Theorems.{ExamplesAreRight, OutboxExample, WholeReport, NotedReport, TablesAreGood, FiveMilliseconds, ExchangesAreRight, HistoriesAreAsDue};
+ghost use Rattle.examples.specs.Theorems.{ExamplesAreRight, OutboxExample, BrokenSensor, WholeReport, NotedReport, TablesAreGood, FiveMilliseconds, ExchangesAreRight, HistoriesAreAsDue};
 
 // Each function here promises a theorem about the definitions. Nothing is run.
 
@@ -14,6 +14,13 @@ pub fn examples_are_right() -> bool
 // Document 01's outbox example, byte for byte.
 pub fn outbox_example() -> bool
     ensures { λ r. ⌜ (r ≡ true) × OutboxExample ⌝ }
+{
+    true
+}
+
+// A sensor breaks, its clients are told, and the next reading clears it.
+pub fn broken_sensor() -> bool
+    ensures { λ r. ⌜ (r ≡ true) × BrokenSensor ⌝ }
 {
     true
 }

@@ -43,10 +43,14 @@ module _ (s : Settings) (values : List ℕ) (k : ℕ) (o : Option (Datainfo × L
     unfolding settingUnfit
     too-late l = record { is = λ p e. rw (le-ltb 256 (getD (s .length) k 0) h, lt-ltb latest (getD (s .time) k 0) l, or-true) }
 
-    module _ (l : getD (s .time) k 0 ≤ latest) where
+    pub no-class : 4 < getD (s .error) k 0 → TellsUnfit s values k o true
+    unfolding settingUnfit
+    no-class l = record { is = λ p e. rw (lt-ltb 4 (getD (s .error) k 0) l, or-true) }
+
+    module _ (l : getD (s .time) k 0 ≤ latest) (c : getD (s .error) k 0 ≤ 4) where
       pub never-set : getD (s .length) k 0 ≡ 0 → TellsUnfit s values k o false
       unfolding settingUnfit
-      never-set z = record { is = λ p e. rw (le-ltb latest (getD (s .time) k 0) l, z) }
+      never-set z = record { is = λ p e. rw (le-ltb latest (getD (s .time) k 0) l, le-ltb 4 (getD (s .error) k 0) c, z) }
 
       pub is-set : (getD (s .length) k 0 ≡ 0 → ⊥) → (b : Bool)
           → TellsStored o (take ((256 * k + getD (s .length) k 0) - 256 * k) (drop (256 * k) values)) b → TellsUnfit s values k o (not b)
@@ -55,7 +59,7 @@ module _ (s : Settings) (values : List ℕ) (k : ℕ) (o : Option (Datainfo × L
           let n : (256 * k + getD (s .length) k 0) - 256 * k ≡ getD (s .length) k 0 = omega arith in
           record {
             is = λ p e.
-                rw (le-ltb 256 (getD (s .length) k 0) h, le-ltb latest (getD (s .time) k 0) l, ne-eqb (getD (s .length) k 0) 0 z, or-false)
+                rw (le-ltb 256 (getD (s .length) k 0) h, le-ltb latest (getD (s .time) k 0) l, le-ltb 4 (getD (s .error) k 0) c, ne-eqb (getD (s .length) k 0) 0 z, or-false, or-false)
                 (rw n at (ap not (t .is e)));
           }
 

@@ -24,11 +24,15 @@ fn setting_unfit(table: &[u8], values: &[u8], settings: Settings, k: usize, info
 {
     let lengths = settings.length;
     let times = settings.time;
+    let errors = settings.error;
     let size = lengths[k] as usize;
     if size > 256 {
         return true;
     }
     if times[k] > 9999999999999 {
+        return true;
+    }
+    if errors[k] > 4 {
         return true;
     }
     if size == 0 {

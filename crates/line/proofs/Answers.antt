@@ -13,9 +13,9 @@ use Rattle.ascii.specs.Text.{bytes}
 use Rattle.message.specs.Line.{Parts, whole, content, beforeSpace, afterSpace, partsOf}
 use Rattle.message.specs.Request.{request}
 use Rattle.message.specs.Parsed.{part, Parted, meaning, Asks}
-use Rattle.message.specs.Said.{classOf}
-use Rattle.message.specs.Reply.{error}
-use Rattle.message.specs.declared.say.Class.{Class}
+use Rattle.message.specs.Error.{Denial, class, fault}
+use Rattle.message.specs.Said.{classOf, faultAs}
+use Rattle.message.specs.Reply.{valued, error}
 use Rattle.message.specs.declared.say.Class.the-variants.{ProtocolError}
 use Rattle.message.specs.declared.line.Part.{Part}
 use Rattle.message.specs.declared.line.Request.{Request}
@@ -32,7 +32,7 @@ use Rattle.form.proofs.Stored.{short-stored}
 use Rattle.state.specs.declared.Clients.{Clients}
 use Rattle.state.specs.declared.Settings.{Settings}
 use Rattle.state.specs.declared.State.{State}
-use Rattle.state.specs.View.{view, withStored, withLength, areaWith, settingsWith}
+use Rattle.state.specs.View.{view, withHeld, withSetting, areaWith, settingsWith}
 use Rattle.state.specs.Fit.{settingsUnfit, clientUnfit, isUnfit}
 use Rattle.ascii.proofs.Lists.{neither}
 use Rattle.state.proofs.Flags.{nor}
@@ -46,7 +46,7 @@ use Rattle.state.proofs.Views.{client-view}
 use Rattle.outcome.specs.Outcome.{Carries, Refuses, Sends, Activates, Stores, OutcomeIs, Comes, Answers}
 use Rattle.outcome.specs.Ready.{Ready}
 use Rattle.outcome.specs.declared.Outcome.{Outcome}
-use Rattle.outcome.specs.declared.Outcome.the-variants.{Refused, Sent, Active, Stored}
+use Rattle.outcome.specs.declared.Outcome.the-variants.{Refused, Unreadable, Sent, Active, Stored}
 use Rattle.outcome.specs.declared.Answered.{Answered}
 use Rattle.line.specs.Concluded.{Concludable, Denies, Keeps, Passes, Switches, Sets, Concludes}
 use Rattle.line.proofs.Carried.{part-short}
@@ -81,9 +81,9 @@ module _ (table : List ℕ) (s : State) (values before : List ℕ) (c t : ℕ) (
 
   -- an error: the state, the values area and what stood in the outbox before stay
   error-answered :
-      (p : Parts) (after : List ℕ) (r : Answered) (e : Class) → r .state ≡ s
-      → Puts before 0 (encode (final c (error (p .action) (p .specifier) (classOf e)))) after (r .written)
-      → Answers table (s .settings) values before r values after (conclude w n c t p (refused (classOf e))) []
+      (p : Parts) (after : List ℕ) (r : Answered) (e : Denial) → r .state ≡ s
+      → Puts before 0 (encode (final c (error (p .action) (p .specifier) e))) after (r .written)
+      → Answers table (s .settings) values before r values after (conclude w n c t p (refused e)) []
   unfolding conclude areaWith settingsWith
   error-answered p after r e same puts =
       record {
@@ -112,12 +112,12 @@ module _ (table : List ℕ) (s : State) (values before : List ℕ) (c t : ℕ) (
           settings = settings;
         })
 
-    refused-answered : (e : Class) → Refuses w n c t before mid values stored o (refused (classOf e)) → Denies mid after s c t r (p .action) (p .specifier) e
+    refused-answered : (e : Denial) → Refuses w n c t before mid values stored o (refused e) → Denies mid after s c t r (p .action) (p .specifier) e
         → Answers table (s .settings) values before r stored after (conclude w n c t p o) (settingsOf o)
     unfolding settingsOf
     refused-answered e x k =
         rw (x .is, x .area)
-        (error-answered p after r e (k .state) (subst (λ (l : List ℕ). Puts l 0 (encode (final c (error (p .action) (p .specifier) (classOf e)))) after (r .written)) (x .quiet) (k .puts)))
+        (error-answered p after r e (k .state) (subst (λ (l : List ℕ). Puts l 0 (encode (final c (error (p .action) (p .specifier) e))) after (r .written)) (x .quiet) (k .puts)))
 
     sent-answered : (written : ℕ) → Sends w n c t before mid values stored o written → Passes mid after s c t r written
         → Answers table (s .settings) values before r stored after (conclude w n c t p o) (settingsOf o)
@@ -140,9 +140,9 @@ module _ (table : List ℕ) (s : State) (values before : List ℕ) (c t : ℕ) (
     stored-answered : Settled.Sized (s .settings) → t ≤ latest
         → (k size written : ℕ) → Stores w n c t before mid values stored o k size written → Sets mid after s c t r k size written
         → Answers table (s .settings) values before r stored after (conclude w n c t p o) (settingsOf o)
-    unfolding isUnfit areaWith settingsWith
+    unfolding isUnfit areaWith settingsWith withHeld withSetting
     stored-answered z h k size written x y =
-        let set : List Setting = record { parameter = k; text = x .text; time = t } ∷ [] in
+        let set : List Setting = record { parameter = k; held = valued (x .text); time = t } ∷ [] in
         let settings : r .state .settings ≡ settingsWith (s .settings) set = rw (← (x .long)) (y .settings) in
         let is = all-set table (accepted table (given .lent .accepted) .few) set s values z (given .area) settings-fit
         (record { it = x .parameter; there = x .there; fits = x .fits; inTime = h }, tt) in
@@ -155,7 +155,8 @@ module _ (table : List ℕ) (s : State) (values before : List ℕ) (c t : ℕ) (
     answered : Sized (s .clients) → Settled.Sized (s .settings) → t ≤ latest
         → (came : Outcome) → OutcomeIs w n c t before mid values stored came o → Concludes mid after s c t r (p .action) (p .specifier) came
         → Answers table (s .settings) values before r stored after (conclude w n c t p o) (settingsOf o)
-    answered y z h (Refused e) x k = refused-answered e x k
+    answered y z h (Refused e) x k = refused-answered (class (classOf e)) x k
+    answered y z h (Unreadable f since) x k = refused-answered (fault (faultAs f) since) x k
     answered y z h (Sent written) x k = sent-answered written x k
     answered y z h (Active mask written) x k = active-answered y mask written x k
     answered i z h (Stored k size written) x y = stored-answered z h k size written x y
@@ -165,11 +166,11 @@ module _ (table : List ℕ) (s : State) (values before : List ℕ) (c t : ℕ) (
   -- a line without content
   pub bad-answered :
       (xs : List ℕ) → content (whole xs) ≡ [] → (after : List ℕ) (r : Answered) → r .state ≡ s
-      → Puts before 0 (encode (final c (error [] [] (classOf ProtocolError)))) after (r .written)
+      → Puts before 0 (encode (final c (error [] [] (class (classOf ProtocolError))))) after (r .written)
       → Answers table (s .settings) values before r values after (answerParts w n c t (partsOf (content (whole xs))))
       (partsSet w n c t (partsOf (content (whole xs))))
   unfolding answerParts partsSet settingsOf partsOf beforeSpace afterSpace takeWhile dropWhile tail request same bytes outcome
-  bad-answered xs e after r same puts = rw e (error-answered (record { action = []; specifier = []; payload = [] }) after r ProtocolError same puts)
+  bad-answered xs e after r same puts = rw e (error-answered (record { action = []; specifier = []; payload = [] }) after r (class (classOf ProtocolError)) same puts)
 
   module _ (xs : List ℕ) (short : length xs ≤ 1024) (a p d : Part) (h : Parted xs a p d) where
     -- room for an error; a parameter's number and a stored length
@@ -177,6 +178,12 @@ module _ (table : List ℕ) (s : State) (values before : List ℕ) (c t : ℕ) (
         (mid stored : List ℕ) (o : Plain.Outcome) (came : Outcome) → OutcomeIs w n c t before mid values stored came o
         → Concludable mid (part xs a) (part xs p) came
     concludable mid stored o (Refused e) x =
+        record {
+          room = rw (x .quiet) (given .lent .room);
+          action-short = part-short xs a (h .action-in) short;
+          specifier-short = part-short xs p (h .specifier-in) short;
+        }
+    concludable mid stored o (Unreadable f since) x =
         record {
           room = rw (x .quiet) (given .lent .room);
           action-short = part-short xs a (h .action-in) short;

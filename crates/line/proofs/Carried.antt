@@ -1,5 +1,5 @@
 -- Laws of requests that are carried out: replies of one record, data that is missing, and a client's active modules. Assumes nothing.
-use Prim.Native.Nat.{ℕ, _≤_}
+use Prim.Native.Nat.{ℕ, _^_, _≤_, _<_}
 use native.Mathlib.Omega.{arith}
 use mathlib.Core.Path.{_≡_, refl, sym, _∙_}
 use mathlib.Core.Bool.{Bool, true, false}
@@ -9,14 +9,14 @@ use Rattle.ascii.specs.Numbers.{twoBytes, latest}
 use Rattle.ascii.specs.Text.{bytes}
 use Rattle.ascii.specs.Bytes.{all, isSpace}
 use Rattle.ascii.specs.Writer.{Puts}
-use Rattle.ascii.proofs.Decimal.{seconds-latest}
-use Rattle.message.specs.Error.{Class}
-use Rattle.message.specs.Reply.{Reply, identification, pong, error, replyLine}
+use Rattle.ascii.proofs.Decimal.{seconds-low, seconds-latest}
+use Rattle.message.specs.Error.{Class, Fault, Denial, class, fault}
+use Rattle.message.specs.Reply.{Reply, identification, pong, error, errorReport, replyLine}
 use Rattle.message.specs.Request as R
 use Rattle.message.specs.Request.{orNull}
 use Rattle.message.specs.Parsed.{part, Within}
 use Rattle.message.specs.declared.line.Part.{Part}
-use Rattle.message.proofs.Said.{data-length, pong-length, error-length, error-short}
+use Rattle.message.proofs.Said.{data-length, pong-length, error-length, class-short, fault-short}
 use Rattle.table.specs.Table.{Table}
 use Rattle.table.specs.Layout.{tableOf}
 use Rattle.outbox.specs.Outbox.{final, mark, client, body, encode}
@@ -49,8 +49,16 @@ module _ (d : List ℕ) (c : ℕ) (room : 32768 ≤ length d) where
   unfolding bytes
   pong-room t h token k = final-room (pong token t) (omega (arith, pong-length token t, data-length (bytes "null") t, seconds-latest t h))
 
-  pub error-room : (a s : List ℕ) (e : Class) → length a ≤ 1024 → length s ≤ 1024 → RoomFor d 0 (final c (error a s e))
-  error-room a s e h k = final-room (error a s e) (omega (arith, error-length a s e, error-short e))
+  denial-room : (a s : List ℕ) (e : Denial) → length (errorReport e) ≤ 100 → length a ≤ 1024 → length s ≤ 1024 → RoomFor d 0 (final c (error a s e))
+  denial-room a s e l h k = final-room (error a s e) (omega (arith, error-length a s e))
+
+  pub error-room : (a s : List ℕ) (e : Class) → length a ≤ 1024 → length s ≤ 1024 → RoomFor d 0 (final c (error a s (class e)))
+  unfolding errorReport
+  error-room a s e h k = denial-room a s (class e) (omega (arith, class-short e)) h k
+
+  pub fault-room : (a s : List ℕ) (f : Fault) (t : ℕ) → t < 2 ^ 64 → length a ≤ 1024 → length s ≤ 1024 → RoomFor d 0 (final c (error a s (fault f t)))
+  unfolding errorReport
+  fault-room a s f t l h k = denial-room a s (fault f t) (omega (arith, fault-short f t, seconds-low t l)) h k
 
 -- a part of a line is no longer than the line
 pub part-short : (xs : List ℕ) (p : Part) → Within xs p → length xs ≤ 1024 → length (part xs p) ≤ 1024

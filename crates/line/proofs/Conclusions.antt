@@ -2,10 +2,13 @@
 use Prim.Native.Nat.{ℕ, _≤_, _<_}
 use mathlib.Core.Path.{_≡_, sym, subst}
 use mathlib.Core.List.{List}
+use Rattle.message.specs.Error.{class, fault}
+use Rattle.message.specs.Said.{classOf, faultAs}
 use Rattle.message.specs.declared.say.Class.{Class}
+use Rattle.message.specs.declared.say.Fault.{Fault}
 use Rattle.state.specs.declared.State.{State}
 use Rattle.outcome.specs.declared.Outcome.{Outcome}
-use Rattle.outcome.specs.declared.Outcome.the-variants.{Refused, Sent, Active, Stored}
+use Rattle.outcome.specs.declared.Outcome.the-variants.{Refused, Unreadable, Sent, Active, Stored}
 use Rattle.outcome.specs.declared.Answered.{Answered}
 use Rattle.line.specs.Concluded.{Deniable, Concludable, Denies, Passes, Switches, Sets, Concludes}
 
@@ -13,12 +16,19 @@ module _ (out action specifier : List ℕ) (came : Outcome) where
   pub may-deny : (e : Class) → came ≡ Refused e → Concludable out action specifier came → Deniable out action specifier
   may-deny e h k = subst (Concludable out action specifier) h k
 
+  pub may-deny-read : (f : Fault) (since : ℕ) → came ≡ Unreadable f since → Concludable out action specifier came → Deniable out action specifier
+  may-deny-read f since h k = subst (Concludable out action specifier) h k
+
   pub may-store : (k size written : ℕ) → came ≡ Stored k size written → Concludable out action specifier came → (k < 64) × (size ≤ 256)
   may-store k size written h i = subst (Concludable out action specifier) h i
 
 module _ {before after : List ℕ} {s : State} {c t : ℕ} {r : Answered} (action specifier : List ℕ) (came : Outcome) where
-  pub denies : {e : Class} → came ≡ Refused e → Denies before after s c t r action specifier e → Concludes before after s c t r action specifier came
+  pub denies : {e : Class} → came ≡ Refused e → Denies before after s c t r action specifier (class (classOf e)) → Concludes before after s c t r action specifier came
   denies h d = subst (Concludes before after s c t r action specifier) (sym h) d
+
+  pub denies-read : {f : Fault} {since : ℕ} → came ≡ Unreadable f since → Denies before after s c t r action specifier (fault (faultAs f) since)
+      → Concludes before after s c t r action specifier came
+  denies-read h d = subst (Concludes before after s c t r action specifier) (sym h) d
 
   pub passes : {written : ℕ} → came ≡ Sent written → Passes before after s c t r written → Concludes before after s c t r action specifier came
   passes h d = subst (Concludes before after s c t r action specifier) (sym h) d

@@ -41,7 +41,7 @@ use Rattle.line.specs.Asked.{missingOf}
 -- ## Names
 
 -- what is not found is refused; what is found goes on
-none-found : {A : Type 0} (e : Error.Class) (o : Option A) (f : A → Outcome) → o ≡ none → found e o f ≡ refused e
+none-found : {A : Type 0} (e : Error.Class) (o : Option A) (f : A → Outcome) → o ≡ none → found e o f ≡ refused (Error.class e)
 unfolding found
 none-found e o f z = rw z
 
@@ -60,7 +60,7 @@ module _ (s m a : List ℕ) where
     abbrev asked : Outcome
     asked = found Error.NoSuchModule (findModule (tableOf s) m) λ x. found e o f
 
-    lacking : o ≡ none → asked ≡ refused e
+    lacking : o ≡ none → asked ≡ refused (Error.class e)
     lacking z = past Error.NoSuchModule (findModule (tableOf s) m) (found e o f) h ∙ none-found e o f z
 
     there : (x : A) → o ≡ some x → asked ≡ f x
@@ -75,13 +75,13 @@ module _ (s m a : List ℕ) where
   -- the errors, in their order
   module _ (v : Verb) (xs : List ℕ) (n : Node) (c t : ℕ) (before values : List ℕ) where
     abbrev RefusedWith : Class → Type 0
-    RefusedWith e = Refuses (tableOf s) n c t before before values values (outcome (tableOf s) n c t (verbRequest v xs m a)) (refused (classOf e))
+    RefusedWith e = Refuses (tableOf s) n c t before before values values (outcome (tableOf s) n c t (verbRequest v xs m a)) (refused (Error.class (classOf e)))
 
     pub homeless : findModule (tableOf s) m ≡ none → RefusedWith K.NoSuchModule
     unfolding outcome
     homeless z = record { is = go v; quiet = refl; area = refl }
       where
-        go : (v : Verb) → outcome (tableOf s) n c t (verbRequest v xs m a) ≡ refused Error.NoSuchModule
+        go : (v : Verb) → outcome (tableOf s) n c t (verbRequest v xs m a) ≡ refused (Error.class Error.NoSuchModule)
         go Verb.Read = none-found Error.NoSuchModule (findModule (tableOf s) m) _ z
         go Verb.Change = none-found Error.NoSuchModule (findModule (tableOf s) m) _ z
         go Verb.Execute = none-found Error.NoSuchModule (findModule (tableOf s) m) _ z
@@ -90,7 +90,7 @@ module _ (s m a : List ℕ) where
     unfolding outcome
     lacks h z = record { is = go v z; quiet = refl; area = refl }
       where
-        go : (v : Verb) → Lacks v → outcome (tableOf s) n c t (verbRequest v xs m a) ≡ refused (classOf (missingOf v))
+        go : (v : Verb) → Lacks v → outcome (tableOf s) n c t (verbRequest v xs m a) ≡ refused (Error.class (classOf (missingOf v)))
         go Verb.Read z = lacking Error.NoSuchParameter (findParameter (tableOf s) m a) (reads (tableOf s) n c t) h z
         go Verb.Change z = lacking Error.NoSuchParameter (findParameter (tableOf s) m a) (changes (tableOf s) n c t xs) h z
         go Verb.Execute z = lacking Error.NoSuchCommand (findCommand (tableOf s) m a) (does (tableOf s) n c t xs) h z
@@ -130,7 +130,7 @@ switches Off w n c t = deactivates w n c t
 
 module _ (s m : List ℕ) (r : F.FoundModule) (g : FindsModule s m r) where
   pub no-module : r ≡ F.the-variants.Nothing → (v : Switch) (n : Node) (c t : ℕ) (before values : List ℕ)
-      → Refuses (tableOf s) n c t before before values values (outcome (tableOf s) n c t (switchRequest v (some m))) (refused Error.NoSuchModule)
+      → Refuses (tableOf s) n c t before before values values (outcome (tableOf s) n c t (switchRequest v (some m))) (refused (Error.class Error.NoSuchModule))
   unfolding outcome inScope
   no-module z On n c t before values =
       record { is = none-found Error.NoSuchModule (findModule (tableOf s) m) _ (subst (FindsModule s m) z g); quiet = refl; area = refl }

@@ -5,15 +5,15 @@ use mathlib.Core.Path.{_≡_}
 use mathlib.Core.List.{List}
 use lib.ListN.{length}
 use Rattle.ascii.specs.Writer.{Puts}
+use Rattle.message.specs.Error.{Denial, class, fault}
 use Rattle.message.specs.Reply.{error}
-use Rattle.message.specs.Said.{classOf}
-use Rattle.message.specs.declared.say.Class.{Class}
+use Rattle.message.specs.Said.{classOf, faultAs}
 use Rattle.outbox.specs.Outbox.{final, encode}
 use Rattle.state.specs.declared.State.{State}
 use Rattle.state.specs.View.{withLength}
 use Rattle.state.specs.Changed.{withActive}
 use Rattle.outcome.specs.declared.Outcome.{Outcome}
-use Rattle.outcome.specs.declared.Outcome.the-variants.{Refused, Sent, Active, Stored}
+use Rattle.outcome.specs.declared.Outcome.the-variants.{Refused, Unreadable, Sent, Active, Stored}
 use Rattle.outcome.specs.declared.Answered.{Answered}
 
 -- an outbox that has room for an error line, and an action and a specifier of a line
@@ -25,6 +25,7 @@ pub record Deniable (out action specifier : List ℕ) : Type 0 where
 -- what an outcome asks for: an error, that it can be answered; a stored value, a parameter's number and a length that it may have
 abbrev pub Concludable : List ℕ → List ℕ → List ℕ → Outcome → Type 0
 Concludable out action specifier (Refused e) = Deniable out action specifier
+Concludable out action specifier (Unreadable f since) = Deniable out action specifier
 Concludable out action specifier (Sent written) = Unit
 Concludable out action specifier (Active mask written) = Unit
 Concludable out action specifier (Stored k size written) = (k < 64) × (size ≤ 256)
@@ -32,9 +33,9 @@ Concludable out action specifier (Stored k size written) = (k < 64) × (size ≤
 -- Handed the state s, for client c at the time t: the outbox held `before` and holds `after`, and the answer is r.
 module _ (before after : List ℕ) (s : State) (c t : ℕ) (r : Answered) where
   -- "Errors: `error_ACTION SPECIFIER [..]`, action and specifier as sent."; the state stays
-  pub record Denies (action specifier : List ℕ) (e : Class) : Type 0 where
+  pub record Denies (action specifier : List ℕ) (e : Denial) : Type 0 where
     pub state : r .state ≡ s
-    pub puts : Puts before 0 (encode (final c (error action specifier (classOf e)))) after (r .written)
+    pub puts : Puts before 0 (encode (final c (error action specifier e))) after (r .written)
 
   -- so many bytes were written before, and the outbox stays
   pub record Keeps (written : ℕ) : Type 0 where
@@ -59,7 +60,8 @@ module _ (before after : List ℕ) (s : State) (c t : ℕ) (r : Answered) where
     pub settings : r .state .settings ≡ withLength (s .settings) k size t
 
   abbrev pub Concludes : List ℕ → List ℕ → Outcome → Type 0
-  Concludes action specifier (Refused e) = Denies action specifier e
+  Concludes action specifier (Refused e) = Denies action specifier (class (classOf e))
+  Concludes action specifier (Unreadable f since) = Denies action specifier (fault (faultAs f) since)
   Concludes action specifier (Sent written) = Passes written
   Concludes action specifier (Active mask written) = Switches mask written
   Concludes action specifier (Stored k size written) = Sets k size written

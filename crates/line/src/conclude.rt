@@ -4,6 +4,7 @@ ghost use mathlib.Core.Path.{_≡_};
 ghost use Rattle.message.specs.Parsed.{part, Within};
 ghost use Rattle.line.specs.Concluded.{Concludable, Concludes};
 use message::line::Part;
+use message::say::Denial;
 use outbox::write::put_final_error;
 use outcome::Answered;
 use outcome::Outcome;
@@ -38,7 +39,13 @@ pub fn conclude(
     let settings = state.settings;
     match came {
         Outcome::Refused(class) => {
-            let written = put_final_error(out, 0, client, action, specifier, class);
+            let denial = Denial::Class(class);
+            let written = put_final_error(out, 0, client, action, specifier, denial);
+            Answered { state, written }
+        }
+        Outcome::Unreadable(fault, since) => {
+            let denial = Denial::Fault(fault, since);
+            let written = put_final_error(out, 0, client, action, specifier, denial);
             Answered { state, written }
         }
         Outcome::Sent(written) => Answered { state, written },

@@ -12,6 +12,7 @@ use message::line::Part;
 use message::line::part_line;
 use message::line::request_of;
 use message::say::Class;
+use message::say::Denial;
 use outbox::write::put_final_error;
 use outcome::Answered;
 use request::outcome;
@@ -85,7 +86,8 @@ pub fn answer_line(
         payload,
     } = part_line(line)
     else {
-        let written = put_final_error(out, 0, client, b"", b"", Class::ProtocolError);
+        let denial = Denial::Class(Class::ProtocolError);
+        let written = put_final_error(out, 0, client, b"", b"", denial);
         return Answered { state, written };
     };
     answer_parts(

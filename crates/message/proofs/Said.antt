@@ -4,15 +4,23 @@ use Prim.Native.Nat.{ℕ, _+_, _≤_, _<_}
 use native.Mathlib.Omega.{arith}
 use mathlib.Core.Path.{_≡_}
 use mathlib.Core.List.{List, _++_}
+use mathlib.Core.Option.{Option, none, some}
+use borrow.Author.Tests.{ne-eqb}
 use lib.ListN.{length, length-append}
 use Rattle.ascii.specs.Text.{bytes}
 use Rattle.ascii.specs.Numbers.{seconds}
 use Rattle.ascii.specs.Writer.{Puts}
 use Rattle.ascii.proofs.Puts.{puts-length, puts-both}
 use Rattle.message.specs.Error as Error
-use Rattle.message.specs.Error.{className, classText}
-use Rattle.message.specs.Reply.{dataReport, reportText, errorReport, replyLine, pong, error}
-use Rattle.message.specs.Said.{reportOf}
+use Rattle.message.specs.Error.{className, classText, faultName, faultOf}
+use Rattle.message.specs.Reply.{dataReport, faultReport, Held, heldAs, heldReport, reportText, classReport, errorReport, replyLine, pong, error}
+use Rattle.message.specs.Said.{classOf, faultAs, denialOf, heldBy, reportOf, faultFront}
+use Rattle.message.specs.declared.say.Class.{Class}
+use Rattle.message.specs.declared.say.Fault.{Fault}
+use Rattle.message.specs.declared.say.Denial.{Denial}
+use Rattle.message.specs.declared.say.Denial.the-variants as Denial
+use Rattle.message.specs.declared.say.Sensor.{Sensor}
+use Rattle.message.specs.declared.say.Sensor.the-variants.{Works, Fails}
 
 -- ## Room: where two texts fit, so does the first, and the second after it
 
@@ -79,31 +87,73 @@ pub data-length : (v : List ℕ) (t : ℕ) → length (dataReport v t) ≡ lengt
 unfolding dataReport bytes
 data-length v t = simp length-append (omega arith)
 
+-- ## A report of why a parameter can't be read
+
+module _ (d : List ℕ) (at : ℕ) (f : Error.Fault) (t : ℕ) where
+  module _ (h : at + length (faultReport f t) ≤ length d) where
+    pub fault-1 : at + length (faultFront f) ≤ length d
+    unfolding faultReport faultFront
+    fault-1 = three-1 d (faultFront f) (seconds t) (bytes "}]") at h
+
+    module _ (e : List ℕ) (p : ℕ) (x : Puts d at (faultFront f) e p) where
+      pub fault-2 : p + length (seconds t) ≤ length e
+      unfolding faultReport faultFront
+      fault-2 = three-2 d (faultFront f) (seconds t) (bytes "}]") at h e p x
+
+      pub fault-3 : (g : List ℕ) (q : ℕ) → Puts e p (seconds t) g q → q + length (bytes "}]") ≤ length g
+      unfolding faultReport faultFront
+      fault-3 g q y = three-3 d (faultFront f) (seconds t) (bytes "}]") at h e p x g q y
+
+  pub fault-all :
+      (e g i : List ℕ) (p q r : ℕ) → Puts d at (faultFront f) e p → Puts e p (seconds t) g q → Puts g q (bytes "}]") i r
+      → Puts d at (faultReport f t) i r
+  unfolding faultReport faultFront
+  fault-all e g i p q r x y z = puts-both (puts-both x y) z
+
+pub fault-length : (f : Error.Fault) (t : ℕ) → length (faultReport f t) ≡ length (faultFront f) + length (seconds t) + 2
+unfolding faultReport faultFront bytes
+fault-length f t = simp length-append (omega arith)
+
+pub front-short : (f : Error.Fault) → length (faultFront f) ≤ 50
+unfolding faultFront faultName bytes
+front-short Error.HardwareError = omega arith
+front-short Error.CommunicationFailed = omega arith
+front-short Error.ReadFailed = omega arith
+front-short Error.OutOfRange = omega arith
+
+pub fault-short : (f : Error.Fault) (t : ℕ) → length (faultReport f t) ≤ 52 + length (seconds t)
+fault-short f t = omega (arith, fault-length f t, front-short f)
+
+pub held-short : (o : Option Error.Fault) (v : List ℕ) (t : ℕ) → length (heldReport (heldAs o v) t) ≤ length v + length (seconds t) + 52
+unfolding heldReport
+held-short none v t = omega (arith, data-length v t)
+held-short (some f) v t = omega (arith, fault-short f t)
+
 -- ## A report with its names
 
-module _ (d : List ℕ) (at : ℕ) (m a v : List ℕ) (t : ℕ) where
+module _ (d : List ℕ) (at : ℕ) (m a : List ℕ) (v : Held) (t : ℕ) where
   module _ (h : at + length (reportText (reportOf m a v t)) ≤ length d) where
     pub report-1 : at + length (m ++ bytes ":" ++ a) ≤ length d
     unfolding reportText
-    report-1 = three-1 d (m ++ bytes ":" ++ a) (bytes " ") (dataReport v t) at h
+    report-1 = three-1 d (m ++ bytes ":" ++ a) (bytes " ") (heldReport v t) at h
 
     module _ (e : List ℕ) (p : ℕ) (x : Puts d at (m ++ bytes ":" ++ a) e p) where
       pub report-2 : p < length e
       unfolding reportText
-      report-2 = byte p (length e) (three-2 d _ (bytes " ") (dataReport v t) at h e p x)
+      report-2 = byte p (length e) (three-2 d _ (bytes " ") (heldReport v t) at h e p x)
 
-      pub report-3 : (f : List ℕ) (q : ℕ) → Puts e p (bytes " ") f q → q + length (dataReport v t) ≤ length f
+      pub report-3 : (f : List ℕ) (q : ℕ) → Puts e p (bytes " ") f q → q + length (heldReport v t) ≤ length f
       unfolding reportText
-      report-3 f q y = three-3 d _ (bytes " ") (dataReport v t) at h e p x f q y
+      report-3 f q y = three-3 d _ (bytes " ") (heldReport v t) at h e p x f q y
 
   pub report-all :
-      (e f g : List ℕ) (p q r : ℕ) → Puts d at (m ++ bytes ":" ++ a) e p → Puts e p (bytes " ") f q → Puts f q (dataReport v t) g r
+      (e f g : List ℕ) (p q r : ℕ) → Puts d at (m ++ bytes ":" ++ a) e p → Puts e p (bytes " ") f q → Puts f q (heldReport v t) g r
       → Puts d at (reportText (reportOf m a v t)) g r
   unfolding reportText
   report-all e f g p q r x y z = puts-both (puts-both x y) z
 
 pub report-length :
-    (m a v : List ℕ) (t : ℕ) → length (reportText (reportOf m a v t)) ≡ length m + length a + 2 + length (dataReport v t)
+    (m a : List ℕ) (v : Held) (t : ℕ) → length (reportText (reportOf m a v t)) ≡ length m + length a + 2 + length (heldReport v t)
 unfolding reportText bytes
 report-length m a v t = simp length-append (omega arith)
 
@@ -131,7 +181,7 @@ pong-length w t = simp length-append (omega arith)
 
 -- ## An error
 
-module _ (d : List ℕ) (at : ℕ) (a s : List ℕ) (k : Error.Class) where
+module _ (d : List ℕ) (at : ℕ) (a s : List ℕ) (k : Error.Denial) where
   module _ (h : at + length (replyLine (error a s k)) ≤ length d) where
     but-report : at + length (bytes "error_" ++ a ++ bytes " " ++ s ++ bytes " ") ≤ length d
     unfolding replyLine
@@ -158,17 +208,101 @@ module _ (d : List ℕ) (at : ℕ) (a s : List ℕ) (k : Error.Class) where
   unfolding replyLine
   error-all e f g i p q r j x y z w = puts-both (puts-both (puts-both x y) z) w
 
-pub error-length : (a s : List ℕ) (k : Error.Class) → length (replyLine (error a s k)) ≡ length a + length s + 8 + length (errorReport k)
+pub error-length : (a s : List ℕ) (k : Error.Denial) → length (replyLine (error a s k)) ≡ length a + length s + 8 + length (errorReport k)
 unfolding replyLine bytes
 error-length a s k = simp length-append (omega arith)
 
-pub error-short : (k : Error.Class) → length (errorReport k) ≤ 51
-unfolding errorReport className classText bytes
-error-short Error.ProtocolError = omega arith
-error-short Error.NoSuchModule = omega arith
-error-short Error.NoSuchParameter = omega arith
-error-short Error.NoSuchCommand = omega arith
-error-short Error.ReadOnly = omega arith
-error-short Error.BadJSON = omega arith
-error-short Error.WrongType = omega arith
-error-short Error.RangeError = omega arith
+pub class-short : (k : Error.Class) → length (classReport k) ≤ 51
+unfolding classReport className classText bytes
+class-short Error.ProtocolError = omega arith
+class-short Error.NoSuchModule = omega arith
+class-short Error.NoSuchParameter = omega arith
+class-short Error.NoSuchCommand = omega arith
+class-short Error.ReadOnly = omega arith
+class-short Error.BadJSON = omega arith
+class-short Error.WrongType = omega arith
+class-short Error.RangeError = omega arith
+
+-- ## By cases: whether a parameter can be read, what an error reply tells
+
+module _ (s : Sensor) (v : List ℕ) (t : ℕ) (w : s ≡ Works) where
+  works : heldReport (heldBy s v) t ≡ dataReport v t
+  unfolding heldReport
+  works = rw w
+
+  pub works-length : (r : ℕ) → r ≡ length (dataReport v t) → r ≡ length (heldReport (heldBy s v) t)
+  works-length r h = rw works h
+
+  pub works-room : (at n : ℕ) → at + length (heldReport (heldBy s v) t) ≤ n → at + length (dataReport v t) ≤ n
+  works-room at n h = rw works at h
+
+  pub works-put : (d e : List ℕ) (at r : ℕ) → Puts d at (dataReport v t) e r → Puts d at (heldReport (heldBy s v) t) e r
+  works-put d e at r x = rw works x
+
+module _ (s : Sensor) (f : Fault) (v : List ℕ) (t : ℕ) (w : s ≡ Fails f) where
+  fails : heldReport (heldBy s v) t ≡ faultReport (faultAs f) t
+  unfolding heldReport
+  fails = rw w
+
+  pub fails-length : (r : ℕ) → r ≡ length (faultReport (faultAs f) t) → r ≡ length (heldReport (heldBy s v) t)
+  fails-length r h = rw fails h
+
+  pub fails-room : (at n : ℕ) → at + length (heldReport (heldBy s v) t) ≤ n → at + length (faultReport (faultAs f) t) ≤ n
+  fails-room at n h = rw fails at h
+
+  pub fails-put : (d e : List ℕ) (at r : ℕ) → Puts d at (faultReport (faultAs f) t) e r → Puts d at (heldReport (heldBy s v) t) e r
+  fails-put d e at r x = rw fails x
+
+module _ (d : Denial) (k : Class) (w : d ≡ Denial.Class k) where
+  told : errorReport (denialOf d) ≡ classReport (classOf k)
+  unfolding errorReport
+  told = rw w
+
+  pub class-length : (r : ℕ) → r ≡ length (classReport (classOf k)) → r ≡ length (errorReport (denialOf d))
+  class-length r h = rw told h
+
+  pub class-room : (at n : ℕ) → at + length (errorReport (denialOf d)) ≤ n → at + length (classReport (classOf k)) ≤ n
+  class-room at n h = rw told at h
+
+  pub class-put : (i e : List ℕ) (at r : ℕ) → Puts i at (classReport (classOf k)) e r → Puts i at (errorReport (denialOf d)) e r
+  class-put i e at r x = rw told x
+
+pub class-least : (k : Class) (r : ℕ) → r ≡ length (classReport (classOf k)) → r ≤ 73
+class-least k r h = omega (arith, class-short (classOf k))
+
+module _ (d : Denial) (f : Fault) (t : ℕ) (w : d ≡ Denial.Fault f t) where
+  denied : errorReport (denialOf d) ≡ faultReport (faultAs f) t
+  unfolding errorReport
+  denied = rw w
+
+  pub denied-length : (r : ℕ) → r ≡ length (faultReport (faultAs f) t) → r ≡ length (errorReport (denialOf d))
+  denied-length r h = rw denied h
+
+  pub denied-room : (at n : ℕ) → at + length (errorReport (denialOf d)) ≤ n → at + length (faultReport (faultAs f) t) ≤ n
+  denied-room at n h = rw denied at h
+
+  pub denied-put : (i e : List ℕ) (at r : ℕ) → Puts i at (faultReport (faultAs f) t) e r → Puts i at (errorReport (denialOf d)) e r
+  denied-put i e at r x = rw denied x
+
+-- ## The numbers of the classes
+
+module _ (k : ℕ) where
+  pub number-1 : k ≡ 1 → some Error.HardwareError ≡ faultOf k
+  unfolding faultOf
+  number-1 e = rw e
+
+  pub number-2 : k ≡ 2 → some Error.CommunicationFailed ≡ faultOf k
+  unfolding faultOf
+  number-2 e = rw e
+
+  pub number-3 : k ≡ 3 → some Error.ReadFailed ≡ faultOf k
+  unfolding faultOf
+  number-3 e = rw e
+
+  pub number-4 : k ≡ 4 → some Error.OutOfRange ≡ faultOf k
+  unfolding faultOf
+  number-4 e = rw e
+
+  pub number-none : (k ≡ 1 → ⊥) → (k ≡ 2 → ⊥) → (k ≡ 3 → ⊥) → (k ≡ 4 → ⊥) → none ≡ faultOf k
+  unfolding faultOf
+  number-none a b c d = simp (ne-eqb k 1 a, ne-eqb k 2 b, ne-eqb k 3 c, ne-eqb k 4 d)

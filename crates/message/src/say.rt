@@ -5,8 +5,9 @@ ghost use mathlib.Core.Option.{none, some};
 ghost use Prim.Native.Nat.{_+_, _≤_};
 ghost use lib.ListN.{length};
 ghost use Rattle.ascii.specs.Writer.{Puts};
-ghost use Rattle.message.specs.Reply.{dataReport, reportText, errorReport, optionally, replyLine, identification, pong, error};
-ghost use Rattle.message.specs.Said.{classOf, reportOf};
+ghost use Rattle.message.specs.Error.{faultNumber, faultOf};
+ghost use Rattle.message.specs.Reply.{dataReport, faultReport, heldReport, reportText, classReport, errorReport, optionally, replyLine, identification, pong, error};
+ghost use Rattle.message.specs.Said.{classOf, faultAs, denialOf, sensorFault, heldBy, reportOf, faultFront};
 use ascii::write::put;
 use ascii::write::put_byte;
 use ascii::write::put_seconds;
@@ -22,6 +23,50 @@ pub enum Class {
     BadJSON,
     WrongType,
     RangeError,
+}
+
+// Why a parameter can't be read.
+pub enum Fault {
+    HardwareError,
+    CommunicationFailed,
+    ReadFailed,
+    OutOfRange,
+}
+
+// What an error reply tells: a class, or why a parameter can't be read and since when.
+pub enum Denial {
+    Class(Class),
+    Fault(Fault, u64),
+}
+
+// Whether a parameter can be read.
+pub enum Sensor {
+    Works,
+    Fails(Fault),
+}
+
+// "HardwareError 1, CommunicationFailed 2, ReadFailed 3, OutOfRange 4"; any other number is no class.
+pub fn sensor_of(number: u64) -> Sensor
+    ensures { λ r. ⌜ sensorFault r ≡ faultOf number ⌝ }
+{
+    match number {
+        1 => Sensor::Fails(Fault::HardwareError),
+        2 => Sensor::Fails(Fault::CommunicationFailed),
+        3 => Sensor::Fails(Fault::ReadFailed),
+        4 => Sensor::Fails(Fault::OutOfRange),
+        _ => Sensor::Works,
+    }
+}
+
+pub fn fault_number(fault: Fault) -> u8
+    ensures { λ r. ⌜ r ≡ faultNumber (faultAs fault) ⌝ }
+{
+    match fault {
+        Fault::HardwareError => 1,
+        Fault::CommunicationFailed => 2,
+        Fault::ReadFailed => 3,
+        Fault::OutOfRange => 4,
+    }
 }
 
 // Three texts, one after another.
@@ -49,12 +94,73 @@ fn put_data_report(out: &mut [u8], at: usize, value: &[u8], time: u64) -> usize
     put(out, close, b"}]")
 }
 
-// The names and the value are short enough for their sum to fit.
-fn report_length(module: &[u8], accessible: &[u8], value: &[u8], time: u64) -> usize
-    requires { ⌜ length (now «module») + length (now accessible) + length (now value) ≤ 65536 ⌝ }
-    ensures { λ r. ⌜ r ≡ length (reportText (reportOf (now («module» .entry)) (now (accessible .entry)) (now (value .entry)) time)) ⌝ }
+fn fault_front_length(fault: Fault) -> usize
+    ensures { λ r. ⌜ r ≡ length (faultFront (faultAs fault)) ⌝ }
 {
-    module.len() + accessible.len() + 2 + data_report_length(value, time)
+    match fault {
+        Fault::HardwareError => 38,
+        Fault::CommunicationFailed => 50,
+        Fault::ReadFailed => 32,
+        Fault::OutOfRange => 32,
+    }
+}
+
+fn put_fault_front(out: &mut [u8], at: usize, fault: Fault) -> usize
+    requires { ⌜ at + length (faultFront (faultAs fault)) ≤ length (now out) ⌝ }
+    ensures { λ r. ⌜ Puts (now (out .entry)) at (faultFront (faultAs fault)) (now (out .exit)) r ⌝ }
+{
+    match fault {
+        Fault::HardwareError => put(out, at, b"[\"HardwareError\",\"HardwareError\",{\"t\":"),
+        Fault::CommunicationFailed => put(
+            out,
+            at,
+            b"[\"CommunicationFailed\",\"CommunicationFailed\",{\"t\":",
+        ),
+        Fault::ReadFailed => put(out, at, b"[\"ReadFailed\",\"ReadFailed\",{\"t\":"),
+        Fault::OutOfRange => put(out, at, b"[\"OutOfRange\",\"OutOfRange\",{\"t\":"),
+    }
+}
+
+fn fault_report_length(fault: Fault, time: u64) -> usize
+    ensures { λ r. ⌜ (r ≡ length (faultReport (faultAs fault) time)) × (r ≤ 73) ⌝ }
+{
+    fault_front_length(fault) + seconds_length(time) + 2
+}
+
+fn put_fault_report(out: &mut [u8], at: usize, fault: Fault, time: u64) -> usize
+    requires { ⌜ at + length (faultReport (faultAs fault) time) ≤ length (now out) ⌝ }
+    ensures { λ r. ⌜ Puts (now (out .entry)) at (faultReport (faultAs fault) time) (now (out .exit)) r ⌝ }
+{
+    let stamp = put_fault_front(out, at, fault);
+    let close = put_seconds(out, stamp, time);
+    put(out, close, b"}]")
+}
+
+fn held_report_length(sensor: Sensor, value: &[u8], time: u64) -> usize
+    ensures { λ r. ⌜ r ≡ length (heldReport (heldBy sensor (now (value .entry))) time) ⌝ }
+{
+    match sensor {
+        Sensor::Works => data_report_length(value, time),
+        Sensor::Fails(fault) => fault_report_length(fault, time),
+    }
+}
+
+fn put_held_report(out: &mut [u8], at: usize, sensor: Sensor, value: &[u8], time: u64) -> usize
+    requires { ⌜ at + length (heldReport (heldBy sensor (now value)) time) ≤ length (now out) ⌝ }
+    ensures { λ r. ⌜ Puts (now (out .entry)) at (heldReport (heldBy sensor (now (value .entry))) time) (now (out .exit)) r ⌝ }
+{
+    match sensor {
+        Sensor::Works => put_data_report(out, at, value, time),
+        Sensor::Fails(fault) => put_fault_report(out, at, fault, time),
+    }
+}
+
+// The names are short enough for the sum to fit.
+fn report_length(module: &[u8], accessible: &[u8], sensor: Sensor, value: &[u8], time: u64) -> usize
+    requires { ⌜ length (now «module») + length (now accessible) ≤ 65536 ⌝ }
+    ensures { λ r. ⌜ r ≡ length (reportText (reportOf (now («module» .entry)) (now (accessible .entry)) (heldBy sensor (now (value .entry))) time)) ⌝ }
+{
+    module.len() + accessible.len() + 2 + held_report_length(sensor, value, time)
 }
 
 fn put_report(
@@ -62,19 +168,20 @@ fn put_report(
     at: usize,
     module: &[u8],
     accessible: &[u8],
+    sensor: Sensor,
     value: &[u8],
     time: u64,
 ) -> usize
-    requires { ⌜ at + length (reportText (reportOf (now «module») (now accessible) (now value) time)) ≤ length (now out) ⌝ }
-    ensures { λ r. ⌜ Puts (now (out .entry)) at (reportText (reportOf (now («module» .entry)) (now (accessible .entry)) (now (value .entry)) time)) (now (out .exit)) r ⌝ }
+    requires { ⌜ at + length (reportText (reportOf (now «module») (now accessible) (heldBy sensor (now value)) time)) ≤ length (now out) ⌝ }
+    ensures { λ r. ⌜ Puts (now (out .entry)) at (reportText (reportOf (now («module» .entry)) (now (accessible .entry)) (heldBy sensor (now (value .entry))) time)) (now (out .exit)) r ⌝ }
 {
     let space = put3(out, at, module, b":", accessible);
     let data = put_byte(out, space, b' ');
-    put_data_report(out, data, value, time)
+    put_held_report(out, data, sensor, value, time)
 }
 
-fn error_report_length(class: Class) -> usize
-    ensures { λ r. ⌜ r ≡ length (errorReport (classOf class)) ⌝ }
+fn class_report_length(class: Class) -> usize
+    ensures { λ r. ⌜ r ≡ length (classReport (classOf class)) ⌝ }
 {
     match class {
         Class::ProtocolError => 51,
@@ -88,9 +195,9 @@ fn error_report_length(class: Class) -> usize
     }
 }
 
-fn put_error_report(out: &mut [u8], at: usize, class: Class) -> usize
-    requires { ⌜ at + length (errorReport (classOf class)) ≤ length (now out) ⌝ }
-    ensures { λ r. ⌜ Puts (now (out .entry)) at (errorReport (classOf class)) (now (out .exit)) r ⌝ }
+fn put_class_report(out: &mut [u8], at: usize, class: Class) -> usize
+    requires { ⌜ at + length (classReport (classOf class)) ≤ length (now out) ⌝ }
+    ensures { λ r. ⌜ Puts (now (out .entry)) at (classReport (classOf class)) (now (out .exit)) r ⌝ }
 {
     match class {
         Class::ProtocolError => put(
@@ -105,6 +212,25 @@ fn put_error_report(out: &mut [u8], at: usize, class: Class) -> usize
         Class::BadJSON => put(out, at, b"[\"BadJSON\",\"data is not JSON\",{}]"),
         Class::WrongType => put(out, at, b"[\"WrongType\",\"value has the wrong type\",{}]"),
         Class::RangeError => put(out, at, b"[\"RangeError\",\"value is out of range\",{}]"),
+    }
+}
+
+fn error_report_length(denial: Denial) -> usize
+    ensures { λ r. ⌜ (r ≡ length (errorReport (denialOf denial))) × (r ≤ 73) ⌝ }
+{
+    match denial {
+        Denial::Class(class) => class_report_length(class),
+        Denial::Fault(fault, time) => fault_report_length(fault, time),
+    }
+}
+
+fn put_error_report(out: &mut [u8], at: usize, denial: Denial) -> usize
+    requires { ⌜ at + length (errorReport (denialOf denial)) ≤ length (now out) ⌝ }
+    ensures { λ r. ⌜ Puts (now (out .entry)) at (errorReport (denialOf denial)) (now (out .exit)) r ⌝ }
+{
+    match denial {
+        Denial::Class(class) => put_class_report(out, at, class),
+        Denial::Fault(fault, time) => put_fault_report(out, at, fault, time),
     }
 }
 
@@ -152,11 +278,18 @@ pub fn put_word_name(out: &mut [u8], at: usize, word: &[u8], name: &[u8]) -> usi
     put3(out, at, word, b" ", name)
 }
 
-pub fn named_length(word: &[u8], module: &[u8], accessible: &[u8], value: &[u8], time: u64) -> usize
-    requires { ⌜ length (now word) + length (now «module») + length (now accessible) + length (now value) ≤ 65536 ⌝ }
-    ensures { λ r. ⌜ r ≡ length (now (word .entry) ++ reportText (reportOf (now («module» .entry)) (now (accessible .entry)) (now (value .entry)) time)) ⌝ }
+pub fn named_length(
+    word: &[u8],
+    module: &[u8],
+    accessible: &[u8],
+    sensor: Sensor,
+    value: &[u8],
+    time: u64,
+) -> usize
+    requires { ⌜ length (now word) + length (now «module») + length (now accessible) ≤ 65536 ⌝ }
+    ensures { λ r. ⌜ r ≡ length (now (word .entry) ++ reportText (reportOf (now («module» .entry)) (now (accessible .entry)) (heldBy sensor (now (value .entry))) time)) ⌝ }
 {
-    word.len() + report_length(module, accessible, value, time)
+    word.len() + report_length(module, accessible, sensor, value, time)
 }
 
 // A word that ends with a space, as `reply `, and a report.
@@ -166,29 +299,36 @@ pub fn put_named(
     word: &[u8],
     module: &[u8],
     accessible: &[u8],
+    sensor: Sensor,
     value: &[u8],
     time: u64,
 ) -> usize
-    requires { ⌜ at + length (now word ++ reportText (reportOf (now «module») (now accessible) (now value) time)) ≤ length (now out) ⌝ }
-    ensures { λ r. ⌜ Puts (now (out .entry)) at (now (word .entry) ++ reportText (reportOf (now («module» .entry)) (now (accessible .entry)) (now (value .entry)) time)) (now (out .exit)) r ⌝ }
+    requires { ⌜ at + length (now word ++ reportText (reportOf (now «module») (now accessible) (heldBy sensor (now value)) time)) ≤ length (now out) ⌝ }
+    ensures { λ r. ⌜ Puts (now (out .entry)) at (now (word .entry) ++ reportText (reportOf (now («module» .entry)) (now (accessible .entry)) (heldBy sensor (now (value .entry))) time)) (now (out .exit)) r ⌝ }
 {
     let report = put(out, at, word);
-    put_report(out, report, module, accessible, value, time)
+    put_report(out, report, module, accessible, sensor, value, time)
 }
 
-pub fn error_length(action: &[u8], specifier: &[u8], class: Class) -> usize
+pub fn error_length(action: &[u8], specifier: &[u8], denial: Denial) -> usize
     requires { ⌜ length (now action) + length (now specifier) ≤ 65536 ⌝ }
-    ensures { λ r. ⌜ r ≡ length (replyLine (error (now (action .entry)) (now (specifier .entry)) (classOf class))) ⌝ }
+    ensures { λ r. ⌜ r ≡ length (replyLine (error (now (action .entry)) (now (specifier .entry)) (denialOf denial))) ⌝ }
 {
-    action.len() + specifier.len() + 8 + error_report_length(class)
+    action.len() + specifier.len() + 8 + error_report_length(denial)
 }
 
-pub fn put_error(out: &mut [u8], at: usize, action: &[u8], specifier: &[u8], class: Class) -> usize
-    requires { ⌜ at + length (replyLine (error (now action) (now specifier) (classOf class))) ≤ length (now out) ⌝ }
-    ensures { λ r. ⌜ Puts (now (out .entry)) at (replyLine (error (now (action .entry)) (now (specifier .entry)) (classOf class))) (now (out .exit)) r ⌝ }
+pub fn put_error(
+    out: &mut [u8],
+    at: usize,
+    action: &[u8],
+    specifier: &[u8],
+    denial: Denial,
+) -> usize
+    requires { ⌜ at + length (replyLine (error (now action) (now specifier) (denialOf denial))) ≤ length (now out) ⌝ }
+    ensures { λ r. ⌜ Puts (now (out .entry)) at (replyLine (error (now (action .entry)) (now (specifier .entry)) (denialOf denial))) (now (out .exit)) r ⌝ }
 {
     let second = put3(out, at, b"error_", action, b" ");
     let space = put(out, second, specifier);
     let report = put_byte(out, space, b' ');
-    put_error_report(out, report, class)
+    put_error_report(out, report, denial)
 }

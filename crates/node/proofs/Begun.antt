@@ -24,7 +24,7 @@ use Rattle.state.proofs.Views.{begun-view}
 use Rattle.sound.proofs.Accepted.{accepted}
 use Rattle.promise.specs.declared.Done.{Done}
 use Rattle.promise.specs.Promise.{blank, Begins}
-use Rattle.promise.proofs.Blank.{zeros, blank-size, blank-fit}
+use Rattle.promise.proofs.Blank.{zeros, blank-size, blank-error, blank-fit}
 use Rattle.node.proofs.Refused.{Quiet}
 use Rattle.promise.specs.Answer.{quietDone}
 
@@ -64,7 +64,7 @@ blank-view table values t h = go (readTable table) refl
     go none e = unread-view table e (blank t) values t (blank-closed t)
     go (some w) e =
         let is : tableOf table ≡ w = ap orEmpty e in
-        begun-view table w e (blank t) values t (blank-closed t) (λ p l. blank-size t p) (λ p l. h p (rw is l))
+        begun-view table w e (blank t) values t (blank-closed t) (λ p l. blank-size t p) (λ p l. blank-error t p) (λ p l. h p (rw is l))
         ∙ ap (λ (x : Table). begin x t) (sym is)
 
 -- ## Answers

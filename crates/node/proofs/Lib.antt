@@ -6,3 +6,4 @@ pub mod Refused
 pub mod Shows
 pub mod Taken
 pub mod Ties
+pub mod Unread

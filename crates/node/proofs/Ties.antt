@@ -7,9 +7,9 @@ use contract.Lifetimes.{Lfts}
 use borrow.Fn.Kinds.{Dens, resT, endedOf}
 use mathlib.Core.List.{[]}
 use lib.ListN.{length}
-use Rattle.plain.specs.Calls.{Open, Close, Piece, Reading, withArea, withOutbox}
+use Rattle.plain.specs.Calls.{Open, Close, Piece, Reading, Unreadable, withArea, withOutbox}
 use Rattle.promise.specs.Promise.{Begins}
-use Rattle.promise.specs.Run.{kit, hears, Called, by-open, by-close, by-piece, by-reading}
+use Rattle.promise.specs.Run.{kit, hears, Called, by-open, by-close, by-piece, by-reading, by-unreadable}
 use Rattle.node.proofs.start.jihfasul_start.Kinds as start-kinds
 use Rattle.node.proofs.start.jihfasul_start.Reads as start-reads
 use Rattle.node.proofs.clients.jihfasul_open.Kinds as open-kinds
@@ -20,6 +20,8 @@ use Rattle.node.proofs.pieces.jihfasul_piece.Kinds as piece-kinds
 use Rattle.node.proofs.pieces.jihfasul_piece.Reads as piece-reads
 use Rattle.node.proofs.readings.jihfasul_reading.Kinds as reading-kinds
 use Rattle.node.proofs.readings.jihfasul_reading.Reads as reading-reads
+use Rattle.node.proofs.unreadable.jihfasul_unreadable.Kinds as unreadable-kinds
+use Rattle.node.proofs.unreadable.jihfasul_unreadable.Reads as unreadable-reads
 
 -- ## Table and values area are lent
 
@@ -87,3 +89,20 @@ module _ (κs : Lfts 4) where
       (hears r (now (x .1 .1 .0)))
   reading-called a r x k =
       by-reading (a .1 .1 .1 .0) (now (a .1 .0)) (now (a .1 .1 .0)) (a .1 .1 .1 .1 .0) (now (a .1 .1 .1 .1 .1 .1 .0)) (a .1 .1 .1 .1 .1 .0) r (now (x .1 .0)) (now (x .1 .1 .0)) k
+
+-- ## An outbox is lent, too, and no bytes
+
+module _ (κs : Lfts 3) where
+  unreadable-asks-nothing : (a : Dens κs unreadable-kinds.ps) → unreadable-reads.Pre κs a
+  unreadable-asks-nothing a = tt
+
+  unreadable-called : (a : Dens κs unreadable-kinds.ps) (r : resT unreadable-kinds.r κs .Denot) (x : AtExit (endedOf 3 unreadable-kinds.ps unreadable-kinds.r) κs)
+      → unreadable-reads.Post κs a r x
+      → Called
+      (now (a .0))
+      (kit (a .1 .1 .1 .0) (now (a .1 .0)))
+      (withOutbox (Unreadable (a .1 .1 .1 .1 .0) (a .1 .1 .1 .1 .1 .1 .0) (a .1 .1 .1 .1 .1 .0)) (length (now (a .1 .0))) (length (now (a .1 .1 .0))))
+      (kit (r .state) (now (a .1 .0)))
+      (hears r (now (x .1 .1 .0)))
+  unreadable-called a r x k =
+      by-unreadable (a .1 .1 .1 .0) (now (a .1 .0)) (now (a .1 .1 .0)) (a .1 .1 .1 .1 .0) (a .1 .1 .1 .1 .1 .1 .0) (a .1 .1 .1 .1 .1 .0) r (now (x .1 .1 .0)) k

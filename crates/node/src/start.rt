@@ -23,6 +23,7 @@ fn blank(time: u64) -> State
         },
         settings: Settings {
             length: [0; 64],
+            error: [0; 64],
             time: [time; 64],
         },
     }

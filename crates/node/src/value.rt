@@ -1,4 +1,4 @@
-// The value that a parameter shows.
+// The value that a parameter shows, or the error in its place.
 use crate::judge::lent_number;
 use promise::Shown;
 use search::cursor::NextParameter;
@@ -9,7 +9,7 @@ use table::layout::Part;
 ghost use Prim.Native.Nat.{_≤_, _<_};
 ghost use mathlib.Core.Path.{_≡_};
 ghost use Rattle.promise.specs.Shown.{notShown, Shows};
-ghost use Rattle.node.specs.Part.{partShown};
+ghost use Rattle.node.specs.Part.{partShown, heldShown};
 
 // A refusal.
 fn not_shown(number: u8) -> Shown
@@ -18,6 +18,7 @@ fn not_shown(number: u8) -> Shown
     Shown {
         number,
         stored: 0,
+        error: 0,
         from: 0,
         size: 0,
         time: 0,
@@ -36,6 +37,7 @@ fn part_shown(settings: Settings, k: usize, initial: Part) -> Shown
         return Shown {
             number: 0,
             stored: 0,
+            error: 0,
             from,
             size: initial.to - from,
             time,
@@ -44,9 +46,31 @@ fn part_shown(settings: Settings, k: usize, initial: Part) -> Shown
     Shown {
         number: 0,
         stored: 1,
+        error: 0,
         from: 256 * k,
         size,
         time,
+    }
+}
+
+// Of a parameter that can't be read, the class of its error in the place of a part.
+fn held_shown(settings: Settings, k: usize, initial: Part) -> Shown
+    requires { ⌜ (k < 64) × (initial .from ≤ initial .to) ⌝ }
+    ensures { λ r. ⌜ r ≡ heldShown settings k initial ⌝ }
+{
+    let errors = settings.error;
+    let error = errors[k];
+    if error == 0 {
+        return part_shown(settings, k, initial);
+    }
+    let times = settings.time;
+    Shown {
+        number: 0,
+        stored: 0,
+        error,
+        from: 0,
+        size: 0,
+        time: times[k],
     }
 }
 
@@ -66,5 +90,5 @@ pub extern "C" fn jihfasul_value(table: &[u8], values: &[u8], state: State, para
     let NextParameter::At(p, _) = parameter_by_number(table, k) else {
         return not_shown(14);
     };
-    part_shown(state.settings, k, p.initial)
+    held_shown(state.settings, k, p.initial)
 }

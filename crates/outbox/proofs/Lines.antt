@@ -1,6 +1,6 @@
 -- Replies and reports are read back from their lines. Assumes nothing.
 use Prim.Native.Nat.{ℕ}
-use mathlib.Core.Bool.{Bool, true, false, cond, not, _&&_}
+use mathlib.Core.Bool.{Bool, true, false, cond, not, _&&_, _||_}
 use mathlib.Core.List.{List, [], _∷_, _++_, append-assoc}
 use mathlib.Core.Option.{Option, none, some}
 use mathlib.Core.Path.{_≡_, refl, _∙_, ap}
@@ -11,9 +11,10 @@ use Rattle.ascii.specs.Bytes.{all, same, head, after, isSome, isIn, isDigit, is
 use Rattle.ascii.specs.Names.{isName, isNameByte}
 use Rattle.ascii.specs.Numbers.{seconds}
 use Rattle.ascii.proofs.Lists.{both, Lacks, lacks, before, beyond, before-at, beyond-at}
-use Rattle.message.specs.Error.{Class, ProtocolError, NoSuchModule, NoSuchParameter, NoSuchCommand, ReadOnly, BadJSON, WrongType, RangeError, className, classText}
-use Rattle.message.specs.Reply.{Report, Reply, identification, describing, pong, active, inactive, reply, changed, done, error, dataReport, reportText, errorReport, optionally, replyLine}
-use Rattle.outbox.specs.Theorems.{Word, NamedReport, WellFormedReply}
+use Rattle.message.specs.Error.{Class, ProtocolError, NoSuchModule, NoSuchParameter, NoSuchCommand, ReadOnly, BadJSON, WrongType, RangeError, className, classText, Fault, HardwareError, CommunicationFailed, ReadFailed, OutOfRange, faultName, Denial, class, fault}
+use Rattle.message.specs.Reply.{Held, valued, failed, Report, Reply, identification, describing, pong, active, inactive, reply, changed, done, error, dataReport, faultReport, heldReport, reportText, classReport, errorReport, optionally, replyLine, updateWord, updateLine}
+use Rattle.message.specs.Said.{faultFront}
+use Rattle.outbox.specs.Theorems.{Word, NamedReport, IsValue, ValueReport, WellFormedReply}
 use Rattle.outbox.proofs.Lists.{beforeLast, beyondLast, before-last-eq, beyond-last-eq, without, without-eq}
 use Rattle.outbox.proofs.Numbers.{numberFrom, seconds-read, seconds-lacks}
 
@@ -42,44 +43,116 @@ module _ (v : List ℕ) (t : ℕ) where
   unfolding readValue bytes
   value-read = rw (data-parts, before-last-eq 58 (bytes "[" ++ v ++ bytes ",{\"t\"") (seconds t) no-colon, without-eq (bytes "[" ++ v) (bytes ",{\"t\""))
 
--- ## Reports: a name ends at the first byte that no name has
+-- ## Reports of why a parameter can't be read: what stands before the time tells which
 
-pub readReport : List ℕ → Report
-readReport xs =
+begins : List ℕ → List ℕ → Bool
+begins w xs = isSome (after w xs)
+
+readFault : List ℕ → Fault
+readFault xs =
+    cond (begins (faultFront HardwareError) xs) HardwareError
+    (cond (begins (faultFront CommunicationFailed) xs) CommunicationFailed
+    (cond (begins (faultFront ReadFailed) xs) ReadFailed
+    OutOfRange))
+
+fault-read : (f : Fault) (t : ℕ) → readFault (faultReport f t) ≡ f
+unfolding readFault begins after faultReport faultFront faultName bytes
+fault-read HardwareError t = refl
+fault-read CommunicationFailed t = refl
+fault-read ReadFailed t = refl
+fault-read OutOfRange t = refl
+
+-- all before the `:`
+untimed : Fault → List ℕ
+untimed f = bytes "[\"" ++ faultName f ++ bytes "\",\"" ++ faultName f ++ bytes "\",{\"t\""
+
+fault-parts : (f : Fault) (t : ℕ) → without 2 (faultReport f t) ≡ untimed f ++ 58 ∷ seconds t
+unfolding faultReport untimed bytes
+fault-parts f t =
+    without-eq (bytes "[\"" ++ faultName f ++ bytes "\",\"" ++ faultName f ++ bytes "\",{\"t\":" ++ seconds t) (bytes "}]") ∙ simp append-assoc
+
+fault-time-read : (f : Fault) (t : ℕ) → readTime (faultReport f t) ≡ t
+unfolding readTime
+fault-time-read f t = rw (fault-parts f t, beyond-last-eq 58 (untimed f) (seconds t) (no-colon [] t), seconds-read t)
+
+-- ## Reports: a name ends at the first byte that no name has; of which kind one is, the first word of its line tells
+
+readReport : (List ℕ → Held) → List ℕ → Report
+readReport f xs =
     record {
       moduleName = before 58 xs;
       accessible = before 32 (beyond 58 xs);
-      value = readValue (beyond 32 (beyond 58 xs));
+      held = f (beyond 32 (beyond 58 xs));
       time = readTime (beyond 32 (beyond 58 xs));
     }
+
+readValued : List ℕ → Held
+readValued xs = valued (readValue xs)
+
+readFailed : List ℕ → Held
+readFailed xs = failed (readFault xs)
 
 pub name-lacks : (s : ℕ) → isNameByte s ≡ false → (m : List ℕ) → isName m ≡ true → Lacks s m
 unfolding isName
 name-lacks s f m h = lacks isNameByte s f m (both (leb 1 (length m) && leb (length m) 63 && not (isDigit (head m))) (all isNameByte m) h .1)
 
-report-parts : (r : Report) → reportText r ≡ r .moduleName ++ 58 ∷ (r .accessible ++ 32 ∷ dataReport (r .value) (r .time))
+report-parts : (r : Report) → reportText r ≡ r .moduleName ++ 58 ∷ (r .accessible ++ 32 ∷ heldReport (r .held) (r .time))
 unfolding reportText bytes
 report-parts r = simp append-assoc
 
-pub report-read : (r : Report) → NamedReport r → readReport (reportText r) ≡ r
+held-time-read : (v : Held) (t : ℕ) → readTime (heldReport v t) ≡ t
+unfolding heldReport
+held-time-read (valued v) t = time-read v t
+held-time-read (failed f) t = fault-time-read f t
+
+read-by : (f : List ℕ → Held) (r : Report) → NamedReport r → f (heldReport (r .held) (r .time)) ≡ r .held → readReport f (reportText r) ≡ r
 unfolding readReport isNameByte isLetter isIn
-report-read r h =
+read-by f r h e =
     let m = name-lacks 58 refl (r .moduleName) (h .0) in
     let a = name-lacks 32 refl (r .accessible) (h .1) in
-    rw report-parts (simp (before-at, beyond-at, value-read, time-read))
+    rw report-parts (simp (before-at, beyond-at, held-time-read, e))
+
+valued-read : (v : Held) (t : ℕ) → IsValue v → readValued (heldReport v t) ≡ v
+unfolding readValued heldReport
+valued-read (valued v) t k = ap valued (value-read v t)
+valued-read (failed f) t k = absurd k
+
+report-read : (r : Report) → ValueReport r → readReport readValued (reportText r) ≡ r
+report-read r h = read-by readValued r (h .0) (valued-read (r .held) (r .time) (h .1))
+
+-- ## Updates
+
+pub readUpdate : List ℕ → Report
+readUpdate xs = cond (begins (bytes "error_update ") xs) (readReport readFailed (drop 13 xs)) (readReport readValued (drop 7 xs))
+
+update-as : (r : Report) → NamedReport r → (v : Held) → r .held ≡ v → readUpdate (updateWord v ++ reportText r) ≡ r
+unfolding readUpdate begins after updateWord bytes readValued readFailed heldReport
+update-as r h (valued v) e = read-by readValued r h (rw e (ap valued (value-read v (r .time))))
+update-as r h (failed f) e = read-by readFailed r h (rw e (ap failed (fault-read f (r .time))))
+
+pub update-read : (r : Report) → NamedReport r → readUpdate (updateLine r) ≡ r
+unfolding updateLine
+update-read r h = update-as r h (r .held) refl
 
 -- ## Error reports
 
 -- the class of the list whose report it is, or the one that is not in the list
 classAmong : List Class → List ℕ → Class
 classAmong [] xs = RangeError
-classAmong (c ∷ cs) xs = cond (same xs (errorReport c)) c (classAmong cs xs)
+classAmong (c ∷ cs) xs = cond (same xs (classReport c)) c (classAmong cs xs)
 
 readClass : List ℕ → Class
 readClass = classAmong (ProtocolError ∷ NoSuchModule ∷ NoSuchParameter ∷ NoSuchCommand ∷ ReadOnly ∷ BadJSON ∷ WrongType ∷ [])
 
-class-read : (c : Class) → readClass (errorReport c) ≡ c
-unfolding readClass classAmong same errorReport className classText bytes
+-- a report of why a parameter can't be read begins as one
+readDenial : List ℕ → Denial
+readDenial xs =
+    cond (begins (faultFront HardwareError) xs || begins (faultFront CommunicationFailed) xs || begins (faultFront ReadFailed) xs || begins (faultFront OutOfRange) xs)
+    (fault (readFault xs) (readTime xs))
+    (class (readClass xs))
+
+class-read : (c : Class) → readDenial (classReport c) ≡ class c
+unfolding readDenial begins after faultFront faultName readClass classAmong same classReport className classText bytes
 class-read ProtocolError = refl
 class-read NoSuchModule = refl
 class-read NoSuchParameter = refl
@@ -88,6 +161,21 @@ class-read ReadOnly = refl
 class-read BadJSON = refl
 class-read WrongType = refl
 class-read RangeError = refl
+
+fault-begins :
+    (f : Fault) (t : ℕ)
+    → begins (faultFront HardwareError) (faultReport f t) || begins (faultFront CommunicationFailed) (faultReport f t) || begins (faultFront ReadFailed) (faultReport f t) || begins (faultFront OutOfRange) (faultReport f t)
+    ≡ true
+unfolding begins after faultReport faultFront faultName bytes
+fault-begins HardwareError t = refl
+fault-begins CommunicationFailed t = refl
+fault-begins ReadFailed t = refl
+fault-begins OutOfRange t = refl
+
+denial-read : (d : Denial) → readDenial (errorReport d) ≡ d
+unfolding errorReport readDenial
+denial-read (class c) = class-read c
+denial-read (fault f t) = rw (fault-begins f t, fault-read f t, fault-time-read f t)
 
 -- ## Replies: the first word, and then what follows it
 
@@ -103,14 +191,11 @@ readScope [] = none
 readScope (b ∷ m) = some m
 
 readError : List ℕ → Reply
-readError xs = error (before 32 xs) (before 32 (beyond 32 xs)) (readClass (beyond 32 (beyond 32 xs)))
+readError xs = error (before 32 xs) (before 32 (beyond 32 xs)) (readDenial (beyond 32 (beyond 32 xs)))
 
-error-read : (a s : List ℕ) (c : Class) → Word a → Word s → readError (a ++ bytes " " ++ s ++ bytes " " ++ errorReport c) ≡ error a s c
+error-read : (a s : List ℕ) (d : Denial) → Word a → Word s → readError (a ++ bytes " " ++ s ++ bytes " " ++ errorReport d) ≡ error a s d
 unfolding readError bytes
-error-read a s c h k = simp (append-assoc, before-at, beyond-at, class-read)
-
-begins : List ℕ → List ℕ → Bool
-begins w xs = isSome (after w xs)
+error-read a s d h k = simp (append-assoc, before-at, beyond-at, denial-read)
 
 pub readReply : List ℕ → Reply
 readReply xs =
@@ -119,9 +204,9 @@ readReply xs =
     (cond (begins (bytes "pong") xs) (readPong (drop 5 xs))
     (cond (begins (bytes "active") xs) (active (readScope (drop 6 xs)))
     (cond (begins (bytes "inactive") xs) (inactive (readScope (drop 8 xs)))
-    (cond (begins (bytes "reply") xs) (reply (readReport (drop 6 xs)))
-    (cond (begins (bytes "changed") xs) (changed (readReport (drop 8 xs)))
-    (cond (begins (bytes "done") xs) (done (readReport (drop 5 xs)))
+    (cond (begins (bytes "reply") xs) (reply (readReport readValued (drop 6 xs)))
+    (cond (begins (bytes "changed") xs) (changed (readReport readValued (drop 8 xs)))
+    (cond (begins (bytes "done") xs) (done (readReport readValued (drop 5 xs)))
     (readError (drop 6 xs)))))))))
 
 pub reply-read : (r : Reply) → WellFormedReply r → readReply (replyLine r) ≡ r

@@ -14,21 +14,21 @@ use Rattle.message.specs.Reply.{replyLine, updateLine}
 use Rattle.outbox.specs.Outbox.{Record, final, update, orderChange, orderCommand, mark, client, body, encode, encodeAll}
 use Rattle.outbox.specs.Theorems.{WellFormed, EncodingIsReadBack}
 use Rattle.outbox.proofs.Lists.{without, without-eq}
-use Rattle.outbox.proofs.Lines.{readReport, report-read, readReply, reply-read}
+use Rattle.outbox.proofs.Lines.{readUpdate, update-read, readReply, reply-read}
 
 -- ## A record by its mark, client and body
 
 recordOf : List ℕ → ℕ → List ℕ → Record
 recordOf m c b =
     cond (same m (bytes "RP")) (final c (readReply (without 1 b)))
-    (cond (same m (bytes "UP")) (update c (readReport (drop 7 (without 1 b))))
+    (cond (same m (bytes "UP")) (update c (readUpdate (without 1 b)))
     (cond (same m (bytes "DR")) (orderChange c (head b) (tail b))
     (orderCommand c (head b) (tail b))))
 
 body-read : (r : Record) → WellFormed r → recordOf (mark r) (client r) (body r) ≡ r
-unfolding recordOf mark client body same head tail updateLine bytes
+unfolding recordOf mark client body same head tail bytes
 body-read (final c r) h = ap (final c) (ap readReply (without-eq (replyLine r) (bytes "\n")) ∙ reply-read r h)
-body-read (update c r) h = ap (update c) (ap (λ l. readReport (drop 7 l)) (without-eq (updateLine r) (bytes "\n")) ∙ report-read r h)
+body-read (update c r) h = ap (update c) (ap readUpdate (without-eq (updateLine r) (bytes "\n")) ∙ update-read r h)
 body-read (orderChange c p v) h = refl
 body-read (orderCommand c p v) h = refl
 

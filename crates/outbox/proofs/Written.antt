@@ -1,7 +1,7 @@
 -- Laws of records that are written part by part: each part has room, and together they are the record. Assumes nothing.
 use Prim.Native.Nat.{ℕ, _+_, _/_, _%_, _≤_, _<_}
 use native.Mathlib.Omega.{arith}
-use mathlib.Core.Path.{_≡_, sym, ap, _∙_}
+use mathlib.Core.Path.{_≡_, sym, ap, subst, _∙_}
 use mathlib.Core.List.{List, [], _∷_, _++_, append-assoc}
 use mathlib.Core.Option.{some}
 use lib.ListN.{length, length-append}
@@ -9,10 +9,13 @@ use Rattle.ascii.specs.Text.{bytes}
 use Rattle.ascii.specs.Numbers.{twoBytes}
 use Rattle.ascii.specs.Writer.{Puts}
 use Rattle.ascii.proofs.Puts.{puts-length, puts-both}
-use Rattle.message.specs.Error.{Class}
-use Rattle.message.specs.Reply.{Report, Reply, describing, replyLine, updateLine, error, optionally, reportText}
-use Rattle.message.specs.Said.{reportOf}
-use Rattle.message.proofs.Said.{two-1, two-2, error-length, report-length, data-length}
+use Rattle.message.specs.Error.{Denial}
+use Rattle.message.specs.Reply.{Held, failed, Report, Reply, describing, replyLine, updateWord, updateLine, error, optionally, reportText}
+use Rattle.message.specs.Said.{faultAs, heldBy, reportOf}
+use Rattle.message.specs.declared.say.Fault.{Fault}
+use Rattle.message.specs.declared.say.Sensor.{Sensor}
+use Rattle.message.specs.declared.say.Sensor.the-variants.{Works, Fails}
+use Rattle.message.proofs.Said.{two-1, two-2, error-length, report-length}
 use Rattle.outbox.specs.Outbox.{Record, final, update, mark, client, body, encode}
 use Rattle.outbox.specs.Written.{sealed, Room, LineRoom, RoomFor, describingStart}
 
@@ -172,9 +175,39 @@ module _ (d : List ℕ) (at c : ℕ) (r : Reply) (k : ℕ) (s : k ≡ length (re
   unfolding sealed encode mark client body
   final-all e f g p q i x y z = line-all d at (bytes "RP") c (replyLine r) k s e f g p q i x y z
 
+-- ## An update, by whether the parameter can be read
+
+module _ (s : Sensor) (d : List ℕ) (at c : ℕ) (m a v : List ℕ) (t : ℕ) where
+  module _ (w : s ≡ Works) where
+    word : updateWord (heldBy s v) ≡ bytes "update "
+    unfolding updateWord
+    word = rw w
+
+    pub works-room : RoomFor d at (update c (reportOf m a (heldBy s v) t)) → LineRoom d at (bytes "UP") c (bytes "update " ++ reportText (reportOf m a (heldBy s v) t))
+    unfolding updateLine
+    works-room h =
+        subst (λ l. LineRoom d at (bytes "UP") c (l ++ reportText (reportOf m a (heldBy s v) t))) word (line-of-update d at c (reportOf m a (heldBy s v) t) h)
+
+    pub works-put : {x : List ℕ} {p : ℕ} → Puts d at (sealed (bytes "UP") c (bytes "update " ++ reportText (reportOf m a (heldBy s v) t) ++ bytes "\n")) x p
+        → Puts d at (encode (update c (reportOf m a (heldBy s v) t))) x p
+    unfolding sealed encode mark client body updateLine
+    works-put {x} {p} y = subst (λ l. Puts d at (sealed (bytes "UP") c (l ++ reportText (reportOf m a (heldBy s v) t) ++ bytes "\n")) x p) (sym word) y
+
+  module _ (f : Fault) (w : s ≡ Fails f) where
+    pub fails-room : RoomFor d at (update c (reportOf m a (heldBy s v) t))
+        → LineRoom d at (bytes "UP") c (bytes "error_update " ++ reportText (reportOf m a (failed (faultAs f)) t))
+    unfolding updateLine updateWord
+    fails-room h = line-of-update d at c (reportOf m a (failed (faultAs f)) t) (subst (λ s. RoomFor d at (update c (reportOf m a (heldBy s v) t))) w h)
+
+    pub fails-put : {x : List ℕ} {p : ℕ}
+        → Puts d at (sealed (bytes "UP") c (bytes "error_update " ++ reportText (reportOf m a (failed (faultAs f)) t) ++ bytes "\n")) x p
+        → Puts d at (encode (update c (reportOf m a (heldBy s v) t))) x p
+    unfolding sealed encode mark client body updateLine updateWord
+    fails-put {x} {p} y = subst (λ s. Puts d at (encode (update c (reportOf m a (heldBy s v) t))) x p) (sym w) y
+
 -- ## What has room is short
 
-pub error-names : (d : List ℕ) (at c : ℕ) (a s : List ℕ) (k : Class) → RoomFor d at (final c (error a s k)) → length a + length s ≤ 65536
+pub error-names : (d : List ℕ) (at c : ℕ) (a s : List ℕ) (k : Denial) → RoomFor d at (final c (error a s k)) → length a + length s ≤ 65536
 unfolding body
 error-names d at c a s k h =
     let l = error-length a s k in
@@ -189,12 +222,11 @@ word-names d at m c w n h =
     omega arith
 
 pub report-names :
-    (d : List ℕ) (at : ℕ) (m : List ℕ) (c : ℕ) (w x a v : List ℕ) (t : ℕ) → LineRoom d at m c (w ++ reportText (reportOf x a v t))
-    → length w + length x + length a + length v ≤ 65536
+    (d : List ℕ) (at : ℕ) (m : List ℕ) (c : ℕ) (w x a : List ℕ) (v : Held) (t : ℕ) → LineRoom d at m c (w ++ reportText (reportOf x a v t))
+    → length w + length x + length a ≤ 65536
 report-names d at m c w x a v t h =
     let i : length w + length (reportText (reportOf x a v t)) < 65535 = simp length-append at (h .short) in
     let k = report-length x a v t in
-    let l = data-length v t in
     omega arith
 
 -- ## A report after its start

@@ -6,7 +6,7 @@ use mathlib.Core.Option.{Option, none, some}
 use mathlib.Core.Path.{_≡_}
 use Rattle.ascii.specs.Bytes.{all, isSpace}
 use Rattle.ascii.specs.Names.{isName}
-use Rattle.message.specs.Reply.{Report, Reply, identification, describing, pong, active, inactive, reply, changed, done, error}
+use Rattle.message.specs.Reply.{Held, valued, failed, Report, Reply, identification, describing, pong, active, inactive, reply, changed, done, error}
 use Rattle.outbox.specs.Outbox.{Record, final, update, orderChange, orderCommand, encodeAll}
 
 -- a word of a line: no space in it
@@ -21,17 +21,25 @@ Named (some m) = isName m ≡ true
 abbrev pub NamedReport : Report → Type 0
 NamedReport r = (isName (r .moduleName) ≡ true) × (isName (r .accessible) ≡ true)
 
--- records as a node writes them: names are names, and what was sent as a word is a word
+-- a report of a value
+abbrev pub IsValue : Held → Type 0
+IsValue (valued v) = Unit {0}
+IsValue (failed f) = ⊥
+
+abbrev pub ValueReport : Report → Type 0
+ValueReport r = NamedReport r × IsValue (r .held)
+
+-- records as a node writes them: names are names, what was sent as a word is a word, and a reply with a report tells a value
 abbrev pub WellFormedReply : Reply → Type 0
 WellFormedReply identification = Unit {0}
 WellFormedReply (describing r) = Unit {0}
 WellFormedReply (pong token now) = Word token
 WellFormedReply (active m) = Named m
 WellFormedReply (inactive m) = Named m
-WellFormedReply (reply r) = NamedReport r
-WellFormedReply (changed r) = NamedReport r
-WellFormedReply (done r) = NamedReport r
-WellFormedReply (error a s c) = Word a × Word s
+WellFormedReply (reply r) = ValueReport r
+WellFormedReply (changed r) = ValueReport r
+WellFormedReply (done r) = ValueReport r
+WellFormedReply (error a s d) = Word a × Word s
 
 abbrev pub WellFormed : Record → Type 0
 WellFormed (final c r) = WellFormedReply r

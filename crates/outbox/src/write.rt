@@ -6,13 +6,14 @@ ghost use lib.ListN.{length};
 ghost use Rattle.ascii.specs.Text.{bytes};
 ghost use Rattle.ascii.specs.Numbers.{twoBytes};
 ghost use Rattle.ascii.specs.Writer.{Puts};
-ghost use Rattle.message.specs.Reply.{reportText, optionally, identification, pong, error};
-ghost use Rattle.message.specs.Said.{classOf, reportOf};
+ghost use Rattle.message.specs.Reply.{valued, reportText, optionally, identification, pong, error};
+ghost use Rattle.message.specs.Said.{denialOf, heldBy, reportOf};
 ghost use Rattle.outbox.specs.Outbox.{encode, final, update, orderChange, orderCommand};
 ghost use Rattle.outbox.specs.Written.{sealed, Room, LineRoom, RoomFor, describingStart, toldReply, switchedReply};
 use ascii::write::put;
 use ascii::write::put_byte;
-use message::say::Class;
+use message::say::Denial;
+use message::say::Sensor;
 use message::say::error_length;
 use message::say::named_length;
 use message::say::pong_length;
@@ -74,14 +75,14 @@ pub fn put_final_error(
     client: u8,
     action: &[u8],
     specifier: &[u8],
-    class: Class,
+    denial: Denial,
 ) -> usize
-    requires { ⌜ RoomFor (now out) at (final client (error (now action) (now specifier) (classOf class))) ⌝ }
-    ensures { λ r. ⌜ Puts (now (out .entry)) at (encode (final client (error (now (action .entry)) (now (specifier .entry)) (classOf class)))) (now (out .exit)) r ⌝ }
+    requires { ⌜ RoomFor (now out) at (final client (error (now action) (now specifier) (denialOf denial))) ⌝ }
+    ensures { λ r. ⌜ Puts (now (out .entry)) at (encode (final client (error (now (action .entry)) (now (specifier .entry)) (denialOf denial)))) (now (out .exit)) r ⌝ }
 {
-    let size = error_length(action, specifier, class);
+    let size = error_length(action, specifier, denial);
     let line = put_header(out, at, b"RP", client, size + 1);
-    let end = put_error(out, line, action, specifier, class);
+    let end = put_error(out, line, action, specifier, denial);
     put_byte(out, end, 10)
 }
 
@@ -151,15 +152,16 @@ fn put_named_record(
     word: &[u8],
     module: &[u8],
     accessible: &[u8],
+    sensor: Sensor,
     value: &[u8],
     time: u64,
 ) -> usize
-    requires { ⌜ LineRoom (now out) at (now mark) client (now word ++ reportText (reportOf (now «module») (now accessible) (now value) time)) ⌝ }
-    ensures { λ r. ⌜ Puts (now (out .entry)) at (sealed (now (mark .entry)) client (now (word .entry) ++ reportText (reportOf (now («module» .entry)) (now (accessible .entry)) (now (value .entry)) time) ++ bytes "\n")) (now (out .exit)) r ⌝ }
+    requires { ⌜ LineRoom (now out) at (now mark) client (now word ++ reportText (reportOf (now «module») (now accessible) (heldBy sensor (now value)) time)) ⌝ }
+    ensures { λ r. ⌜ Puts (now (out .entry)) at (sealed (now (mark .entry)) client (now (word .entry) ++ reportText (reportOf (now («module» .entry)) (now (accessible .entry)) (heldBy sensor (now (value .entry))) time) ++ bytes "\n")) (now (out .exit)) r ⌝ }
 {
-    let size = named_length(word, module, accessible, value, time);
+    let size = named_length(word, module, accessible, sensor, value, time);
     let line = put_header(out, at, mark, client, size + 1);
-    let end = put_named(out, line, word, module, accessible, value, time);
+    let end = put_named(out, line, word, module, accessible, sensor, value, time);
     put_byte(out, end, 10)
 }
 
@@ -173,8 +175,8 @@ pub fn put_final_report(
     value: &[u8],
     time: u64,
 ) -> usize
-    requires { ⌜ RoomFor (now out) at (final client (toldReply told (reportOf (now «module») (now accessible) (now value) time))) ⌝ }
-    ensures { λ r. ⌜ Puts (now (out .entry)) at (encode (final client (toldReply told (reportOf (now («module» .entry)) (now (accessible .entry)) (now (value .entry)) time)))) (now (out .exit)) r ⌝ }
+    requires { ⌜ RoomFor (now out) at (final client (toldReply told (reportOf (now «module») (now accessible) (valued (now value)) time))) ⌝ }
+    ensures { λ r. ⌜ Puts (now (out .entry)) at (encode (final client (toldReply told (reportOf (now («module» .entry)) (now (accessible .entry)) (valued (now (value .entry))) time)))) (now (out .exit)) r ⌝ }
 {
     match told {
         Told::Reply => put_named_record(
@@ -185,6 +187,7 @@ pub fn put_final_report(
             b"reply ",
             module,
             accessible,
+            Sensor::Works,
             value,
             time,
         ),
@@ -196,6 +199,7 @@ pub fn put_final_report(
             b"changed ",
             module,
             accessible,
+            Sensor::Works,
             value,
             time,
         ),
@@ -207,35 +211,53 @@ pub fn put_final_report(
             b"done ",
             module,
             accessible,
+            Sensor::Works,
             value,
             time,
         ),
     }
 }
 
+// `update`, or `error_update` where the parameter can't be read.
 pub fn put_update(
     out: &mut [u8],
     at: usize,
     client: u8,
     module: &[u8],
     accessible: &[u8],
+    sensor: Sensor,
     value: &[u8],
     time: u64,
 ) -> usize
-    requires { ⌜ RoomFor (now out) at (update client (reportOf (now «module») (now accessible) (now value) time)) ⌝ }
-    ensures { λ r. ⌜ Puts (now (out .entry)) at (encode (update client (reportOf (now («module» .entry)) (now (accessible .entry)) (now (value .entry)) time))) (now (out .exit)) r ⌝ }
+    requires { ⌜ RoomFor (now out) at (update client (reportOf (now «module») (now accessible) (heldBy sensor (now value)) time)) ⌝ }
+    ensures { λ r. ⌜ Puts (now (out .entry)) at (encode (update client (reportOf (now («module» .entry)) (now (accessible .entry)) (heldBy sensor (now (value .entry))) time))) (now (out .exit)) r ⌝ }
 {
-    put_named_record(
-        out,
-        at,
-        b"UP",
-        client,
-        b"update ",
-        module,
-        accessible,
-        value,
-        time,
-    )
+    match sensor {
+        Sensor::Works => put_named_record(
+            out,
+            at,
+            b"UP",
+            client,
+            b"update ",
+            module,
+            accessible,
+            sensor,
+            value,
+            time,
+        ),
+        Sensor::Fails(_fault) => put_named_record(
+            out,
+            at,
+            b"UP",
+            client,
+            b"error_update ",
+            module,
+            accessible,
+            sensor,
+            value,
+            time,
+        ),
+    }
 }
 
 // An order to the driver: a number and a value or an argument.

@@ -10,8 +10,9 @@ use Rattle.fit.specs.Fit.{isStored}
 use Rattle.table.specs.Table.{Parameter, Command, Table}
 use Rattle.table.specs.Layout.{tableOf}
 use Rattle.table.specs.Search.{Placed, parameters, findParameter, findCommand}
-use Rattle.message.specs.Said.{classOf}
-use Rattle.message.specs.Reply.{Reply}
+use Rattle.message.specs.Error.{class, fault}
+use Rattle.message.specs.Said.{classOf, faultAs}
+use Rattle.message.specs.Reply.{valued, Reply}
 use Rattle.outbox.specs.Outbox.{Record, final, encodeAll}
 use Rattle.plain.specs.Node.{Node, withClient, Setting, withSettings, activated}
 use Rattle.plain.specs.Answer as Plain
@@ -22,7 +23,7 @@ use Rattle.state.specs.declared.State.{State}
 use Rattle.state.specs.View.{bit, view, withStored, areaWith, settingsWith}
 use Rattle.state.specs.Fit.{isUnfit, pastLast}
 use Rattle.outcome.specs.declared.Outcome.{Outcome}
-use Rattle.outcome.specs.declared.Outcome.the-variants.{Refused, Sent, Active, Stored}
+use Rattle.outcome.specs.declared.Outcome.the-variants.{Refused, Unreadable, Sent, Active, Stored}
 use Rattle.outcome.specs.declared.Answered.{Answered}
 
 -- On the table w, at the plain node n, for client c at the time t: the outbox held `before` and holds `after`, the values area held `values` and
@@ -59,13 +60,14 @@ module _ (w : Table) (n : Node) (c t : ℕ) (before after values stored : List �
     pub there : getElem? (parameters w) p ≡ some parameter
     pub fits : isStored (parameter .it .datainfo) text ≡ true
     pub long : size ≡ length text
-    pub carries : let s : List Setting = record { parameter = p; text = text; time = t } ∷ [] in Carries o (withSettings n s) written s
+    pub carries : let s : List Setting = record { parameter = p; held = valued text; time = t } ∷ [] in Carries o (withSettings n s) written s
     pub area : stored ≡ withStored values p text
 
   -- the code's outcome r stands for the plain node's outcome o. Two may stand for one: what alters nothing may be told with the mask that is there
   -- already
   abbrev pub OutcomeIs : Outcome → Plain.Outcome → Type 0
-  OutcomeIs (Refused e) o = Refuses o (refused (classOf e))
+  OutcomeIs (Refused e) o = Refuses o (refused (class (classOf e)))
+  OutcomeIs (Unreadable f since) o = Refuses o (refused (fault (faultAs f) since))
   OutcomeIs (Sent written) o = Sends o written
   OutcomeIs (Active mask written) o = Activates o mask written
   OutcomeIs (Stored p size written) o = Stores o p size written

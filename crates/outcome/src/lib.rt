@@ -1,10 +1,13 @@
 // What a request comes to, and what answering a line leaves.
 use message::say::Class;
+use message::say::Fault;
 use state::State;
 
 pub enum Outcome {
     // An error: nothing is written yet, and nothing is altered.
     Refused(Class),
+    // The parameter that is asked for can't be read, since a time: an error too.
+    Unreadable(Fault, u64),
     // Answered with so many bytes; nothing else is altered.
     Sent(usize),
     // The client's active modules are those of a mask; so many bytes are written.

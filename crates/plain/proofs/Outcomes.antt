@@ -1,11 +1,11 @@
 -- What a request comes to, by the kinds of outcome that there are: an error, a reply alone, a change of what the sender has active, a setting of a
--- parameter, an order of a command. What holds of each kind holds of every request; so, too, of what one request comes to at two nodes.
--- Assumes nothing.
+-- parameter, an order of a command. What holds of each kind holds of every request; so, too, of what one request comes to at two nodes that hold the
+-- same values. Assumes nothing.
 use Prim.Native.Nat.{ℕ}
 use mathlib.Core.Bool.{Bool, true, false, cond}
 use mathlib.Core.List.{List, [], _∷_, _++_}
 use mathlib.Core.Option.{Option, none, some}
-use mathlib.Core.Path.{_≡_, refl, ap₂, subst}
+use mathlib.Core.Path.{_≡_, refl, sym, ap, ap₂, subst}
 use lib.Dec.{eqb}
 use lib.ListN.{getElem?}
 use Rattle.ascii.specs.Text.{bytes}
@@ -16,11 +16,11 @@ use Rattle.table.proofs.Search.{parameter-there, parameter-named, command-there
 use Rattle.report.specs.Report.{report}
 use Rattle.message.specs.Line.{Parts}
 use Rattle.message.specs.Request.{Request, identify, describe, ping, activate, deactivate, read, change, execute, malformed}
-use Rattle.message.specs.Error.{Class, ProtocolError, NoSuchModule, NoSuchParameter, NoSuchCommand, ReadOnly, BadJSON, WrongType, RangeError}
-use Rattle.message.specs.Reply.{Report, Reply, identification, describing, pong, reply, done, error}
+use Rattle.message.specs.Error.{Fault, class, fault, Class, ProtocolError, NoSuchModule, NoSuchParameter, NoSuchCommand, ReadOnly, BadJSON, WrongType, RangeError}
+use Rattle.message.specs.Reply.{Held, valued, failed, Report, Reply, identification, describing, pong, reply, done, error}
 use Rattle.outbox.specs.Outbox.{Record, final, orderCommand}
-use Rattle.plain.specs.Node.{Value, Node, reportOf}
-use Rattle.plain.specs.Answer.{Outcome, refused, carried, found, letIn, argumentVerdict, argumentForm, activates, deactivates, inScope, reads, sets, changes, does, outcome, conclude}
+use Rattle.plain.specs.Node.{Value, holding, showing, Node, reportOf}
+use Rattle.plain.specs.Answer.{Outcome, refused, carried, found, letIn, argumentVerdict, argumentForm, activates, deactivates, inScope, tells, reads, sets, changes, does, outcome, conclude}
 
 -- ## What an outcome leaves and sends
 
@@ -45,13 +45,13 @@ concluded w n c now p (carried m ss rs r) = refl
 
 -- ## Kinds of outcome
 
--- requests that are answered by a reply alone, with the reply, by the values that are held
-pub data Tells (w : Table) (now : ℕ) : Request → ((ℕ → Value) → Reply) → Type 0 where
-  by-identify : Tells w now identify (λ v. identification)
-  by-describe : Tells w now describe (λ v. describing (report w))
-  by-ping : {token : List ℕ} → Tells w now (ping token) (λ v. pong token now)
-  by-read : (k : ℕ × Placed Parameter) → getElem? (parameters w) (k .0) ≡ some (k .1)
-      → Tells w now (read (k .1 .moduleName) (k .1 .it .name)) (λ v. reply (reportOf (k .1) (v (k .0))))
+-- requests that are answered by a reply alone, with the reply, where these values are held
+pub data Tells (w : Table) (now : ℕ) (values : ℕ → Value) : Request → Reply → Type 0 where
+  by-identify : Tells w now values identify identification
+  by-describe : Tells w now values describe (describing (report w))
+  by-ping : {token : List ℕ} → Tells w now values (ping token) (pong token now)
+  by-read : (k : ℕ × Placed Parameter) → getElem? (parameters w) (k .0) ≡ some (k .1) → (v : List ℕ) (t : ℕ) → values (k .0) ≡ showing v t
+      → Tells w now values (read (k .1 .moduleName) (k .1 .it .name)) (reply (reportOf (k .1) (showing v t)))
 
 -- the modules that an activation is about: all, or the one that is named
 pub data Scope (w : Table) : Option (List ℕ) → (ℕ → Bool) → Type 0 where
@@ -70,16 +70,18 @@ pub record Allowed (w : Table) (k : ℕ × Placed Command) (v : List ℕ) : Type
   pub fitting : argumentVerdict (k .1 .it .argument) v ≡ fits
 
 abbrev pub doneOf : Placed Command → ℕ → Report
-doneOf p now = record { moduleName = p .moduleName; accessible = p .it .name; value = bytes "null"; time = now }
+doneOf p now = record { moduleName = p .moduleName; accessible = p .it .name; held = valued (bytes "null"); time = now }
 
 abbrev pub ordering : Node → ℕ → ℕ → ℕ × Placed Command → List ℕ → Outcome
 ordering n c now k v = carried n [] (orderCommand c (k .0) (argumentForm (k .1 .it .argument) v) ∷ []) (done (doneOf (k .1) now))
 
 -- What is claimed of a request of client c and what it comes to at the nodes m and n, for each kind of outcome.
 pub record Kinds (w : Table) (m n : Node) (c now : ℕ) (Q : Request → Outcome → Outcome → Type 0) : Type 0 where
-  pub bad : (q : Request) (x : Class) → Q q (refused x) (refused x)
-  pub telling : (q : Request) (f : (ℕ → Value) → Reply) → Tells w now q f
-      → Q q (carried m [] [] (f (m .values))) (carried n [] [] (f (n .values)))
+  pub bad : (q : Request) (x : Class) → Q q (refused (class x)) (refused (class x))
+  -- a read of parameter k, which can't be read
+  pub failing : (k : ℕ × Placed Parameter) (f : Fault) (t : ℕ) → getElem? (parameters w) (k .0) ≡ some (k .1) → n .values (k .0) ≡ holding (failed f) t
+      → Q (read (k .1 .moduleName) (k .1 .it .name)) (refused (fault f t)) (refused (fault f t))
+  pub telling : (q : Request) (r : Reply) → Tells w now (n .values) q r → Q q (carried m [] [] r) (carried n [] [] r)
   pub activating : (s : Option (List ℕ)) (wanted : ℕ → Bool) → Scope w s wanted
       → Q (activate s) (activates w m c now wanted s) (activates w n c now wanted s)
   pub deactivating : (s : Option (List ℕ)) (wanted : ℕ → Bool) → Scope w s wanted
@@ -91,7 +93,7 @@ pub record Kinds (w : Table) (m n : Node) (c now : ℕ) (Q : Request → Outcome
 
 -- ## Every request
 
-module _ (w : Table) (m n : Node) (c now : ℕ) (Q : Request → Outcome → Outcome → Type 0) (h : Kinds w m n c now Q) where
+module _ (w : Table) (m n : Node) (same : m .values ≡ n .values) (c now : ℕ) (Q : Request → Outcome → Outcome → Type 0) (h : Kinds w m n c now Q) where
   found-hold : {A : Type 0} (q : Request) (x : Class) (o : Option A) (f g : A → Outcome) → ((a : A) → o ≡ some a → Q q (f a) (g a))
       → Q q (found x o f) (found x o g)
   unfolding found
@@ -105,7 +107,7 @@ module _ (w : Table) (m n : Node) (c now : ℕ) (Q : Request → Outcome → Out
   let-in-hold q wrongType o p i = h .bad q WrongType
   let-in-hold q badJSON o p i = h .bad q BadJSON
 
-  writable-hold : (q : Request) (b : Bool) (o p : Outcome) → (b ≡ false → Q q o p) → Q q (cond b (refused ReadOnly) o) (cond b (refused ReadOnly) p)
+  writable-hold : (q : Request) (b : Bool) (o p : Outcome) → (b ≡ false → Q q o p) → Q q (cond b (refused (class ReadOnly)) o) (cond b (refused (class ReadOnly)) p)
   writable-hold q true o p i = h .bad q ReadOnly
   writable-hold q false o p i = i refl
 
@@ -126,6 +128,24 @@ module _ (w : Table) (m n : Node) (c now : ℕ) (Q : Request → Outcome → Out
       found-hold (r s a) NoSuchModule (findModule w s) _ _ (λ y e.
       found-hold (r s a) x o f g (λ k e. subst (λ q. Q q (f k) (g k)) (ap₂ r (is k e .0) (is k e .1)) (i k e)))
 
+  -- what is read is a value, or the error in its place
+  read-hold : (k : ℕ × Placed Parameter) → getElem? (parameters w) (k .0) ≡ some (k .1)
+      → Q (read (k .1 .moduleName) (k .1 .it .name)) (reads w m c now k) (reads w n c now k)
+  unfolding reads tells
+  read-hold k e =
+      subst (λ x. Q q (tells w m c now (k .1) (x (k .0) .held) (x (k .0) .time)) (reads w n c now k)) (sym same)
+      (go (n .values (k .0) .held) refl)
+    where
+      q : Request
+      q = read (k .1 .moduleName) (k .1 .it .name)
+
+      t : ℕ
+      t = n .values (k .0) .time
+
+      go : (x : Held) → n .values (k .0) .held ≡ x → Q q (tells w m c now (k .1) x t) (tells w n c now (k .1) x t)
+      go (valued v) i = h .telling q _ (by-read k e v t (ap (λ x. holding x t) i))
+      go (failed f) i = h .failing k f t e (ap (λ x. holding x t) i)
+
   change-hold : (v : List ℕ) (k : ℕ × Placed Parameter) → getElem? (parameters w) (k .0) ≡ some (k .1)
       → Q (change (k .1 .moduleName) (k .1 .it .name) v) (changes w m c now v k) (changes w n c now v k)
   unfolding changes
@@ -143,7 +163,7 @@ module _ (w : Table) (m n : Node) (c now : ℕ) (Q : Request → Outcome → Out
 
   -- What holds of each kind holds of what a request comes to at both nodes.
   pub outcomes-hold : (q : Request) → Q q (outcome w m c now q) (outcome w n c now q)
-  unfolding outcome reads
+  unfolding outcome
   outcomes-hold identify = h .telling identify _ by-identify
   outcomes-hold describe = h .telling describe _ by-describe
   outcomes-hold (ping token) = h .telling (ping token) _ by-ping
@@ -151,7 +171,7 @@ module _ (w : Table) (m n : Node) (c now : ℕ) (Q : Request → Outcome → Out
   outcomes-hold (deactivate s) = scope-hold deactivate (deactivates w m c now) (deactivates w n c now) (h .deactivating) s
   outcomes-hold (read s a) =
       named-hold (λ (x : Parameter). x .name) read s a NoSuchParameter (findParameter w s a) _ _ (parameter-named w s a)
-      (λ k e. h .telling _ _ (by-read k (parameter-there w s a k e)))
+      (λ k e. read-hold k (parameter-there w s a k e))
   outcomes-hold (change s a v) =
       named-hold (λ (x : Parameter). x .name) (λ x y. change x y v) s a NoSuchParameter (findParameter w s a) _ _ (parameter-named w s a)
       (λ k e. change-hold v k (parameter-there w s a k e))
@@ -163,4 +183,4 @@ module _ (w : Table) (m n : Node) (c now : ℕ) (Q : Request → Outcome → Out
 -- The same at one node.
 pub outcome-holds : (P : Request → Outcome → Type 0) (w : Table) (n : Node) (c now : ℕ) → Kinds w n n c now (λ q o p. P q o)
     → (q : Request) → P q (outcome w n c now q)
-outcome-holds P w n c now h q = outcomes-hold w n n c now (λ q o p. P q o) h q
+outcome-holds P w n c now h q = outcomes-hold w n n refl c now (λ q o p. P q o) h q

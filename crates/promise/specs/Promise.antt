@@ -1,4 +1,4 @@
--- What the five calls promise, for all inputs and all refusals, by the plain node's own step. Assumes nothing.
+-- What the six calls promise, for all inputs and all refusals, by the plain node's own step. Assumes nothing.
 use Prim.Native.Nat.{ℕ, _≤_}
 use mathlib.Core.Bool.{false, cond}
 use mathlib.Core.List.{List}
@@ -41,7 +41,7 @@ pub record Kept (table : List ℕ) (e : Call) (s : State) (values outbox : List 
 
 -- ## A start
 
--- a state with no client open and no value set, with the same time for every parameter
+-- a state with no client open, no value set and no error, with the same time for every parameter
 unfoldable pub blank : ℕ → State
 blank time =
     record {
@@ -53,7 +53,7 @@ blank time =
             length = replicate 8 0;
             lines = replicate 8192 0;
           };
-      settings = record { length = replicate 64 0; time = replicate 64 time };
+      settings = record { length = replicate 64 0; error = replicate 64 0; time = replicate 64 time };
     }
 
 -- What a start promises; it writes nothing. "A refused start returns ..": a blank state with time 0.

@@ -2,7 +2,7 @@
 use Prim.Native.Nat.{ℕ, _<_}
 use mathlib.Core.List.{List, [], _∷_}
 use lib.ListN.{length, take}
-use Rattle.plain.specs.Calls.{Open, Close, Piece, Reading, Call, withArea, withOutbox}
+use Rattle.plain.specs.Calls.{Open, Close, Piece, Reading, Unreadable, Call, withArea, withOutbox}
 use Rattle.plain.specs.History.{Heard}
 use Rattle.state.specs.declared.State.{State}
 use Rattle.promise.specs.declared.Done.{Done}
@@ -20,7 +20,7 @@ kit s values = record { state = s; values = values }
 abbrev pub hears : Done → List ℕ → Heard
 hears r outbox = record { number = r .number; used = r .used; written = take (r .written) outbox }
 
--- A call, which kept its promise, of one of the four functions after a start: what was handed in, the call as the plain node takes it, what was
+-- A call, which kept its promise, of one of the five functions after a start: what was handed in, the call as the plain node takes it, what was
 -- handed back, and what was heard.
 pub data Called (table : List ℕ) : Kit → Call → Kit → Heard → Type 0 where
   by-open : (s : State) (values : List ℕ) (c t : ℕ) (r : Done) → Kept table (withArea (Open c t) (length values)) s values [] r values []
@@ -40,6 +40,14 @@ pub data Called (table : List ℕ) : Kit → Call → Kit → Heard → Type 0 w
       (kit s values)
       (withOutbox (Reading p bs t) (length values) (length outbox))
       (kit (r .state) values′)
+      (hears r outbox′)
+  -- it doesn't write the values area
+  by-unreadable : (s : State) (values outbox : List ℕ) (p k t : ℕ) (r : Done) (outbox′ : List ℕ)
+      → Kept table (withOutbox (Unreadable p k t) (length values) (length outbox)) s values outbox r values outbox′
+      → Called table
+      (kit s values)
+      (withOutbox (Unreadable p k t) (length values) (length outbox))
+      (kit (r .state) values)
       (hears r outbox′)
   -- the same, lent a values area of under 16,384 bytes in the place of its own, which the caller keeps
   lent-less : {s : State} {values lent : List ℕ} {e : Call} {k : Kit} {a : Heard} → length lent < 16384 → Called table (kit s lent) e k a

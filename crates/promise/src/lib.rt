@@ -10,12 +10,13 @@ pub struct Done {
     pub state: State,
 }
 
-// A call's number (0: accepted), whether the value shown is a stored one (0: it isn't), where its part of the values area or of the table
-// begins, how many bytes it has, and its time.
+// A call's number (0: accepted), whether the value shown is a stored one (0: it isn't), the class of the error in its place (0: none), where its
+// part of the values area or of the table begins, how many bytes it has, and the time of the value or of the error.
 #[repr(C)]
 pub struct Shown {
     pub number: u8,
     pub stored: u8,
+    pub error: u8,
     pub from: usize,
     pub size: usize,
     pub time: u64,

@@ -1,4 +1,5 @@
--- What a call does: it writes nothing, or it is an accepted reading, or it has a line carried out. Assumes nothing.
+-- What a call does: it writes nothing, or it is an accepted reading or report of an unreadable parameter, or it has a line carried out. Assumes
+-- nothing.
 use Prim.Native.Nat.{ℕ, zero, suc, _+_}
 use mathlib.Core.Bool.{Bool, true, false, not, false≢true}
 use mathlib.Core.List.{List, [], _∷_, _++_, List·Memᴰ, List·Memᴰ·append-cases, List·Memᴰ·not-nil, List·Memᴰ·eq-of-singleton}
@@ -15,19 +16,20 @@ use Rattle.table.specs.Layout.{tableOf}
 use Rattle.table.specs.Search.{Placed, parameters}
 use Rattle.report.specs.Judge.{lowest}
 use Rattle.report.proofs.Faults.{no-fault, lowest-none}
-use Rattle.message.specs.Line.{Parts, content, partsOf}
+use Rattle.message.specs.Line.{content, partsOf}
 use Rattle.message.specs.Request.{Request}
-use Rattle.message.specs.Reply.{Reply}
+use Rattle.message.specs.Error.{Fault, faultOf}
+use Rattle.message.specs.Reply.{failed, Reply}
 use Rattle.outbox.specs.Outbox.{Record, final}
-use Rattle.plain.specs.Node.{Client, closed, fresh, Node, put, withClient, withValue, isOpen, lineOf, receive, emptied, reportOf, clientNumbers, updatesTo, showing, withClients}
+use Rattle.plain.specs.Node.{Client, closed, fresh, Node, put, withClient, withValue, isOpen, lineOf, receive, emptied, reportOf, clientNumbers, updatesTo, holding, showing, withClients}
 use Rattle.plain.specs.Answer.{Outcome, outcome, activates, deactivates, sets, answerParts, answer}
-use Rattle.plain.specs.Calls.{Event, Open, Close, Piece, Reading, Call, ownFaults, callNumber, readingVerdict, beforeFeed, hasFeed, ended, pieceEffect, readingEffect, effect, settle, stepIf}
+use Rattle.plain.specs.Calls.{Event, Open, Close, Piece, Reading, Unreadable, Call, ownFaults, callNumber, readingVerdict, beforeFeed, hasFeed, ended, pieceEffect, driverEffect, readingEffect, unreadableEffect, effect, settle, stepIf}
 use Rattle.plain.specs.History.{step}
 use Rattle.plain.proofs.Numbers as Numbers
 use Rattle.plain.proofs.Put.{put-at, put-put}
 use Rattle.plain.proofs.Clients.{emptied-received}
 use Rattle.plain.proofs.Outcomes.{nodeAfter, before, replyTo, concluded, outcome-holds}
-use Rattle.rule.specs.Theorems.{requestOf, Refused, RefusalsAlterNothing}
+use Rattle.rule.specs.Theorems.{partsAt, requestOf, Refused, RefusalsAlterNothing}
 use Rattle.rule.proofs.Laws.{NoFinal, final-not-in, updates-to-no-final, updates-of-no-final}
 
 -- ## Outcomes
@@ -39,6 +41,7 @@ quiet w n c now =
     outcome-holds (λ q o. NoFinal (before o)) w n c now
     (record {
       bad = λ q x. tt;
+      failing = λ k f t h e. tt;
       telling = λ q f h. tt;
       activating = λ m f h. updates-of-no-final c _ (n .values) 0 (parameters w);
       deactivating = λ m f h. tt;
@@ -51,9 +54,6 @@ quiet w n c now =
 -- n with client c's line emptied
 abbrev pub idle : Node → ℕ → Node
 idle n c = withClient n c (emptied (n .clients c))
-
-abbrev pub partsAt : Node → ℕ → List ℕ → Parts
-partsAt n c bs = partsOf (content (lineOf (receive (n .clients c) (beforeFeed bs))))
 
 abbrev pub outcomeAt : Table → Node → ℕ → List ℕ → ℕ → Outcome
 outcomeAt w n c bs t = outcome w (idle n c) c t (requestOf n c bs)
@@ -73,6 +73,9 @@ pub data Did (w : Table) (n : Node) : Event → Node → List Record → Type 0 
       → verdict (p .it .datainfo) bs ≡ fits
       → Did w n (Reading k bs t) (withValue n k (showing (storedForm (p .it .datainfo) bs) t))
       (updatesTo (n .clients) (p .home) (reportOf p (showing (storedForm (p .it .datainfo) bs) t)) clientNumbers)
+  unread : {k class t : ℕ} (p : Placed Parameter) (f : Fault) → getElem? (parameters w) k ≡ some p → faultOf class ≡ some f
+      → Did w n (Unreadable k class t) (withValue n k (holding (failed f) t))
+      (updatesTo (n .clients) (p .home) (reportOf p (holding (failed f) t)) clientNumbers)
   line : {c : ℕ} {bs : List ℕ} {t : ℕ} {m : Node} {rs : List Record} → hasFeed bs ≡ true → Answered w n c bs t m rs
       → Did w n (Piece c bs t) m rs
 
@@ -115,16 +118,24 @@ fit-is rangeError e = absurd (false≢true e)
 fit-is wrongType e = absurd (false≢true e)
 fit-is badJSON e = absurd (false≢true e)
 
-there-is : (x : Option (Placed Parameter)) → isSome x ≡ true → (p : Placed Parameter) × (x ≡ some p)
+there-is : {A : Type 0} (x : Option A) → isSome x ≡ true → (p : A) × (x ≡ some p)
 there-is none e = absurd (false≢true e)
 there-is (some p) e = (p, refl)
 
 did-reading : (w : Table) (n : Node) (k : ℕ) (bs : List ℕ) (t : ℕ) (x : Option (Placed Parameter)) (p : Placed Parameter)
     → getElem? (parameters w) k ≡ x → x ≡ some p → readingVerdict x bs ≡ fits
     → let r = readingEffect n k x bs t in Did w n (Reading k bs t) (r .next) (r .records)
-unfolding readingEffect readingVerdict
+unfolding readingEffect driverEffect readingVerdict
 did-reading w n k bs t none p q h v = let z : _≡_ {A = ℕ} 0 1 = cc in absurd (omega arith)
 did-reading w n k bs t (some y) p q h v = read y q v
+
+did-unreadable : (w : Table) (n : Node) (k class t : ℕ) (x : Option (Placed Parameter)) (y : Option Fault) (p : Placed Parameter) (f : Fault)
+    → getElem? (parameters w) k ≡ x → faultOf class ≡ y → x ≡ some p → y ≡ some f
+    → let r = unreadableEffect n k x y t in Did w n (Unreadable k class t) (r .next) (r .records)
+unfolding unreadableEffect driverEffect
+did-unreadable w n k class t none y p f q i h j = let z : _≡_ {A = ℕ} 0 1 = cc in absurd (omega arith)
+did-unreadable w n k class t (some x) none p f q i h j = let z : _≡_ {A = ℕ} 0 1 = cc in absurd (omega arith)
+did-unreadable w n k class t (some x) (some y) p f q i h j = unread x y q i
 
 did-piece : (w : Table) (n : Node) (c : ℕ) (bs : List ℕ) (t : ℕ) (q : Bool) → hasFeed bs ≡ q → isOpen (n .clients c) ≡ true
     → let r = ended w (withClient n c (receive (n .clients c) (beforeFeed bs))) c t q in Did w n (Piece c bs t) (r .0) (r .1)
@@ -144,6 +155,12 @@ did table n (Reading k bs t) h =
     let p = there-is x (not-false (isSome x) (no-fault 13 (not (isSome x)) (lowest-none _ h 1))) in
     did-reading (tableOf table) n k bs t x (p .0) refl (p .1)
     (fit-is (readingVerdict x bs) (not-false b (no-fault 14 (not b) (lowest-none _ h 2))))
+did table n (Unreadable k class t) h =
+    let x = getElem? (parameters (tableOf table)) k in
+    let y = faultOf class in
+    let p = there-is x (not-false (isSome x) (no-fault 13 (not (isSome x)) (lowest-none _ h 1))) in
+    let f = there-is y (not-false (isSome y) (no-fault 15 (not (isSome y)) (lowest-none _ h 2))) in
+    did-unreadable (tableOf table) n k class t x y (p .0) (f .0) refl refl (p .1) (f .1)
 
 -- ## Steps
 
@@ -207,6 +224,7 @@ final-in opened c r l = absurd (List·Memᴰ·not-nil l)
 final-in shut c r l = absurd (List·Memᴰ·not-nil l)
 final-in (received f) c r l = absurd (List·Memᴰ·not-nil l)
 final-in {n = n} (read p q f) c r l = absurd (final-not-in _ c r (updates-to-no-final (n .clients) (p .home) _ clientNumbers) l)
+final-in {n = n} (unread p f q i) c r l = absurd (final-not-in _ c r (updates-to-no-final (n .clients) (p .home) _ clientNumbers) l)
 final-in {w} {n} (line {c = d} {bs = bs} {t = t} {m = m} {rs = rs} f h) c r l = line-in w n m rs d c r bs t h l
 
 pub line-of-final : (table : List ℕ) (n : Node) (e : Call) (c : ℕ) (r : Reply) → List·Memᴰ (final c r) (step table n e .1 .records)

@@ -15,19 +15,21 @@ use Rattle.fit.specs.Fit.{fits, verdict, storedForm}
 use Rattle.table.specs.Table.{Parameter, Command, Accessible, Module, Table}
 use Rattle.table.specs.Search.{Placed, parametersOf, commandsOf, placedFrom, parameters, commands, firstFrom, first, findModule, findParameter, findCommand}
 use Rattle.table.proofs.Search.{parameter-there, parameter-named, command-there, command-named}
+use Rattle.message.specs.Line.{Parts}
 use Rattle.message.specs.Request.{Request, activate, deactivate, read, change, execute}
 use Rattle.message.specs.Error.{Class, NoSuchModule}
+use Rattle.message.specs.Reply.{Held, valued, failed}
 use Rattle.outbox.specs.Outbox.{Record, final}
 use Rattle.plain.specs.Node.{Client, Node, withClient, isOpen, isActive, emptied, activated}
-use Rattle.plain.specs.Answer.{Outcome, outcome, found, letIn, argumentVerdict, inScope, activates, deactivates, reads, changes, sets, does}
+use Rattle.plain.specs.Answer.{Outcome, outcome, found, letIn, argumentVerdict, inScope, activates, deactivates, tells, reads, changes, sets, does}
 use Rattle.plain.specs.Calls.{Piece, hasFeed}
 use Rattle.plain.proofs.Put.{put-at}
 use Rattle.plain.proofs.Clients.{emptied-open, activated-active}
 use Rattle.plain.proofs.Outcomes.{nodeAfter, before, replyTo, of-all, of-one, ordering}
 use Rattle.rule.specs.Records.{inScopeOf, isThere}
-use Rattle.rule.specs.Theorems.{requestOf, GoodChangesAreMade, Activated, Deactivated, GoodActivationsAreMade, GoodReadsAreAnswered, GoodCommandsAreOrdered}
+use Rattle.rule.specs.Theorems.{partsAt, requestOf, AltersNothing, readReply, GoodChangesAreMade, Activated, Deactivated, GoodActivationsAreMade, GoodReadsAreAnswered, GoodCommandsAreOrdered}
 use Rattle.rule.proofs.Told.{scope-is}
-use Rattle.rule.proofs.Calls.{idle, partsAt, Answered, Did, received, line, accepted-call}
+use Rattle.rule.proofs.Calls.{idle, Answered, Did, received, line, accepted-call}
 use Rattle.rule.proofs.Rule.{answered-change}
 
 -- ## The module of what is found is found too
@@ -125,15 +127,22 @@ good-changes-are-made table n c m x v k p e r g bs t l z f q =
     (ended-line (accepted-call table n (record { event = Piece c bs t; lent = l }) z) f)
     (ap (outcome _ (idle n c) c t) q ∙ good-set _ (idle n c) c t m x v (k, p) e r g)
 
+-- what is read, a value or an error, alters nothing
+told-alone : (w : Table) (n m : Node) (c t : ℕ) (q : Parts) (p : Placed Parameter) (x : Held) (u : ℕ) (rs : List Record)
+    → m ≡ nodeAfter (idle n c) (tells w (idle n c) c t p x u)
+    → rs ≡ before (tells w (idle n c) c t p x u) ++ (final c (replyTo q (tells w (idle n c) c t p x u)) ∷ [])
+    → AltersNothing n m rs c (readReply q p x u)
+unfolding tells readReply
+told-alone w n m c t q p (valued v) u rs e f =
+    record { alone = f; values = ap (λ (y : Node). y .values) e; clients = ap (λ (y : Node). y .clients) e }
+told-alone w n m c t q p (failed v) u rs e f =
+    record { alone = f; values = ap (λ (y : Node). y .values) e; clients = ap (λ (y : Node). y .clients) e }
+
 pub good-reads-are-answered : GoodReadsAreAnswered
 unfolding reads
 good-reads-are-answered table n c m x k p e bs t l z f q =
     let g = comes-to (ended-line (accepted-call table n (record { event = Piece c bs t; lent = l }) z) f) (read m x) _ q (good-read _ (idle n c) c t m x (k, p) e) in
-    record {
-      alone = g .1;
-      values = ap (λ (y : Node). y .values) (g .0);
-      clients = ap (λ (y : Node). y .clients) (g .0);
-    }
+    told-alone _ n _ c t (partsAt n c bs) p (n .values k .held) (n .values k .time) _ (g .0) (g .1)
 
 pub good-commands-are-ordered : GoodCommandsAreOrdered
 good-commands-are-ordered table n c m x v k p e r bs t l z f q =

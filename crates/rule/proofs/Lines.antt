@@ -14,16 +14,16 @@ use Rattle.message.specs.Line.{Parts}
 use Rattle.message.specs.Request.{Request, read, execute}
 use Rattle.message.specs.Reply.{Report, Reply, reply, done}
 use Rattle.outbox.specs.Outbox.{Record, final, orderCommand}
-use Rattle.plain.specs.Node.{Value, Node, withClient, lineOf, emptied, activated, reportOf}
+use Rattle.plain.specs.Node.{Node, withClient, lineOf, emptied, activated, reportOf}
 use Rattle.plain.specs.Answer.{Outcome, carried, outcome, argumentVerdict, argumentForm, activates, deactivates, sets}
 use Rattle.plain.specs.Calls.{Event, Piece, Lent, Call, Answer, callNumber, usedOf, pieceEffect, effect, settle, stepIf}
 use Rattle.plain.specs.History.{step}
 use Rattle.plain.proofs.Put.{put-at, put-other}
 use Rattle.plain.proofs.Clients.{emptied-line, activated-line}
 use Rattle.plain.proofs.Outcomes.{nodeAfter, before, replyTo, Tells, by-identify, by-describe, by-ping, by-read, doneOf, outcome-holds}
-use Rattle.rule.specs.Theorems.{requestOf, OfPiece, of-piece, ParametersBelong, PieceUsed, PiecesAreUsed, ReadTold, ReadsAreTrue, CommandOrdered, CommandsAreOrdered}
+use Rattle.rule.specs.Theorems.{partsAt, requestOf, OfPiece, of-piece, ParametersBelong, PieceUsed, PiecesAreUsed, ReadTold, ReadsAreTrue, CommandOrdered, CommandsAreOrdered}
 use Rattle.rule.proofs.Told.{apart, told-kind}
-use Rattle.rule.proofs.Calls.{idle, partsAt, outcomeAt, Did, received, line, accepted-call, Line-of, line-of, line-of-final}
+use Rattle.rule.proofs.Calls.{idle, outcomeAt, Did, received, line, accepted-call, Line-of, line-of, line-of-final}
 
 reply-is : (x y : Report) → reply x ≡ reply y → x ≡ y
 reply-is x y e = cc
@@ -43,12 +43,13 @@ record Reads (w : Table) (n : Node) (q : Request) (o : Outcome) (r : Report) : T
 abbrev ReadIn : Table → Node → Parts → Request → Outcome → Type 0
 ReadIn w n p q o = (r : Report) → reply r ≡ replyTo p o → Reads w n q o r
 
-told-read : {w : Table} {now : ℕ} {q : Request} {f : (ℕ → Value) → Reply} → Tells w now q f → (n : Node) (r : Report)
-    → reply r ≡ f (n .values) → Reads w n q (carried n [] [] (f (n .values))) r
-told-read by-identify n r e = apart (reply r) _ (λ z. omega arith) e
-told-read by-describe n r e = apart (reply r) _ (λ z. omega arith) e
-told-read by-ping n r e = apart (reply r) _ (λ z. omega arith) e
-told-read (by-read k h) n r e = record { k = k; there = h; asked = refl; tells = reply-is r _ e; alone = refl }
+told-read : {w : Table} {now : ℕ} {n : Node} {q : Request} {x : Reply} → Tells w now (n .values) q x → (r : Report)
+    → reply r ≡ x → Reads w n q (carried n [] [] x) r
+told-read by-identify r e = apart (reply r) _ (λ z. omega arith) e
+told-read by-describe r e = apart (reply r) _ (λ z. omega arith) e
+told-read by-ping r e = apart (reply r) _ (λ z. omega arith) e
+told-read (by-read k h v t i) r e =
+    record { k = k; there = h; asked = refl; tells = reply-is r _ e ∙ ap (reportOf (k .1)) (sym i); alone = refl }
 
 read-in : (w : Table) (n : Node) (c now : ℕ) (p : Parts) (q : Request) → ReadIn w n p q (outcome w n c now q)
 unfolding activates deactivates sets
@@ -56,7 +57,8 @@ read-in w n c now p =
     outcome-holds (ReadIn w n p) w n c now
     (record {
       bad = λ q x r e. apart (reply r) _ (λ z. omega arith) e;
-      telling = λ q f h r e. told-read h n r e;
+      failing = λ k f t h i r e. apart (reply r) _ (λ z. omega arith) e;
+      telling = λ q x h r e. told-read h r e;
       activating = λ m f h r e. apart (reply r) _ (λ z. omega arith) e;
       deactivating = λ m f h r e. apart (reply r) _ (λ z. omega arith) e;
       setting = λ k v h r e. apart (reply r) _ (λ z. omega arith) e;
@@ -104,7 +106,8 @@ order-in w n c now p =
     outcome-holds (OrderIn w n c now p) w n c now
     (record {
       bad = λ q x r e. apart (done r) _ (λ z. omega arith) e;
-      telling = λ q f h r e. apart (done r) (f (n .values)) (λ z. omega (arith, told-kind h (n .values))) e;
+      failing = λ k f t h i r e. apart (done r) _ (λ z. omega arith) e;
+      telling = λ q x h r e. apart (done r) x (λ z. omega (arith, told-kind h)) e;
       activating = λ m f h r e. apart (done r) _ (λ z. omega arith) e;
       deactivating = λ m f h r e. apart (done r) _ (λ z. omega arith) e;
       setting = λ k v h r e. apart (done r) _ (λ z. omega arith) e;
@@ -159,6 +162,7 @@ leaves w n c now =
     outcome-holds (λ q o. Leaves n c o) w n c now
     (record {
       bad = λ q x. untouched n c _ refl;
+      failing = λ k f t h e. untouched n c _ refl;
       telling = λ q f h. untouched n c _ refl;
       activating = λ m f h. touched n c _ _ _;
       deactivating = λ m f h. touched n c _ _ _;

@@ -13,11 +13,12 @@ use Rattle.table.specs.Layout.{tableOf}
 use Rattle.table.specs.Search.{Placed, parameters}
 use Rattle.message.specs.Line.{Parts, content, partsOf}
 use Rattle.message.specs.Request.{request}
-use Rattle.message.specs.Reply.{Report, Reply}
+use Rattle.message.specs.Error.{Fault, faultOf}
+use Rattle.message.specs.Reply.{Held, valued, failed, Report, Reply}
 use Rattle.outbox.specs.Outbox.{Record, final}
-use Rattle.plain.specs.Node.{Node, lineOf, reportOf, clientNumbers, updatesTo, showing}
+use Rattle.plain.specs.Node.{Node, lineOf, reportOf, clientNumbers, updatesTo, holding}
 use Rattle.plain.specs.Answer.{Outcome, outcome, answerParts, answer}
-use Rattle.plain.specs.Calls.{Event, Open, Close, Piece, Reading, callNumber, beforeFeed, hasFeed, usedOf, ended, pieceEffect, readingEffect, effect, settle, stepIf}
+use Rattle.plain.specs.Calls.{Event, Open, Close, Piece, Reading, Unreadable, callNumber, beforeFeed, hasFeed, usedOf, ended, pieceEffect, driverEffect, readingEffect, unreadableEffect, effect, settle, stepIf}
 use Rattle.plain.specs.History.{step}
 use Rattle.plain.proofs.Outcomes.{before, replyTo, concluded}
 use Rattle.rule.specs.Records.{repliesFor, feedCount, feedsUsed}
@@ -71,18 +72,29 @@ unfolding ended repliesFor
 ended-replies w n c t d true = answer-replies w n c t d
 ended-replies w n c t d false = either-way (eqb d c) 0
 
-reading-replies : (n : Node) (k : ℕ) (o : Option (Placed Parameter)) (bs : List ℕ) (t d : ℕ)
-    → length (repliesFor d (readingEffect n k o bs t .records)) ≡ 0
-unfolding readingEffect repliesFor
-reading-replies n k none bs t d = refl
-reading-replies n k (some p) bs t d =
-    let r : Report = reportOf p (showing (storedForm (p .it .datainfo) bs) t) in
+driver-replies : (n : Node) (k : ℕ) (p : Placed Parameter) (h : Held) (t d : ℕ) → length (repliesFor d (driverEffect n k p h t .records)) ≡ 0
+unfolding driverEffect repliesFor
+driver-replies n k p h t d =
+    let r : Report = reportOf p (holding h t) in
     ap
     length
     (no-final-replies
     d
     (updatesTo (n .clients) (p .home) r clientNumbers)
     (updates-to-no-final (n .clients) (p .home) r clientNumbers))
+
+reading-replies : (n : Node) (k : ℕ) (o : Option (Placed Parameter)) (bs : List ℕ) (t d : ℕ)
+    → length (repliesFor d (readingEffect n k o bs t .records)) ≡ 0
+unfolding readingEffect repliesFor
+reading-replies n k none bs t d = refl
+reading-replies n k (some p) bs t d = driver-replies n k p (valued (storedForm (p .it .datainfo) bs)) t d
+
+unreadable-replies : (n : Node) (k : ℕ) (o : Option (Placed Parameter)) (x : Option Fault) (t d : ℕ)
+    → length (repliesFor d (unreadableEffect n k o x t .records)) ≡ 0
+unfolding unreadableEffect repliesFor
+unreadable-replies n k none x t d = refl
+unreadable-replies n k (some p) none t d = refl
+unreadable-replies n k (some p) (some f) t d = driver-replies n k p (failed f) t d
 
 one-reply : (w : Table) (n : Node) (e : Event) (d j : ℕ)
     → length (repliesFor d (settle j n (effect w n e) .1 .records)) ≡ feedsUsed d e (settle j n (effect w n e) .1)
@@ -96,6 +108,8 @@ one-reply w n (Piece c bs t) d zero =
 one-reply w n (Piece c bs t) d (suc j) = either-way (eqb d c) 0
 one-reply w n (Reading p bs t) d zero = reading-replies n p (getElem? (parameters w) p) bs t d
 one-reply w n (Reading p bs t) d (suc j) = refl
+one-reply w n (Unreadable p k t) d zero = unreadable-replies n p (getElem? (parameters w) p) (faultOf k) t d
+one-reply w n (Unreadable p k t) d (suc j) = refl
 
 pub one-reply-for-each-line : OneReplyForEachLine
 unfolding step stepIf

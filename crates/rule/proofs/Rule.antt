@@ -15,20 +15,20 @@ use Rattle.table.specs.Search.{Placed, parameters}
 use Rattle.table.proofs.Search.{parameter-home}
 use Rattle.message.specs.Line.{Parts}
 use Rattle.message.specs.Request.{Request, change}
-use Rattle.message.specs.Reply.{Report, Reply, active, inactive, changed, error}
+use Rattle.message.specs.Reply.{failed, Report, Reply, active, inactive, changed, error}
 use Rattle.outbox.specs.Outbox.{Record, final, update, orderChange, orderCommand}
-use Rattle.plain.specs.Node.{Client, closed, fresh, Value, Node, put, withValue, isOpen, isActive, receive, emptied, activated, reportOf, clientNumbers, updatesTo, showing}
+use Rattle.plain.specs.Node.{Client, closed, fresh, Value, Node, put, withValue, isOpen, isActive, receive, emptied, activated, reportOf, clientNumbers, updatesTo, holding, showing}
 use Rattle.plain.specs.Answer.{Outcome, refused, carried, outcome, activates, deactivates, sets}
-use Rattle.plain.specs.Calls.{Event, Piece, Reading, Answer, beforeFeed}
+use Rattle.plain.specs.Calls.{Event, Piece, Reading, Unreadable, Answer, beforeFeed}
 use Rattle.plain.specs.History.{step}
 use Rattle.plain.proofs.Put.{put-at, put-all}
 use Rattle.plain.proofs.Clients.{active-open, receive-active, emptied-open, emptied-active, activated-active}
 use Rattle.plain.proofs.Outcomes.{nodeAfter, before, replyTo, Tells, by-identify, by-describe, by-ping, by-read, LetIn, outcome-holds}
 use Rattle.rule.specs.Records.{updatesFor, repliesFor, inScopeOf, reportsOf, activeBy, activeAfter}
-use Rattle.rule.specs.Theorems.{requestOf, ToActive, UpdatesGoToActiveClients, Set, ReadingSets, ReadingsAreSentToAll, Changed, ChangeSets, OfPiece, of-piece, ChangesAreSentToAll, BySetting, by-reading, by-change, ValuesAlterBySettings, InitialUpdates, ActivationsSendAll, ActivationsAreOnesOwn, AltersNothing, ErrorsAlterNothing}
+use Rattle.rule.specs.Theorems.{partsAt, requestOf, ToActive, UpdatesGoToActiveClients, Set, ReadingSets, ReadingsAreSentToAll, UnreadableSets, UnreadablesAreSentToAll, Changed, ChangeSets, OfPiece, of-piece, ChangesAreSentToAll, BySetting, by-reading, by-unreadable, by-change, ValuesAlterBySettings, InitialUpdates, ActivationsSendAll, ActivationsAreOnesOwn, AltersNothing, ErrorsAlterNothing}
 use Rattle.rule.proofs.Laws.{updates-append, replies-append, no-final-replies, updates-to-member, updates-of-member, updates-of-for, sent-once, sent-never}
 use Rattle.rule.proofs.Told.{kind, apart, told-kind, scope-is}
-use Rattle.rule.proofs.Calls.{quiet, idle, partsAt, outcomeAt, Answered, Did, opened, shut, received, read, line, every-call, accepted-call, Line-of, line-of, line-of-final, refusals-alter-nothing}
+use Rattle.rule.proofs.Calls.{quiet, idle, outcomeAt, Answered, Did, opened, shut, received, read, unread, line, every-call, accepted-call, Line-of, line-of, line-of-final, refusals-alter-nothing}
 
 -- ## Errors
 
@@ -42,7 +42,8 @@ no-error w n c now =
     outcome-holds (λ q o. NoError o) w n c now
     (record {
       bad = λ q x. tt;
-      telling = λ q f h e. omega (arith, told-kind h (n .values));
+      failing = λ k f t h e. tt;
+      telling = λ q r h e. omega (arith, told-kind h);
       activating = λ m f h e. omega arith;
       deactivating = λ m f h e. omega arith;
       setting = λ k v h e. omega arith;
@@ -93,6 +94,20 @@ reading-sets {w} {n} {k = k} {bs} {t} (read p q f) =
       records = refl;
     }
 
+unreadable-sets : {w : Table} {n m : Node} {rs : List Record} {k class t : ℕ} → Did w n (Unreadable k class t) m rs → UnreadableSets w n m k class t rs
+unreadable-sets {w} {n} {k = k} {t = t} (unread p f q i) =
+    let v : Value = holding (failed f) t in
+    record {
+      p = p;
+      f = f;
+      known = i;
+      set = set-sent w n (withValue n k v) k p v _ q refl (λ d. refl);
+      records = refl;
+    }
+
+pub unreadables-are-sent-to-all : UnreadablesAreSentToAll
+unreadables-are-sent-to-all table n k class t l h = unreadable-sets (accepted-call table n (record { event = Unreadable k class t; lent = l }) h)
+
 pub readings-are-sent-to-all : ReadingsAreSentToAll
 readings-are-sent-to-all table n k bs t l h = reading-sets (accepted-call table n (record { event = Reading k bs t; lent = l }) h)
 
@@ -122,7 +137,8 @@ changing w n c now p =
     outcome-holds (Changes w n c now p) w n c now
     (record {
       bad = λ q x r e. apart (changed r) _ (λ z. omega arith) e;
-      telling = λ q f h r e. apart (changed r) (f (n .values)) (λ z. omega (arith, told-kind h (n .values))) e;
+      failing = λ k f t h i r e. apart (changed r) _ (λ z. omega arith) e;
+      telling = λ q x h r e. apart (changed r) x (λ z. omega (arith, told-kind h)) e;
       activating = λ m f h r e. apart (changed r) _ (λ z. omega arith) e;
       deactivating = λ m f h r e. apart (changed r) _ (λ z. omega arith) e;
       setting = λ k v h r e. record { k = k; v = v; asked = refl; let-in = h; tells = set-tells k v r e; is = refl };
@@ -160,7 +176,7 @@ module _ (w : Table) (n m : Node) (c t : ℕ) (k : ℕ × Placed Parameter) (v :
         ∙ no-updates d updates c (changed (reportOf (k .1) value))
         ∙ ap (λ f. updatesFor d (updatesTo f (k .1 .home) (reportOf (k .1) value) clientNumbers)) (sym clients-are)
 
-    was-changed : Changed w n m c (k .0) (k .1) value rs
+    was-changed : Changed w n m c (k .0) (k .1) v t rs
     was-changed =
         record {
           set = set-sent w n m (k .0) (k .1) value rs there (ap (λ (x : Node). x .values) node) sent-updates;
@@ -172,7 +188,7 @@ module _ (w : Table) (n m : Node) (c t : ℕ) (k : ℕ × Placed Parameter) (v :
         }
 
   pub answered-change : (bs : List ℕ) → Answered w n c bs t m rs → outcomeAt w n c bs t ≡ sets w (idle n c) c t k v
-      → Changed w n m c (k .0) (k .1) value rs
+      → Changed w n m c (k .0) (k .1) v t rs
   unfolding sets
   answered-change bs h e =
       was-changed
@@ -209,6 +225,7 @@ alters w n c now p =
     outcome-holds (λ q o. Alters n p o) w n c now
     (record {
       bad = λ q x. inl refl;
+      failing = λ k f t h e. inl refl;
       telling = λ q f h. inl refl;
       activating = λ m f h. inl refl;
       deactivating = λ m f h. inl refl;
@@ -237,6 +254,7 @@ did-alter x z rs q opened = inl refl
 did-alter x z rs q shut = inl refl
 did-alter x z rs q (received f) = inl refl
 did-alter x z rs q (read p f g) = inr (by-reading z)
+did-alter x z rs q (unread p f g h) = inr (by-unreadable z)
 did-alter {w} {n} {m} x z rs q (line {c = c} {bs = bs} {t = t} f h) =
     line-alters w n m c bs t x (subst (Answered w n c bs t m) (sym q) h)
 
@@ -262,7 +280,8 @@ activation w n c now p =
     outcome-holds (λ q o. Activation w n c p o) w n c now
     (record {
       bad = λ q x m e. apart (active m) _ (λ z. omega arith) e;
-      telling = λ q f h m e. apart (active m) (f (n .values)) (λ z. omega (arith, told-kind h (n .values))) e;
+      failing = λ k f t h i m e. apart (active m) _ (λ z. omega arith) e;
+      telling = λ q x h m e. apart (active m) x (λ z. omega (arith, told-kind h)) e;
       activating = λ x f h m e d.
           updates-of-for c f (n .values) (parameters w) 0 d
           ∙ ap (λ g. cond (eqb d c) (reportsOf g (n .values) 0 (parameters w)) []) (scope-is h ∙ ap (inScopeOf w) (sym (active-is m x e)));
@@ -315,13 +334,13 @@ given-active w n c f r o h d i = go (eqb d c) refl
         ∙ ap (λ x. activeBy w i (isActive (n .clients x) i) (r ∷ [])) (sym (eqb-true d c e))
     go false e = refl
 
-told-active : {w : Table} {now : ℕ} {q : Request} {f : (ℕ → Value) → Reply} → Tells w now q f → (v : ℕ → Value) (i : ℕ) (b : Bool)
-    → activeBy w i b (f v ∷ []) ≡ b
+told-active : {w : Table} {now : ℕ} {values : ℕ → Value} {q : Request} {r : Reply} → Tells w now values q r → (i : ℕ) (b : Bool)
+    → activeBy w i b (r ∷ []) ≡ b
 unfolding activeBy
-told-active by-identify v i b = refl
-told-active by-describe v i b = refl
-told-active by-ping v i b = refl
-told-active (by-read k e) v i b = refl
+told-active by-identify i b = refl
+told-active by-describe i b = refl
+told-active by-ping i b = refl
+told-active (by-read k e v t j) i b = refl
 
 leaves-active : (w : Table) (n : Node) (c now : ℕ) (p : Parts) → isOpen (n .clients c) ≡ true → (q : Request)
     → LeavesActive w n c p (outcome w n c now q)
@@ -330,9 +349,10 @@ leaves-active w n c now p o =
     outcome-holds (λ q x. LeavesActive w n c p x) w n c now
     (record {
       bad = λ q x d i. either (eqb d c) (isActive (n .clients d) i);
-      telling = λ q f h d i.
+      failing = λ k f t h e d i. either (eqb d c) (isActive (n .clients d) i);
+      telling = λ q r h d i.
           either (eqb d c) (isActive (n .clients d) i)
-          ∙ ap (λ b. cond (eqb d c) b (isActive (n .clients d) i)) (sym (told-active h (n .values) i (isActive (n .clients d) i)));
+          ∙ ap (λ b. cond (eqb d c) b (isActive (n .clients d) i)) (sym (told-active h i (isActive (n .clients d) i)));
       activating = λ m f h. given-active w n c _ (active m) o
           (λ i. ap (λ g. isActive (n .clients c) i || (ltb i (length (w .modules)) && g i)) (scope-is h));
       deactivating = λ m f h. given-active w n c _ (inactive m) o (λ i. ap (λ g. isActive (n .clients c) i && not (g i)) (scope-is h));
@@ -406,6 +426,7 @@ ones-own {n = n} (received {c = c} {bs = bs} f) d i =
     (λ j. refl)
     d
 ones-own (read p q f) d i = refl
+ones-own (unread p f q j) d i = refl
 ones-own {w} {n} (line {c = c} {bs = bs} {t = t} {m = m} {rs = rs} f h) d i = line-own w n m c bs t rs h d i
 
 pub activations-are-ones-own : ActivationsAreOnesOwn
@@ -464,6 +485,7 @@ to-actives w n c now o =
     outcome-holds (λ q x. ToActives w n x) w n c now
     (record {
       bad = λ q x d r l. absurd (List·Memᴰ·not-nil l);
+      failing = λ k f t h e d r l. absurd (List·Memᴰ·not-nil l);
       telling = λ q f h d r l. absurd (List·Memᴰ·not-nil l);
       activating = λ m f h. first-active w n c now o m f;
       deactivating = λ m f h d r l. absurd (List·Memᴰ·not-nil l);
@@ -493,6 +515,7 @@ did-active shut d r k = absurd (List·Memᴰ·not-nil k)
 did-active (received f) d r k = absurd (List·Memᴰ·not-nil k)
 did-active {w} {n} (read {k = i} {bs = bs} {t = t} p q f) d r k =
     set-active w n i p (showing (storedForm (p .it .datainfo) bs) t) q d r k
+did-active {w} {n} (unread {k = i} {t = t} p f q j) d r k = set-active w n i p (holding (failed f) t) q d r k
 did-active {w} {n} (line {c = c} {bs = bs} {t = t} {m = m} {rs = rs} f h) d r k = line-active w n m c bs t rs h d r k
 
 pub updates-go-to-active-clients : UpdatesGoToActiveClients

@@ -10,9 +10,10 @@ use Rattle.table.specs.Layout.{tableOf}
 use Rattle.table.specs.Search.{Placed, parameters}
 use Rattle.message.specs.Line.{Parts}
 use Rattle.message.specs.Request.{Request, request}
+use Rattle.message.specs.Error.{Fault, faultOf}
 use Rattle.plain.specs.Node.{Node, setValues}
 use Rattle.plain.specs.Answer.{Outcome, refused, carried, settingsOf, activates, deactivates, sets, outcome, conclude, answerParts, partsSet, answer, answerSets}
-use Rattle.plain.specs.Calls.{Event, Open, Close, Piece, Reading, ended, endedSets, readingEffect, pieceEffect, effect, callNumber, settle, stepIf, settled, settingsIf}
+use Rattle.plain.specs.Calls.{Event, Open, Close, Piece, Reading, Unreadable, ended, endedSets, driverEffect, readingEffect, unreadableEffect, pieceEffect, effect, callNumber, settle, stepIf, settled, settingsIf}
 use Rattle.plain.specs.History.{step}
 use Rattle.plain.proofs.Outcomes.{nodeAfter, outcome-holds}
 use Rattle.rule.specs.Theorems.{SettingsAreAll}
@@ -27,6 +28,7 @@ outcome-all w n c now =
     outcome-holds (λ q o. All n o) w n c now
     (record {
       bad = λ q x. refl;
+      failing = λ k f t h e. refl;
       telling = λ q f h. refl;
       activating = λ m f h. refl;
       deactivating = λ m f h. refl;
@@ -49,9 +51,16 @@ ended-all w n c t true = parts-all w _ c t _
 
 reading-all : (n : Node) (k : ℕ) (o : Option (Placed Parameter)) (bs : List ℕ) (t : ℕ)
     → readingEffect n k o bs t .next .values ≡ setValues (n .values) (readingEffect n k o bs t .settings)
-unfolding readingEffect
+unfolding readingEffect driverEffect
 reading-all n k none bs t = refl
 reading-all n k (some p) bs t = refl
+
+unreadable-all : (n : Node) (k : ℕ) (o : Option (Placed Parameter)) (x : Option Fault) (t : ℕ)
+    → unreadableEffect n k o x t .next .values ≡ setValues (n .values) (unreadableEffect n k o x t .settings)
+unfolding unreadableEffect driverEffect
+unreadable-all n k none x t = refl
+unreadable-all n k (some p) none t = refl
+unreadable-all n k (some p) (some f) t = refl
 
 effect-all : (w : Table) (n : Node) (e : Event) → effect w n e .next .values ≡ setValues (n .values) (effect w n e .settings)
 unfolding effect pieceEffect
@@ -59,6 +68,7 @@ effect-all w n (Open c t) = refl
 effect-all w n (Close c t) = refl
 effect-all w n (Piece c bs t) = ended-all w _ c t _
 effect-all w n (Reading p bs t) = reading-all n p (getElem? (parameters w) p) bs t
+effect-all w n (Unreadable p k t) = unreadable-all n p (getElem? (parameters w) p) (faultOf k) t
 
 pub settings-are-all : SettingsAreAll
 unfolding step stepIf settle settingsIf settled

@@ -28,11 +28,11 @@ pub apart : {A : Type 0} (x y : Reply) → (kind x ≡ kind y → ⊥) → x ≡
 apart x y h e = absurd (h (ap kind e))
 
 -- a reply that comes alone
-pub told-kind : {w : Table} {now : ℕ} {q : Request} {f : (ℕ → Value) → Reply} → Tells w now q f → (v : ℕ → Value) → 4 ≤ kind (f v)
-told-kind by-identify v = omega arith
-told-kind by-describe v = omega arith
-told-kind by-ping v = omega arith
-told-kind (by-read k e) v = omega arith
+pub told-kind : {w : Table} {now : ℕ} {values : ℕ → Value} {q : Request} {r : Reply} → Tells w now values q r → 4 ≤ kind r
+told-kind by-identify = omega arith
+told-kind by-describe = omega arith
+told-kind by-ping = omega arith
+told-kind (by-read k e v t i) = omega arith
 
 -- the modules that an activation is about
 pub scope-is : {w : Table} {s : Option (List ℕ)} {f : ℕ → Bool} → Scope w s f → f ≡ inScopeOf w s

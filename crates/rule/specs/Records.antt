@@ -11,7 +11,7 @@ use Rattle.table.specs.Search.{Placed, findModule}
 use Rattle.message.specs.Reply.{Report, Reply, identification, describing, pong, active, inactive, reply, changed, done, error}
 use Rattle.outbox.specs.Outbox.{Record, final, update, orderChange, orderCommand}
 use Rattle.plain.specs.Node.{Value, reportOf}
-use Rattle.plain.specs.Calls.{Event, Open, Close, Piece, Reading, Answer}
+use Rattle.plain.specs.Calls.{Event, Open, Close, Piece, Reading, Unreadable, Answer}
 
 -- the updates to client d, in order
 unfoldable pub updatesFor : ℕ → List Record → List Report
@@ -40,6 +40,7 @@ feedsUsed d (Open c t) r = 0
 feedsUsed d (Close c t) r = 0
 feedsUsed d (Piece c bs t) r = cond (eqb d c) (feedCount (take (r .used) bs)) 0
 feedsUsed d (Reading p bs t) r = 0
+feedsUsed d (Unreadable p k t) r = 0
 
 -- the modules that `active M` or `inactive M` names, by number; with no name, all
 unfoldable pub numberIs : Option (ℕ × Module) → ℕ → Bool
@@ -79,3 +80,4 @@ activeAfter w d i b (Open c t) rs = cond (eqb d c) false b
 activeAfter w d i b (Close c t) rs = cond (eqb d c) false b
 activeAfter w d i b (Piece c bs t) rs = activeBy w i b (repliesFor d rs)
 activeAfter w d i b (Reading p bs t) rs = b
+activeAfter w d i b (Unreadable p k t) rs = b

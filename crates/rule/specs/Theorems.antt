@@ -10,24 +10,24 @@ use mathlib.Core.Path.{_≡_}
 use lib.ListN.{length, getElem?}
 use Rattle.fit.specs.Fit.{fits, verdict, storedForm}
 use Rattle.ascii.specs.Text.{bytes}
-use Rattle.message.specs.Line.{whole, content, partsOf}
+use Rattle.message.specs.Line.{Parts, whole, content, partsOf}
 use Rattle.message.specs.Request.{Request, activate, deactivate, read, change, execute, request}
-use Rattle.message.specs.Error.{Class}
-use Rattle.message.specs.Reply.{Report, Reply, reply, changed, active, inactive, done, error}
+use Rattle.message.specs.Error.{Fault, faultOf, Denial, fault}
+use Rattle.message.specs.Reply.{Held, valued, failed, Report, Reply, reply, changed, active, inactive, done, error}
 use Rattle.table.specs.Table.{Parameter, Command, parameter, Module, Table}
 use Rattle.table.specs.Layout.{tableOf}
 use Rattle.table.specs.Search.{Placed, parameters, commands, findParameter, findCommand}
 use Rattle.outbox.specs.Outbox.{Record, final, update, orderChange, orderCommand}
-use Rattle.plain.specs.Node.{Value, Node, put, withClient, setValues, isOpen, isActive, lineOf, receive, emptied, reportOf, clientNumbers, updatesTo, updatesOf, showing}
+use Rattle.plain.specs.Node.{Value, Node, put, withClient, setValues, isOpen, isActive, lineOf, receive, emptied, reportOf, clientNumbers, updatesTo, updatesOf, holding, showing}
 use Rattle.plain.specs.Answer.{argumentVerdict, argumentForm}
-use Rattle.plain.specs.Calls.{Event, Piece, Reading, Lent, Call, Answer, beforeFeed, hasFeed, usedOf, settingsIf}
+use Rattle.plain.specs.Calls.{Event, Piece, Reading, Unreadable, Lent, Call, Answer, beforeFeed, hasFeed, usedOf, settingsIf}
 use Rattle.plain.specs.History.{step}
 use Rattle.rule.specs.Records.{updatesFor, repliesFor, feedsUsed, inScopeOf, isThere, reportsOf, activeAfter}
 
 -- ## Whoever activates a module is sent its updates and nobody else is
 
--- An update tells of a parameter as the call leaves it, under the name of its own module, and goes to a client that is open and has
--- that module active as the call leaves it.
+-- An update, `update` or `error_update` by what the parameter holds, tells of a parameter as the call leaves it, under the name of its own module,
+-- and goes to a client that is open and has that module active as the call leaves it.
 pub record ToActive (w : Table) (n : Node) (d : ℕ) (r : Report) : Type 0 where
   pub k : ℕ
   pub p : Placed Parameter
@@ -40,7 +40,7 @@ abbrev pub UpdatesGoToActiveClients : Type 0
 UpdatesGoToActiveClients = (table : List ℕ) (n : Node) (e : Call) (d : ℕ) (r : Report)
     → List·Memᴰ (update d r) (step table n e .1 .records) → ToActive (tableOf table) (step table n e .0) d r
 
--- Parameter k, which is p, was set to v, and nothing else was: each client that has its module active is sent one update that tells
+-- Parameter k, which is p, was set to v, a value or an error, and nothing else was: each client that has its module active is sent one update that tells
 -- of it, and no other client any.
 pub record Set (w : Table) (n m : Node) (k : ℕ) (p : Placed Parameter) (v : Value) (rs : List Record) : Type 0 where
   pub there : getElem? (parameters w) k ≡ some p
@@ -60,18 +60,35 @@ ReadingsAreSentToAll = (table : List ℕ) (n : Node) (k : ℕ) (bs : List ℕ) (
     → let r = step table n (record { event = Reading k bs t; lent = lent }) in
     r .1 .number ≡ 0 → ReadingSets (tableOf table) n (r .0) k bs t (r .1 .records)
 
--- what client c asks for by the line that these bytes end
-unfoldable pub requestOf : Node → ℕ → List ℕ → Request
-requestOf n c bs = request (partsOf (content (lineOf (receive (n .clients c) (beforeFeed bs)))))
+-- A report that a parameter can't be read, if it is accepted, sets it to the error of that class at its time, and sends the updates only; so those
+-- who have its module active are sent `error_update`, and nobody else.
+pub record UnreadableSets (w : Table) (n m : Node) (k class t : ℕ) (rs : List Record) : Type 0 where
+  pub p : Placed Parameter
+  pub f : Fault
+  pub known : faultOf class ≡ some f
+  pub set : Set w n m k p (holding (failed f) t) rs
+  pub records : rs ≡ updatesTo (n .clients) (p .home) (reportOf p (holding (failed f) t)) clientNumbers
 
--- Client c changed parameter k, which is p, to v, and nothing else: first the driver's order, then the updates, lowest client first, then the
--- reply.
-pub record Changed (w : Table) (n m : Node) (c k : ℕ) (p : Placed Parameter) (v : Value) (rs : List Record) : Type 0 where
-  pub set : Set w n m k p v rs
+abbrev pub UnreadablesAreSentToAll : Type 0
+UnreadablesAreSentToAll = (table : List ℕ) (n : Node) (k class t : ℕ) (lent : Lent)
+    → let r = step table n (record { event = Unreadable k class t; lent = lent }) in
+    r .1 .number ≡ 0 → UnreadableSets (tableOf table) n (r .0) k class t (r .1 .records)
+
+-- the parts of client c's line that these bytes end, and what it asks for
+abbrev pub partsAt : Node → ℕ → List ℕ → Parts
+partsAt n c bs = partsOf (content (lineOf (receive (n .clients c) (beforeFeed bs))))
+
+unfoldable pub requestOf : Node → ℕ → List ℕ → Request
+requestOf n c bs = request (partsAt n c bs)
+
+-- Client c changed parameter k, which is p, to the text v at the time t, and nothing else: first the driver's order, then the updates, lowest client
+-- first, then the reply.
+pub record Changed (w : Table) (n m : Node) (c k : ℕ) (p : Placed Parameter) (v : List ℕ) (t : ℕ) (rs : List Record) : Type 0 where
+  pub set : Set w n m k p (showing v t) rs
   pub records : rs
-      ≡ (orderChange c k (v .text) ∷ [])
-      ++ updatesTo (m .clients) (p .home) (reportOf p v) clientNumbers
-      ++ (final c (changed (reportOf p v)) ∷ [])
+      ≡ (orderChange c k v ∷ [])
+      ++ updatesTo (m .clients) (p .home) (reportOf p (showing v t)) clientNumbers
+      ++ (final c (changed (reportOf p (showing v t))) ∷ [])
 
 -- A change that is replied to by `changed` was asked for by that line, fits, and sets that parameter to its stored form at the time of
 -- the line feed.
@@ -83,7 +100,7 @@ pub record ChangeSets (w : Table) (n m : Node) (c : ℕ) (bs : List ℕ) (t : �
   pub writable : p .it .readonly ≡ false
   pub fitting : verdict (p .it .datainfo) offered ≡ fits
   pub tells : r ≡ reportOf p (showing (storedForm (p .it .datainfo) offered) t)
-  pub changed : Changed w n m c k p (showing (storedForm (p .it .datainfo) offered) t) rs
+  pub changed : Changed w n m c k p (storedForm (p .it .datainfo) offered) t rs
 
 -- what holds of a piece of client c, by its bytes and its time
 pub data OfPiece (c : ℕ) (P : List ℕ → ℕ → Type 0) : Event → Type 0 where
@@ -103,11 +120,13 @@ WhenAsked table n c q P = (bs : List ℕ) (t : ℕ) (lent : Lent) → let r = st
 abbrev pub GoodChangesAreMade : Type 0
 GoodChangesAreMade = (table : List ℕ) (n : Node) (c : ℕ) (m x offered : List ℕ) (k : ℕ) (p : Placed Parameter)
     → findParameter (tableOf table) m x ≡ some (k, p) → p .it .readonly ≡ false → verdict (p .it .datainfo) offered ≡ fits
-    → WhenAsked table n c (change m x offered) λ t y rs. Changed (tableOf table) n y c k p (showing (storedForm (p .it .datainfo) offered) t) rs
+    → WhenAsked table n c (change m x offered) λ t y rs. Changed (tableOf table) n y c k p (storedForm (p .it .datainfo) offered) t rs
 
--- No other call alters a value: of a call that alters one, either it is an accepted reading, or its line was replied to by `changed`.
+-- No other call alters a value: of a call that alters one, either it is an accepted reading or report of an unreadable parameter, or its line was
+-- replied to by `changed`.
 pub data BySetting : Event → Answer → Type 0 where
   by-reading : {k : ℕ} {bs : List ℕ} {t : ℕ} {x : Answer} → x .number ≡ 0 → BySetting (Reading k bs t) x
+  by-unreadable : {k class t : ℕ} {x : Answer} → x .number ≡ 0 → BySetting (Unreadable k class t) x
   by-change : {e : Event} {x : Answer} (c : ℕ) (r : Report) → List·Memᴰ (final c (changed r)) (x .records) → BySetting e x
 
 abbrev pub ValuesAlterBySettings : Type 0
@@ -203,11 +222,19 @@ ReadsAreTrue = (table : List ℕ) (n : Node) (e : Call) (c : ℕ) (r : Report)
     → List·Memᴰ (final c (reply r)) (step table n e .1 .records)
     → OfPiece c (λ bs t. ReadTold (tableOf table) n c bs r (step table n e .1 .records)) (e .event)
 
+-- what a `read` of the parameter p, by a line of these parts, is replied to with: the value that is held, or the error in its place, with the
+-- specifier as sent
+unfoldable pub readReply : Parts → Placed Parameter → Held → ℕ → Reply
+readReply q p (valued v) t = reply (reportOf p (showing v t))
+readReply q p (failed f) t = error (q .action) (q .specifier) (fault f t)
+
 -- And every good read is answered: one of a parameter that is there, with what the node holds of it.
 abbrev pub GoodReadsAreAnswered : Type 0
 GoodReadsAreAnswered = (table : List ℕ) (n : Node) (c : ℕ) (m x : List ℕ) (k : ℕ) (p : Placed Parameter)
-    → findParameter (tableOf table) m x ≡ some (k, p)
-    → WhenAsked table n c (read m x) λ t y rs. AltersNothing n y rs c (reply (reportOf p (n .values k)))
+    → findParameter (tableOf table) m x ≡ some (k, p) → (bs : List ℕ) (t : ℕ) (lent : Lent)
+    → let r = step table n (record { event = Piece c bs t; lent = lent }) in
+    r .1 .number ≡ 0 → hasFeed bs ≡ true → requestOf n c bs ≡ read m x
+    → AltersNothing n (r .0) (r .1 .records) c (readReply (partsAt n c bs) p (n .values k .held) (n .values k .time))
 
 -- A command that is replied to by `done` was asked for by that line, with an argument that fits; the driver is ordered that command with the
 -- argument's stored form, and nothing else is sent.
@@ -218,7 +245,7 @@ pub record CommandOrdered (w : Table) (n : Node) (c : ℕ) (bs : List ℕ) (t : 
   pub there : getElem? (commands w) k ≡ some p
   pub asked : requestOf n c bs ≡ execute (p .moduleName) (p .it .name) offered
   pub fitting : argumentVerdict (p .it .argument) offered ≡ fits
-  pub tells : r ≡ record { moduleName = p .moduleName; accessible = p .it .name; value = bytes "null"; time = t }
+  pub tells : r ≡ record { moduleName = p .moduleName; accessible = p .it .name; held = valued (bytes "null"); time = t }
   pub records : rs ≡ orderCommand c k (argumentForm (p .it .argument) offered) ∷ final c (done r) ∷ []
 
 abbrev pub CommandsAreOrdered : Type 0
@@ -231,7 +258,7 @@ CommandsAreOrdered = (table : List ℕ) (n : Node) (e : Call) (c : ℕ) (r : Rep
 pub record Ordered (n m : Node) (c k : ℕ) (p : Placed Command) (offered : List ℕ) (t : ℕ) (rs : List Record) : Type 0 where
   pub records : rs
       ≡ orderCommand c k (argumentForm (p .it .argument) offered)
-      ∷ final c (done (record { moduleName = p .moduleName; accessible = p .it .name; value = bytes "null"; time = t }))
+      ∷ final c (done (record { moduleName = p .moduleName; accessible = p .it .name; held = valued (bytes "null"); time = t }))
       ∷ []
   pub node : m ≡ withClient n c (emptied (n .clients c))
 
@@ -244,7 +271,7 @@ GoodCommandsAreOrdered = (table : List ℕ) (n : Node) (c : ℕ) (m x offered : 
 
 -- A line that is answered by an error alters nothing.
 abbrev pub ErrorsAlterNothing : Type 0
-ErrorsAlterNothing = (table : List ℕ) (n : Node) (e : Call) (c : ℕ) (a s : List ℕ) (x : Class)
+ErrorsAlterNothing = (table : List ℕ) (n : Node) (e : Call) (c : ℕ) (a s : List ℕ) (x : Denial)
     → List·Memᴰ (final c (error a s x)) (step table n e .1 .records)
     → AltersNothing n (step table n e .0) (step table n e .1 .records) c (error a s x)
 

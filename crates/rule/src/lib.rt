@@ -1,6 +1,6 @@
 ghost use mathlib.Core.Bool.{true};
 ghost use mathlib.Core.Path.{_≡_};
-ghost use Rattle.rule.specs.Theorems.{UpdatesGoToActiveClients, ChangesAreSentToAll, GoodChangesAreMade, ReadingsAreSentToAll, ValuesAlterBySettings, SettingsAreAll, ActivationsSendAll, GoodActivationsAreMade, ActivationsAreOnesOwn, ParametersBelong, OneReplyForEachLine, PiecesAreUsed, ReadsAreTrue, GoodReadsAreAnswered, CommandsAreOrdered, GoodCommandsAreOrdered, ErrorsAlterNothing, RefusalsAlterNothing};
+ghost use Rattle.rule.specs.Theorems.{UpdatesGoToActiveClients, ChangesAreSentToAll, GoodChangesAreMade, ReadingsAreSentToAll, UnreadablesAreSentToAll, ValuesAlterBySettings, SettingsAreAll, ActivationsSendAll, GoodActivationsAreMade, ActivationsAreOnesOwn, ParametersBelong, OneReplyForEachLine, PiecesAreUsed, ReadsAreTrue, GoodReadsAreAnswered, CommandsAreOrdered, GoodCommandsAreOrdered, ErrorsAlterNothing, RefusalsAlterNothing};
 
 // Each function here promises a theorem about the definitions. Nothing is run.
 
@@ -28,6 +28,13 @@ pub fn good_changes_are_made() -> bool
 // An accepted reading is sent to the same clients.
 pub fn readings_are_sent_to_all() -> bool
     ensures { λ r. ⌜ (r ≡ true) × ReadingsAreSentToAll ⌝ }
+{
+    true
+}
+
+// An accepted report that a parameter can't be read is sent to the same clients, as `error_update`.
+pub fn unreadables_are_sent_to_all() -> bool
+    ensures { λ r. ⌜ (r ≡ true) × UnreadablesAreSentToAll ⌝ }
 {
     true
 }

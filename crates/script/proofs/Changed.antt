@@ -10,7 +10,7 @@ use Rattle.state.specs.declared.Clients.{Clients}
 use Rattle.state.specs.declared.Settings.{Settings}
 use Rattle.state.specs.declared.State.{State}
 use Rattle.script.specs.declared.operation.Operation.{Operation}
-use Rattle.script.specs.Poke.{withNumber, withLines, withLength, withTime, pokedBy}
+use Rattle.script.specs.Poke.{withNumber, withLines, withLength, withTime, withError, pokedBy}
 
 module _ (s : Clients) (code c v : ℕ) where
   pub number-past : 7 < c → s ≡ withNumber s code c v
@@ -51,7 +51,7 @@ module _ (s : Settings) (p v : ℕ) where
   unfolding withLength
   length-past h = rw (lt-ltb 63 p h) refl
 
-  pub length-set : p ≤ 63 → record { length = set (s .length) p (v % 65536); time = s .time } ≡ withLength s p v
+  pub length-set : p ≤ 63 → record { length = set (s .length) p (v % 65536); error = s .error; time = s .time } ≡ withLength s p v
   unfolding withLength
   length-set h = rw (le-ltb 63 p h) refl
 
@@ -59,9 +59,17 @@ module _ (s : Settings) (p v : ℕ) where
   unfolding withTime
   time-past h = rw (lt-ltb 63 p h) refl
 
-  pub time-set : p ≤ 63 → record { length = s .length; time = set (s .time) p v } ≡ withTime s p v
+  pub time-set : p ≤ 63 → record { length = s .length; error = s .error; time = set (s .time) p v } ≡ withTime s p v
   unfolding withTime
   time-set h = rw (le-ltb 63 p h) refl
+
+  pub error-past : 63 < p → s ≡ withError s p v
+  unfolding withError
+  error-past h = rw (lt-ltb 63 p h) refl
+
+  pub error-set : p ≤ 63 → record { length = s .length; error = set (s .error) p (v % 256); time = s .time } ≡ withError s p v
+  unfolding withError
+  error-set h = rw (le-ltb 63 p h) refl
 
 module _ (s : State) (o : Operation) (bs : List ℕ) where
   pub poked-length : o .code ≡ 122 → {x : Settings} → x ≡ withLength (s .settings) (o .number) (o .time)
@@ -74,13 +82,18 @@ module _ (s : State) (o : Operation) (bs : List ℕ) where
   unfolding pokedBy
   poked-time e q = rw (e, q) refl
 
+  pub poked-error : o .code ≡ 101 → {x : Settings} → x ≡ withError (s .settings) (o .number) (o .time)
+      → record { clients = s .clients; settings = x } ≡ pokedBy s o bs
+  unfolding pokedBy
+  poked-error e q = rw (e, q) refl
+
   pub poked-lines : o .code ≡ 108 → {x : Clients} → x ≡ withLines (s .clients) (o .number) bs
       → record { clients = x; settings = s .settings } ≡ pokedBy s o bs
   unfolding pokedBy
   poked-lines e q = rw (e, q) refl
 
-  pub poked-client : o .code ≢ 122 → o .code ≢ 116 → o .code ≢ 108 → {x : Clients}
+  pub poked-client : o .code ≢ 122 → o .code ≢ 116 → o .code ≢ 101 → o .code ≢ 108 → {x : Clients}
       → x ≡ withNumber (s .clients) (o .code) (o .number) (o .time)
       → record { clients = x; settings = s .settings } ≡ pokedBy s o bs
   unfolding pokedBy
-  poked-client u v w q = rw (ne-eqb (o .code) 122 u, ne-eqb (o .code) 116 v, ne-eqb (o .code) 108 w, q) refl
+  poked-client u v e w q = rw (ne-eqb (o .code) 122 u, ne-eqb (o .code) 116 v, ne-eqb (o .code) 101 e, ne-eqb (o .code) 108 w, q) refl

@@ -27,17 +27,21 @@ abbrev pub withLines : Clients → ℕ → List ℕ → Clients
 withLines s place bs =
     record { «open» = s .open; overlong = s .overlong; active = s .active; length = s .length; lines = within (s .lines) place bs }
 
--- of parameter p: the length of its stored value becomes v; its time becomes v
+-- of parameter p: the length of its stored value becomes v; its time becomes v; its error's class becomes v
 unfoldable pub withLength : Settings → ℕ → ℕ → Settings
-withLength s p v = cond (ltb 63 p) s record { length = set (s .length) p (v % 65536); time = s .time }
+withLength s p v = cond (ltb 63 p) s record { length = set (s .length) p (v % 65536); error = s .error; time = s .time }
 
 unfoldable pub withTime : Settings → ℕ → ℕ → Settings
-withTime s p v = cond (ltb 63 p) s record { length = s .length; time = set (s .time) p v }
+withTime s p v = cond (ltb 63 p) s record { length = s .length; error = s .error; time = set (s .time) p v }
 
--- by the code: `z` a length, `t` a time, `l` the lines, and else what a client has
+unfoldable pub withError : Settings → ℕ → ℕ → Settings
+withError s p v = cond (ltb 63 p) s record { length = s .length; error = set (s .error) p (v % 256); time = s .time }
+
+-- by the code: `z` a length, `t` a time, `e` an error's class, `l` the lines, and else what a client has
 unfoldable pub pokedBy : State → Operation → List ℕ → State
 pokedBy s o bs =
     cond (eqb (o .code) 122) (record { clients = s .clients; settings = withLength (s .settings) (o .number) (o .time) })
     (cond (eqb (o .code) 116) (record { clients = s .clients; settings = withTime (s .settings) (o .number) (o .time) })
+    (cond (eqb (o .code) 101) (record { clients = s .clients; settings = withError (s .settings) (o .number) (o .time) })
     (cond (eqb (o .code) 108) (record { clients = withLines (s .clients) (o .number) bs; settings = s .settings })
-    (record { clients = withNumber (s .clients) (o .code) (o .number) (o .time); settings = s .settings })))
+    (record { clients = withNumber (s .clients) (o .code) (o .number) (o .time); settings = s .settings }))))

@@ -5,9 +5,10 @@
 //   T        the bytes are the table from here on; the state stays
 //   S O C    start, open, close; the number is the client's
 //   P R      a piece of a client, a reading of a parameter; the bytes are what is offered
+//   U        a parameter can't be read; the bytes are its class, eight of them
 //   o v a n  of client number: the open flag, the overlong flag, the active modules, the length of its line becomes the time
 //   l        the lines have the bytes from the place number on
-//   z t      of parameter number: the length of its stored value, its time becomes the time
+//   z t e    of parameter number: the length of its stored value, its time, its error's class becomes the time
 //   w        the values area has the bytes from the place number on
 //   E        write the state, with so many parameters
 //   N        write the bytes as a line
@@ -35,6 +36,16 @@ fn number_at(head: &[u8; 23], at: usize, k: usize) -> u64
     ensures { λ r. ⌜ r ≡ numberAt (now (head .entry)) at k ⌝ }
 {
     let Unsigned::Read(n, _) = unsigned(head, at, k) else {
+        return 0;
+    };
+    n
+}
+
+// The class of an error, by an operation's bytes.
+pub fn class_of(bytes: &[u8]) -> u64
+    ensures { λ r. ⌜ r ≡ numberAt (now (bytes .entry)) 0 8 ⌝ }
+{
+    let Unsigned::Read(n, _) = unsigned(bytes, 0, 8) else {
         return 0;
     };
     n

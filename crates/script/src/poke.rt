@@ -7,7 +7,7 @@ use state::State;
 ghost use mathlib.Core.Path.{_≡_};
 ghost use Rattle.promise.specs.Promise as Promise;
 ghost use Rattle.script.specs.Within.{within};
-ghost use Rattle.script.specs.Poke.{withNumber, withLines, withLength, withTime, pokedBy};
+ghost use Rattle.script.specs.Poke.{withNumber, withLines, withLength, withTime, withError, pokedBy};
 
 // The state of a refused start: no client open and every number 0.
 pub fn blank() -> State
@@ -23,6 +23,7 @@ pub fn blank() -> State
         },
         settings: Settings {
             length: [0; 64],
+            error: [0; 64],
             time: [0; 64],
         },
     }
@@ -103,6 +104,18 @@ fn with_time(s: Settings, parameter: u64, value: u64) -> Settings
     next
 }
 
+fn with_error(s: Settings, parameter: u64, value: u64) -> Settings
+    ensures { λ r. ⌜ r ≡ withError s parameter value ⌝ }
+{
+    if parameter > 63 {
+        return s;
+    }
+    let k = parameter as usize;
+    let mut next = s;
+    next.error[k] = (value % 256) as u8;
+    next
+}
+
 // The state with the change that an operation names.
 pub fn poked(state: State, o: Operation, bytes: &[u8]) -> State
     ensures { λ r. ⌜ r ≡ pokedBy state o (now (bytes .entry)) ⌝ }
@@ -118,6 +131,10 @@ pub fn poked(state: State, o: Operation, bytes: &[u8]) -> State
         b't' => State {
             clients,
             settings: with_time(settings, o.number, o.time),
+        },
+        b'e' => State {
+            clients,
+            settings: with_error(settings, o.number, o.time),
         },
         b'l' => State {
             clients: with_lines(clients, o.number, bytes),

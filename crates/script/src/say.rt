@@ -1,7 +1,7 @@
 // What is written to standard output. A call has a line: its name, the number, how many bytes it used and wrote, the digests of the whole
 // outbox and of the whole values area after it, then what it wrote or, if it was refused, whether the state is what it was (for a start: the
 // state with every number 0). A state has a line for each client (number, open, overlong, active modules, length of its line and the line)
-// and for each parameter (number, length of its stored value, time). Bytes outside 32 to 126 and the backslash are written as a backslash
+// and for each parameter (number, length of its stored value, class of its error, time). Bytes outside 32 to 126 and the backslash are written as a backslash
 // and two hexadecimal digits.
 use crate::operation::Operation;
 use crate::poke::blank;
@@ -89,8 +89,11 @@ fn write_name(code: u8) {
         b'P' => {
             io::write_all(STDOUT_FILENO, b"piece");
         }
-        _ => {
+        b'R' => {
             io::write_all(STDOUT_FILENO, b"reading");
+        }
+        _ => {
+            io::write_all(STDOUT_FILENO, b"unreadable");
         }
     }
 }
@@ -147,6 +150,9 @@ fn same_setting(a: Settings, b: Settings, k: usize) -> bool {
         return true;
     }
     if a.length[k] != b.length[k] {
+        return false;
+    }
+    if a.error[k] != b.error[k] {
         return false;
     }
     a.time[k] == b.time[k]
@@ -226,6 +232,10 @@ fn wide(n: u16) -> u64 {
     n as u64
 }
 
+fn class(n: u8) -> u64 {
+    n as u64
+}
+
 // 0 or 1.
 fn flag(b: u8) -> u64 {
     if b == 0 { 0 } else { 1 }
@@ -266,6 +276,7 @@ fn write_parameter(s: Settings, k: usize) {
     io::write_all(STDOUT_FILENO, b"parameter");
     write_number(k as u64);
     write_number(wide(s.length[k]));
+    write_number(class(s.error[k]));
     write_number(s.time[k]);
     io::write_all(STDOUT_FILENO, b"\n");
 }

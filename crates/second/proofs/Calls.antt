@@ -15,11 +15,12 @@ use Rattle.table.specs.Table.{Table}
 use Rattle.table.specs.Layout.{tableOf}
 use Rattle.table.specs.Search.{parameters}
 use Rattle.report.specs.Judge.{fault, lowest, tableNumber}
+use Rattle.message.specs.Error.{faultOf}
 use Rattle.outbox.specs.Outbox.{Record}
 use Rattle.plain.specs.Node.{Node, put, withClient, isOpen, receive, withClients}
 use Rattle.plain.specs.Answer.{answer}
-use Rattle.plain.specs.Calls.{Event, Open, Close, Piece, Reading, Call, fault10, readingVerdict, ownFaults, callNumber, beforeFeed, hasFeed, ended, pieceEffect, effect, settle, stepIf}
-use Rattle.plain.specs.History.{step, Mark, feeds, opens, closes, reads, Item, byte, mark, markOf, itemOf, consIf, own, marks, pieceItems, itemsOf, kept, InTime, Roomy, standing, after, runNode, runSent, joined}
+use Rattle.plain.specs.Calls.{Event, Open, Close, Piece, Reading, Unreadable, Call, fault10, readingVerdict, ownFaults, callNumber, beforeFeed, hasFeed, ended, pieceEffect, effect, settle, stepIf}
+use Rattle.plain.specs.History.{step, Mark, feeds, opens, closes, reads, fails, Item, byte, mark, markOf, itemOf, consIf, own, marks, pieceItems, itemsOf, kept, InTime, Roomy, standing, after, runNode, runSent, joined}
 use Rattle.plain.proofs.Numbers.{accepted-call}
 use Rattle.plain.proofs.Put.{put-at, put-same, put-put}
 use Rattle.plain.proofs.Clients.{receive-more}
@@ -45,7 +46,7 @@ two-faults j k false true = (λ e. absurd (omega arith), λ e. absurd (false≢t
 two-faults j k false false = (λ e. refl, λ e. refl)
 
 module _ (table : List ℕ) where
-  -- a reading for a parameter that there is, with a value that fits it
+  -- a reading for a parameter that there is, with a value that fits it, or a report of such a parameter with a class that there is
   abbrev pub readable : Mark → Bool
   readable (feeds c t) = true
   readable (opens c t) = true
@@ -53,6 +54,7 @@ module _ (table : List ℕ) where
   readable (reads p bs t) =
       not (not (isSome (getElem? (parameters (tableOf table)) p)))
       && not (not (isFit (readingVerdict (getElem? (parameters (tableOf table)) p) bs)))
+  readable (fails p k t) = not (not (isSome (getElem? (parameters (tableOf table)) p))) && not (not (isSome (faultOf k)))
 
   -- what an event needs besides its time
   abbrev pub permitted : Node → Event → Bool
@@ -60,6 +62,7 @@ module _ (table : List ℕ) where
   permitted n (Close c t) = due c (isOpen (n .clients c)) (mark (closes c t))
   permitted n (Piece c bs t) = due c (isOpen (n .clients c)) (mark (feeds c t))
   permitted n (Reading p bs t) = readable (reads p bs t)
+  permitted n (Unreadable p k t) = readable (fails p k t)
 
   timed : (t j k : ℕ) (p q : Bool) → (lowest (fault10 t ∷ fault (suc j) p ∷ fault (suc k) q ∷ []) ≡ 0) ↔ ((t ≤ latest) × So (not p && not q))
   timed t j k p q =
@@ -75,6 +78,7 @@ module _ (table : List ℕ) where
   by-itself n (Reading p bs t) =
       let x = getElem? (parameters (tableOf table)) p in
       timed t 13 14 (not (isSome x)) (not (isFit (readingVerdict x bs)))
+  by-itself n (Unreadable p k t) = timed t 13 15 (not (isSome (getElem? (parameters (tableOf table)) p))) (not (isSome (faultOf k)))
 
   pub accepts : tableNumber table ≡ 0 → (n : Node) (e : Call) → (callNumber table false n e ≡ 0) ↔ (Roomy e × So (permitted n (e .event)))
   accepts z n e =
@@ -145,6 +149,7 @@ module _ (table : List ℕ) (n : Node) where
       order-own d _ (mark (closes c t)) [] (eqb d c) (at-client (mark (closes c t)) d c h) refl refl
   call-order (Piece c bs t) h d = piece-order c t d _ (at-client (mark (feeds c t)) d c h) bs
   call-order (Reading p bs t) h d = refl
+  call-order (Unreadable p k t) h d = refl
 
   call-reads : (e : Event) → So (permitted table n e) → So (all (readable table) (marks (itemsOf e)))
   unfolding itemsOf marks all
@@ -152,6 +157,7 @@ module _ (table : List ℕ) (n : Node) where
   call-reads (Close c t) h = refl
   call-reads (Piece c bs t) h = piece-reads c t table bs
   call-reads (Reading p bs t) h = ap (_&& true) h
+  call-reads (Unreadable p k t) h = ap (_&& true) h
 
   -- and back: an empty piece has no items, so that its client's due is asked for
   pub order-call : (e : Event) → ((d : ℕ) → So (inOrder d (isOpen (n .clients d)) (own d (itemsOf e))))
@@ -164,6 +170,7 @@ module _ (table : List ℕ) (n : Node) where
   order-call (Piece c [] t) h r k = k c t refl
   order-call (Piece c (b ∷ bs) t) h r k = order-piece c t _ b bs (h c)
   order-call (Reading p bs t) h r k = and-eq-true-iff (readable table (reads p bs t)) true .0 r .0
+  order-call (Unreadable p x t) h r k = and-eq-true-iff (readable table (fails p x t)) true .0 r .0
 
 -- ## Effects
 
@@ -200,6 +207,9 @@ effect-run w n (Close c t) = refl
 effect-run w n (Piece c bs t) = piece-run w c t bs n
 effect-run w n (Reading p bs t) =
     let r = after w n (mark (reads p bs t)) in
+    λ i. (r .0, sym (append-nil (r .1)) i)
+effect-run w n (Unreadable p k t) =
+    let r = after w n (mark (fails p k t)) in
     λ i. (r .0, sym (append-nil (r .1)) i)
 
 -- ## Steps

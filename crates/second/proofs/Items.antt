@@ -7,7 +7,7 @@ use mathlib.Core.Path.{_≡_, refl, sym, _∙_, ap}
 use lib.Dec.{ltb}
 use Rattle.ascii.specs.Bytes.{all}
 use Rattle.ascii.proofs.Lists.{all-joined}
-use Rattle.plain.specs.History.{Mark, feeds, opens, closes, reads, Item, byte, mark, itemOf, consIf, own, marks, standing}
+use Rattle.plain.specs.History.{Mark, feeds, opens, closes, reads, fails, Item, byte, mark, itemOf, consIf, own, marks, standing}
 
 pub own-append : (d : ℕ) (x y : List Item) → own d (x ++ y) ≡ own d x ++ own d y
 unfolding own consIf
@@ -32,6 +32,7 @@ standing-append b (mark (feeds c t) ∷ x) y = standing-append b x y
 standing-append b (mark (opens c t) ∷ x) y = standing-append true x y
 standing-append b (mark (closes c t) ∷ x) y = standing-append false x y
 standing-append b (mark (reads p bs t) ∷ x) y = standing-append b x y
+standing-append b (mark (fails p k t) ∷ x) y = standing-append b x y
 
 -- what is amiss with a client's own item where the client is open (or not), and an item at its time: by a client's number of at most 7,
 -- with nothing amiss
@@ -41,6 +42,7 @@ amiss b (mark (feeds c t)) = not b
 amiss b (mark (opens c t)) = b
 amiss b (mark (closes c t)) = not b
 amiss b (mark (reads p bs t)) = false
+amiss b (mark (fails p k t)) = false
 
 abbrev pub due : ℕ → Bool → Item → Bool
 due d b i = not (ltb 7 d) && not (amiss b i)

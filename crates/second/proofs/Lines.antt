@@ -9,7 +9,7 @@ use Rattle.table.specs.Table.{Parameter, Table}
 use Rattle.table.specs.Search.{Placed, parameters}
 use Rattle.message.specs.Line.{Line, whole, Parts}
 use Rattle.message.specs.Request.{Request, request}
-use Rattle.message.specs.Reply.{Report, Reply, active, inactive, changed}
+use Rattle.message.specs.Reply.{valued, Report, Reply, active, inactive, changed}
 use Rattle.outbox.specs.Outbox.{Record, orderChange}
 use Rattle.plain.specs.Node.{Client, closed, connected, Node, put, withClient, Setting, settingValue, withSettings, isOpen, isActive, activated, reportOf, clientNumbers, updatesTo, updatesOf, withClients}
 use Rattle.plain.specs.Answer.{Outcome, refused, carried, activates, deactivates, sets, outcome, conclude, answerParts}
@@ -85,7 +85,7 @@ module _ (w : Table) (c now : ℕ) (n : Node) (s : ℕ → Line) where
   through-sets : (k : ℕ × Placed Parameter) (v : List ℕ) → Through n s (sets w (weave n s) c now k v) (sets w n c now k v)
   unfolding sets
   through-sets k v =
-      let y : Setting = record { parameter = k .0; text = v; time = now } in
+      let y : Setting = record { parameter = k .0; held = valued v; time = now } in
       let x = settingValue y in (
         ap
             (λ l. carried (withSettings (weave n s) (y ∷ [])) (y ∷ []) (orderChange c (k .0) v ∷ l) (changed (reportOf (k .1) x)))
@@ -96,9 +96,10 @@ module _ (w : Table) (c now : ℕ) (n : Node) (s : ℕ → Line) where
   through : (q : Request) → Through n s (outcome w (weave n s) c now q) (outcome w n c now q)
   unfolding activates deactivates
   through =
-      outcomes-hold w (weave n s) n c now (λ q. Through n s)
+      outcomes-hold w (weave n s) n refl c now (λ q. Through n s)
       (record {
         bad = λ q x. (refl, tt);
+        failing = λ k f t h e. (refl, tt);
         telling = λ q f h. (refl, λ d. refl);
         activating = λ k g h. through-active (λ a i. a i || (ltb i (length (w .modules)) && g i)) (updatesOf c g (n .values) 0 (parameters w)) (active k);
         deactivating = λ k g h. through-active (λ a i. a i && not (g i)) [] (inactive k);

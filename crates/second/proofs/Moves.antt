@@ -7,7 +7,7 @@ use mathlib.Core.Path.{_≡_, refl, sym, _∙_, ap, ap₂, subst, fun-ext}
 use lib.Dec.{eqb, ltb}
 use borrow.Author.Tests.{eqb-true, not-true, not-false}
 use Rattle.plain.specs.Node.{Node, isOpen}
-use Rattle.plain.specs.Calls.{Event, Open, Close, Piece, Reading, Lent, Call, sends, hasFeed}
+use Rattle.plain.specs.Calls.{Event, Open, Close, Piece, Reading, Unreadable, Lent, Call, sends, hasFeed}
 use Rattle.plain.specs.History.{feeds, opens, closes, Item, byte, mark, itemOf, markOf, consIf, own, marks, standing, pieceItems, itemsOf, items, AllRoomy, IsSecond}
 use Rattle.second.specs.Theorems.{EmptyPasses, CallsMayChangePlaces, eventOf, PiecesMayBeMingled, PiecesMayBeCut, UnusedMayBeOffered}
 use Rattle.second.proofs.Items.{own-append, marks-append, standing-append, inOrder, own-both}
@@ -172,6 +172,7 @@ not-own d (Open c t) h = ap (λ q. consIf q (mark (opens c t)) []) h
 not-own d (Close c t) h = ap (λ q. consIf q (mark (closes c t)) []) h
 not-own d (Piece c bs t) h = piece-others c t d h bs
 not-own d (Reading p bs t) h = refl
+not-own d (Unreadable p k t) h = refl
 
 -- two lists of which one is empty
 either-way : {A : Type 0} (x y : List A) → x ≡ [] → x ++ y ≡ y ++ x

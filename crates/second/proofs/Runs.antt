@@ -11,11 +11,13 @@ use Rattle.table.specs.Table.{Parameter, Table}
 use Rattle.table.specs.Search.{Placed, parameters}
 use Rattle.fit.specs.Fit.{storedForm}
 use Rattle.message.specs.Line.{Line, whole, with-byte, content, partsOf}
+use Rattle.message.specs.Error.{Fault, faultOf}
+use Rattle.message.specs.Reply.{Held, valued, failed}
 use Rattle.outbox.specs.Outbox.{Record}
-use Rattle.plain.specs.Node.{Client, closed, connected, Value, Node, put, withClient, withValue, fresh, isOpen, lineOf, receive, emptied, reportOf, clientNumbers, showing, withClients}
+use Rattle.plain.specs.Node.{Client, closed, connected, Node, put, withClient, withValue, fresh, isOpen, lineOf, receive, emptied, reportOf, clientNumbers, holding, withClients}
 use Rattle.plain.specs.Answer.{answerParts, answer}
-use Rattle.plain.specs.Calls.{Effect, readingEffect}
-use Rattle.plain.specs.History.{Mark, feeds, opens, closes, reads, Item, byte, mark, markOf, itemOf, consIf, own, marks, standing, after, runNode, runSent, joined}
+use Rattle.plain.specs.Calls.{Effect, driverEffect, readingEffect, unreadableEffect}
+use Rattle.plain.specs.History.{Mark, feeds, opens, closes, reads, fails, Item, byte, mark, markOf, itemOf, consIf, own, marks, standing, after, runNode, runSent, joined}
 use Rattle.plain.proofs.Put.{put-cases, put-same}
 use Rattle.plain.proofs.Clients.{receive-open, emptied-open}
 use Rattle.second.proofs.Items.{own-append, standing-append}
@@ -64,6 +66,7 @@ module _ (w : Table) where
   afterMark n s (opens c t) = (withClient n c fresh, [])
   afterMark n s (closes c t) = (withClient n c closed, [])
   afterMark n s (reads p bs t) = outOf (readingEffect n p (getElem? (parameters w) p) bs t)
+  afterMark n s (fails p k t) = outOf (unreadableEffect n p (getElem? (parameters w) p) (faultOf k) t)
 
   abbrev runBy : Node → (ℕ → List Line) → List Mark → Node × List Record
   runBy n f [] = (weave n (λ d. firstLine (f d)), [])
@@ -85,9 +88,16 @@ module _ (w : Table) where
       go closed l = refl
       go (connected k a) l = refl
 
+  -- what a driver tells, of parameter p, which is q
+  after-driver : (n : Node) (s : ℕ → Line) (p : ℕ) (q : Placed Parameter) (h : Held) (t : ℕ)
+      → outOf (driverEffect (weave n s) p q h t) ≡ (weave (driverEffect n p q h t .next) s, driverEffect n p q h t .records)
+  unfolding driverEffect
+  after-driver n s p q h t =
+      λ i. (weave (withValue n p (holding h t)) s, updates-woven (n .clients) s (q .home) (reportOf q (holding h t)) clientNumbers i)
+
   after-mark : (n : Node) (s : ℕ → Line) (m : Mark)
       → after w (weave n s) (mark m) ≡ (weave (afterMark n s m .0) (reset s m), afterMark n s m .1)
-  unfolding after answer emptied readingEffect put markOf
+  unfolding after answer emptied readingEffect unreadableEffect put markOf
   after-mark n s (feeds c t) =
       let p = partsOf (content (lineOf (relined (n .clients c) (s c)))) in
       ap (λ m. answerParts w m c t p) (ap (withClient (weave n s) c) (go (n .clients c) (s c)) ∙ weave-line n s c (whole []))
@@ -103,9 +113,14 @@ module _ (w : Table) where
       go : (o : Option (Placed Parameter)) → outOf (readingEffect (weave n s) p o bs t)
           ≡ (weave (readingEffect n p o bs t .next) s, readingEffect n p o bs t .records)
       go none = refl
-      go (some q) =
-          let x : Value = showing (storedForm (q .it .datainfo) bs) t in
-          λ i. (weave (withValue n p x) s, updates-woven (n .clients) s (q .home) (reportOf q x) clientNumbers i)
+      go (some q) = after-driver n s p q (valued (storedForm (q .it .datainfo) bs)) t
+  after-mark n s (fails p k t) = go (getElem? (parameters w) p) (faultOf k)
+    where
+      go : (o : Option (Placed Parameter)) (x : Option Fault) → outOf (unreadableEffect (weave n s) p o x t)
+          ≡ (weave (unreadableEffect n p o x t .next) s, unreadableEffect n p o x t .records)
+      go none x = refl
+      go (some q) none = refl
+      go (some q) (some f) = after-driver n s p q (failed f) t
 
   -- the lines that are seen
   lines-byte : (s : ℕ → Line) (c b : ℕ) (x : List Item) → lines (put s c (with-byte (s c) b)) x ≡ lines s (byte c b ∷ x)
@@ -138,6 +153,7 @@ module _ (w : Table) where
   mark-lines n s (opens c t) x = refl
   mark-lines n s (closes c t) x = refl
   mark-lines n s (reads p bs t) x = refl
+  mark-lines n s (fails p k t) x = refl
 
   run-by : (x : List Item) (n : Node) (s : ℕ → Line) → run (weave n s) x ≡ runBy n (lines s x) (marks x)
   unfolding marks own runNode runSent joined after
@@ -182,7 +198,7 @@ module _ (w : Table) where
       (λ d e. ap (λ q. standing (isOpen (n .clients d)) (consIf q i [])) (sym e))
 
   after-open : (n : Node) (i : Item) (d : ℕ) → isOpen (after w n i .0 .clients d) ≡ standing (isOpen (n .clients d)) (own d (i ∷ []))
-  unfolding own consIf itemOf markOf standing after answer readingEffect isOpen
+  unfolding own consIf itemOf markOf standing after answer driverEffect readingEffect unreadableEffect isOpen
   after-open n (byte c b) d =
       put-open n c (receive (n .clients c) (b ∷ [])) (byte c b) (receive-open (n .clients c) (b ∷ [])) d
   after-open n (mark (feeds c t)) d =
@@ -195,6 +211,12 @@ module _ (w : Table) where
       go : (o : Option (Placed Parameter)) → isOpen (readingEffect n p o bs t .next .clients d) ≡ isOpen (n .clients d)
       go none = refl
       go (some q) = refl
+  after-open n (mark (fails p k t)) d = go (getElem? (parameters w) p) (faultOf k)
+    where
+      go : (o : Option (Placed Parameter)) (x : Option Fault) → isOpen (unreadableEffect n p o x t .next .clients d) ≡ isOpen (n .clients d)
+      go none x = refl
+      go (some q) none = refl
+      go (some q) (some f) = refl
 
   pub run-open : (x : List Item) (n : Node) (d : ℕ) → isOpen (run n x .0 .clients d) ≡ standing (isOpen (n .clients d)) (own d x)
   unfolding own standing runNode

@@ -7,7 +7,7 @@ use mathlib.Core.Path.{_≡_}
 use lib.Dec.{eqb}
 use Rattle.table.specs.Layout.{tableOf}
 use Rattle.plain.specs.Node.{Node, begin}
-use Rattle.plain.specs.Calls.{Event, Open, Close, Piece, Reading, Lent, Call, startNumber, hasFeed}
+use Rattle.plain.specs.Calls.{Event, Open, Close, Piece, Reading, Unreadable, Lent, Call, startNumber, hasFeed}
 use Rattle.plain.specs.History.{step, answers, finish, sent, own, marks, standing, itemsOf, taken, runNode, runSent, joined, Roomy, IsSecond, Alike}
 
 -- A history leaves the node, and sends the records, that the items its accepted calls used leave and send, one item after another.
@@ -54,14 +54,15 @@ CallsMayChangePlaces = (table : List ℕ) (n : Node) (h l r : List Call) (e f : 
     → EmptyPasses (e .event) (f .event) → EmptyPasses (f .event) (e .event)
     → IsSecond table n h (l ++ (e ∷ f ∷ r)) → IsSecond table n h (l ++ (f ∷ e ∷ r))
 
--- whose an event is; a reading is no client's
+-- whose an event is; what a driver tells is no client's
 unfoldable pub eventOf : ℕ → Event → Bool
 eventOf d (Open c t) = eqb d c
 eventOf d (Close c t) = eqb d c
 eventOf d (Piece c bs t) = eqb d c
 eventOf d (Reading p bs t) = false
+eventOf d (Unreadable p k t) = false
 
--- So a piece without a line feed may change places with the call after it or before it, if that is another's: a reading, or another
+-- So a piece without a line feed may change places with the call after it or before it, if that is another's: what a driver tells, or another
 -- client's piece, with a line feed or without, open or close.
 abbrev pub PiecesMayBeMingled : Type 0
 PiecesMayBeMingled = (table : List ℕ) (n : Node) (h l r : List Call) (c t : ℕ) (bs : List ℕ) (lent : Lent) (e : Call)

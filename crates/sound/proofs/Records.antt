@@ -15,10 +15,11 @@ use Rattle.ascii.specs.Names.{isName, isNameByte}
 use Rattle.ascii.specs.Numbers.{twoBytes, latest}
 use Rattle.ascii.proofs.Decimal.{seconds-latest}
 use Rattle.ascii.proofs.Lists.{both}
-use Rattle.message.specs.Error.{Class, ProtocolError, NoSuchModule, NoSuchParameter, NoSuchCommand, ReadOnly, BadJSON, WrongType, RangeError, className, classText}
-use Rattle.message.specs.Reply.{Report, Reply, identification, describing, pong, active, inactive, reply, changed, done, error, dataReport, reportText, errorReport, optionally, replyLine, updateLine}
+use Rattle.message.specs.Error.{Fault, Denial, class, fault}
+use Rattle.message.specs.Reply.{Held, valued, failed, Report, Reply, identification, describing, pong, active, inactive, reply, changed, done, error, dataReport, faultReport, heldReport, reportText, errorReport, optionally, replyLine, updateWord, updateLine}
+use Rattle.message.proofs.Said.{fault-short, class-short}
 use Rattle.outbox.specs.Outbox.{Record, final, update, body, encode, encodeAll}
-use Rattle.outbox.specs.Theorems.{Word, Named, WellFormed, WellFormedReply, AllWellFormed}
+use Rattle.outbox.specs.Theorems.{Word, Named, IsValue, WellFormed, WellFormedReply, AllWellFormed}
 use Rattle.outbox.proofs.Records.{two-bytes}
 use Rattle.table.specs.Table.{Parameter}
 use Rattle.table.specs.Search.{Placed}
@@ -35,38 +36,61 @@ name-short xs e =
     let b = both (leb 1 (length xs) && leb (length xs) 63) (not (isDigit (head xs))) a .0 in
     leb-true (length xs) 63 (both (leb 1 (length xs)) (leb (length xs) 63) b .1)
 
--- a report by good names, of a value of at most 256 bytes, at a time within the limit
+-- a value of at most 256 bytes, or an error
+abbrev pub Small : Held → Type 0
+Small (valued v) = length v ≤ 256
+Small (failed f) = Unit {0}
+
+-- a report by good names, of what is so small, at a time within the limit
 pub record Fine (r : Report) : Type 0 where
   pub names : GoodNames (r .moduleName) (r .accessible)
-  pub small : length (r .value) ≤ 256
+  pub small : Small (r .held)
   pub inTime : r .time ≤ latest
 
 data-short : (v : List ℕ) (t : ℕ) → t ≤ latest → length (dataReport v t) ≤ length v + 23
 unfolding dataReport bytes
 data-short v t h = simp length-append (omega (arith, seconds-latest t h))
 
-report-short : (r : Report) → Fine r → length (reportText r) ≤ 407
+fault-low : (f : Fault) (t : ℕ) → t ≤ latest → length (faultReport f t) ≤ 66
+fault-low f t h = omega (arith, fault-short f t, seconds-latest t h)
+
+held-low : (v : Held) (t : ℕ) → Small v → t ≤ latest → length (updateWord v) + length (heldReport v t) ≤ 286
+unfolding updateWord heldReport bytes
+held-low (valued v) t s h = omega (arith, data-short v t h)
+held-low (failed f) t s h = omega (arith, fault-low f t h)
+
+word-low : (v : Held) → 7 ≤ length (updateWord v)
+unfolding updateWord bytes
+word-low (valued v) = omega arith
+word-low (failed f) = omega arith
+
+report-short : (r : Report) → Fine r → length (updateWord (r .held)) + length (reportText r) ≤ 414
 unfolding reportText bytes
 report-short r f =
     simp length-append
     (omega (
       arith,
-      f .small,
-      data-short (r .value) (r .time) (f .inTime),
+      held-low (r .held) (r .time) (f .small) (f .inTime),
       name-short (r .moduleName) (f .names .0),
       name-short (r .accessible) (f .names .1),
     ))
 
-class-short : (e : Class) → length (errorReport e) ≤ 64
-unfolding errorReport className classText bytes
-class-short ProtocolError = omega arith
-class-short NoSuchModule = omega arith
-class-short NoSuchParameter = omega arith
-class-short NoSuchCommand = omega arith
-class-short ReadOnly = omega arith
-class-short BadJSON = omega arith
-class-short WrongType = omega arith
-class-short RangeError = omega arith
+pub update-short : (r : Report) → Fine r → length (updateLine r) ≤ 414
+unfolding updateLine
+update-short r f = simp length-append (report-short r f)
+
+reply-short : (r : Report) → Fine r → length (reportText r) ≤ 407
+reply-short r f = omega (arith, report-short r f, word-low (r .held))
+
+-- what an error reply tells, at a time within the limit
+abbrev pub DeniedInTime : Denial → Type 0
+DeniedInTime (class e) = Unit {0}
+DeniedInTime (fault f t) = t ≤ latest
+
+denial-short : (d : Denial) → DeniedInTime d → length (errorReport d) ≤ 66
+unfolding errorReport
+denial-short (class e) h = omega (arith, class-short e)
+denial-short (fault f t) h = fault-low f t h
 
 -- ## Replies
 
@@ -102,21 +126,21 @@ pub says-inactive : (m : Option (List ℕ)) → Named m → Says (inactive m) 72
 unfolding replyLine bytes
 says-inactive m e = (e, omega (arith, optionally-short (bytes "inactive") m e))
 
-pub says-reply : (r : Report) → Fine r → Says (reply r) 415
+pub says-reply : (r : Report) → Fine r → IsValue (r .held) → Says (reply r) 415
 unfolding replyLine bytes
-says-reply r f = (f .names, omega (arith, report-short r f))
+says-reply r f v = ((f .names, v), omega (arith, reply-short r f))
 
-pub says-changed : (r : Report) → Fine r → Says (changed r) 415
+pub says-changed : (r : Report) → Fine r → IsValue (r .held) → Says (changed r) 415
 unfolding replyLine bytes
-says-changed r f = (f .names, omega (arith, report-short r f))
+says-changed r f v = ((f .names, v), omega (arith, reply-short r f))
 
-pub says-done : (r : Report) → Fine r → Says (done r) 415
+pub says-done : (r : Report) → Fine r → IsValue (r .held) → Says (done r) 415
 unfolding replyLine bytes
-says-done r f = (f .names, omega (arith, report-short r f))
+says-done r f v = ((f .names, v), omega (arith, reply-short r f))
 
-pub says-error : (a s : List ℕ) (e : Class) → Word a → Word s → length a ≤ 1024 → length s ≤ 1024 → Says (error a s e) 2120
+pub says-error : (a s : List ℕ) (d : Denial) → DeniedInTime d → Word a → Word s → length a ≤ 1024 → length s ≤ 1024 → Says (error a s d) 2122
 unfolding replyLine bytes
-says-error a s e p q h i = ((p, q), simp length-append (omega (arith, class-short e)))
+says-error a s d t p q h i = ((p, q), simp length-append (omega (arith, denial-short d t)))
 
 -- ## Records
 
@@ -154,10 +178,10 @@ written-final c r k h = written-one (final c r) (k + 6) (h .0) (simp length-appe
 -- one update or none, before others
 written-update : (b : Bool) (c : ℕ) (r : Report) → Fine r → (rs : List Record) (j : ℕ) → Written rs (j * 420)
     → Written (cond b (update c r ∷ []) [] ++ rs) (suc j * 420)
-unfolding body updateLine bytes
+unfolding body bytes
 written-update false c r f rs j h = written-within (suc j * 420) (omega arith) h
 written-update true c r f rs j h =
-    let one = written-one (update c r) 420 (f .names) (simp length-append (omega (arith, report-short r f))) in
+    let one = written-one (update c r) 420 (f .names) (simp length-append (omega (arith, update-short r f))) in
     written-within (suc j * 420) (omega arith) (written-append (update c r ∷ []) rs 420 (j * 420) one h)
 
 pub written-to : (f : ℕ → Client) (i : ℕ) (r : Report) → Fine r → (cs : List ℕ)

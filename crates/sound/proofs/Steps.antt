@@ -16,7 +16,8 @@ use Rattle.fit.specs.Fit.{Verdict, fits, severity, verdict, storedForm, isFit}
 use Rattle.form.proofs.Stored.{stored, stored-short, short-stored}
 use Rattle.message.specs.Line.{Parts, content, partsOf}
 use Rattle.message.specs.Request.{Request, request}
-use Rattle.message.specs.Reply.{Reply, identification, pong, active, inactive, reply, changed, done, error}
+use Rattle.message.specs.Error.{Fault, faultOf}
+use Rattle.message.specs.Reply.{Held, valued, failed, Reply, identification, pong, active, inactive, reply, changed, done, error}
 use Rattle.outbox.specs.Outbox.{Record, final, orderChange, orderCommand, body}
 use Rattle.outbox.specs.Theorems.{Named}
 use Rattle.table.specs.Table.{Parameter, Command, Table}
@@ -25,17 +26,17 @@ use Rattle.table.specs.Search.{Placed, parameters, commands}
 use Rattle.report.specs.Report.{report}
 use Rattle.report.specs.Judge.{lowest}
 use Rattle.report.proofs.Faults.{no-fault, lowest-none}
-use Rattle.plain.specs.Node.{closed, Value, Node, withClient, withValue, Setting, fresh, lineOf, receive, emptied, reportOf, clientNumbers, updatesTo, showing}
-use Rattle.plain.specs.Answer.{Outcome, refused, carried, argumentVerdict, argumentForm, activates, deactivates, reads, sets, outcome, conclude, answerParts, answer}
-use Rattle.plain.specs.Calls.{Event, Open, Close, Piece, Reading, Call, readingVerdict, ownFaults, callNumber, beforeFeed, hasFeed, ended, Effect, pieceEffect, readingEffect, effect, settle, stepIf}
+use Rattle.plain.specs.Node.{closed, Value, Node, withClient, withValue, Setting, fresh, lineOf, receive, emptied, reportOf, clientNumbers, updatesTo, holding, showing}
+use Rattle.plain.specs.Answer.{Outcome, refused, carried, argumentVerdict, argumentForm, activates, deactivates, sets, outcome, conclude, answerParts, answer}
+use Rattle.plain.specs.Calls.{Event, Open, Close, Piece, Reading, Unreadable, Call, readingVerdict, ownFaults, callNumber, beforeFeed, hasFeed, ended, Effect, pieceEffect, driverEffect, readingEffect, unreadableEffect, effect, settle, stepIf}
 use Rattle.plain.specs.History.{step}
 use Rattle.plain.proofs.Numbers.{accepted-call}
 use Rattle.plain.proofs.Outcomes.{Tells, by-identify, by-describe, by-ping, by-read, LetIn, Allowed, doneOf, ordering, outcome-holds}
-use Rattle.sound.specs.Theorems.{ValueHeld, Sound}
+use Rattle.sound.specs.Theorems.{HeldFits, ValueHeld, Sound}
 use Rattle.sound.proofs.Lists.{each-at}
 use Rattle.sound.proofs.Tabled.{ParameterIn}
 use Rattle.sound.proofs.Accepted.{Accepted, GoodParameter, GoodCommand, client-low, time-low}
-use Rattle.sound.proofs.Records.{Fine, Says, says-within, says-identification, says-describing, says-pong, says-active, says-inactive, says-reply, says-changed, says-done, says-error, Written, written-none, written-one, written-append, written-within, written-final, written-to, written-of}
+use Rattle.sound.proofs.Records.{Small, DeniedInTime, Fine, Says, says-within, says-identification, says-describing, says-pong, says-active, says-inactive, says-reply, says-changed, says-done, says-error, Written, written-none, written-one, written-append, written-within, written-final, written-to, written-of}
 use Rattle.sound.proofs.Lines.{before-feed, received, content-short, ShortWord, parts-words, Asked, asked}
 use Rattle.sound.proofs.Held.{with-client, with-value, line-held, emptied-held, more-active, less-active}
 
@@ -44,9 +45,9 @@ pub record Kept (w : Table) (n : Node) (rs : List Record) : Type 0 where
   pub sound : Sound w n
   pub written : Written rs 32019
 
--- what is left and written where a request comes to this; an error is for `concluded`
+-- what is left and written where a request comes to this; an error's time is within the limit, and the rest is for `concluded`
 abbrev pub Comes : Table → ℕ → Outcome → Type 0
-Comes w c (refused e) = Unit {0}
+Comes w c (refused e) = DeniedInTime e
 Comes w c (carried m ss rs r) = Kept w m (rs ++ (final c r ∷ []))
 
 fit-is : (v : Verdict) → v ≡ fits → isFit v ≡ true
@@ -61,18 +62,25 @@ module _ (w : Table) (a : Accepted w) (n : Node) (s : Sound w n) where
   fine k p e v h =
       record {
         names = each-at GoodParameter (parameters w) (a .allParameters) k p e .0;
-        small = short-stored (p .it .datainfo) (v .text) (h .0);
+        small = held-small (v .held) (h .0);
         inTime = h .1;
       }
+    where
+      held-small : (x : Held) → HeldFits (p .it) x → Small x
+      held-small (valued x) i = short-stored (p .it .datainfo) x i
+      held-small (failed f) i = tt
 
-  -- a value that fits is stored
-  module _ (k : ℕ) (p : Placed Parameter) (e : getElem? (parameters w) k ≡ some p) (bs : List ℕ)
-      (f : isFit (verdict (p .it .datainfo) bs) ≡ true) (t : ℕ) (h : t ≤ latest) where
+  -- a parameter's datainfo is one of which the laws of stored forms speak
+  in-table : (k : ℕ) (p : Placed Parameter) → getElem? (parameters w) k ≡ some p → ParameterIn (p .it)
+  in-table k p e = each-at (λ (q : Placed Parameter). ParameterIn (q .it)) (parameters w) (a .parametersIn) k p e
+
+  -- a parameter holds what may be held of it from a time on
+  module _ (k : ℕ) (p : Placed Parameter) (e : getElem? (parameters w) k ≡ some p) (x : Held) (f : HeldFits (p .it) x) (t : ℕ) (h : t ≤ latest) where
     abbrev new : Value
-    new = showing (storedForm (p .it .datainfo) bs) t
+    new = holding x t
 
     new-value : ValueHeld (p .it) new
-    new-value = (stored (p .it .datainfo) bs (each-at (λ (q : Placed Parameter). ParameterIn (q .it)) (parameters w) (a .parametersIn) k p e) f, h)
+    new-value = (f, h)
 
     new-node : Sound w (withValue n k new)
     new-node = with-value w n k new (λ q j. let i : p ≡ q = cc in subst (λ q. ValueHeld (q .it) new) i new-value) s
@@ -109,36 +117,33 @@ module _ (w : Table) (a : Accepted w) (n : Node) (s : Sound w n) where
         (with-client w n c _ low (less-active w (n .clients c) wanted (s .clients c)) s) written-none (says-inactive m e) (omega arith)
 
     -- a reply alone
-    told-short : (q : Request) (f : (ℕ → Value) → Reply) → Tells w t q f → Asked q → Says (f (n .values)) 32013
+    told-short : (q : Request) (r : Reply) → Tells w t (n .values) q r → Asked q → Says r 32013
     told-short _ _ by-identify q = says-within identification 36 32013 (omega arith) says-identification
     told-short _ _ by-describe q = says-describing (report w) (a .short)
     told-short _ _ (by-ping {token}) q = says-within (pong token t) 1057 32013 (omega arith) (says-pong token t (q .0) (q .1) h)
-    told-short _ _ (by-read k e) q =
-        let v = n .values (k .0) in
-        let r = reportOf (k .1) v in
-        says-within (reply r) 415 32013 (omega arith) (says-reply r (fine (k .0) (k .1) e v (s .values (k .0) (k .1) e)))
+    told-short _ _ (by-read k e v u i) q =
+        let r = reportOf (k .1) (showing v u) in
+        says-within (reply r) 415 32013 (omega arith)
+        (says-reply r (fine (k .0) (k .1) e (showing v u) (subst (ValueHeld (k .1 .it)) i (s .values (k .0) (k .1) e))) tt)
 
-    comes-tells : (q : Request) (f : (ℕ → Value) → Reply) → Tells w t q f → Asked q → Comes w c (carried n [] [] (f (n .values)))
-    comes-tells q f u i = only (f (n .values)) 32013 (told-short q f u i) (omega arith)
-
-    pub comes-reads : (k : ℕ × Placed Parameter) → getElem? (parameters w) (k .0) ≡ some (k .1) → Comes w c (reads w n c t k)
-    unfolding reads
-    comes-reads k e = comes-tells _ _ (by-read k e) tt
+    comes-tells : (q : Request) (r : Reply) → Tells w t (n .values) q r → Asked q → Comes w c (carried n [] [] r)
+    comes-tells q r u i = only r 32013 (told-short q r u i) (omega arith)
 
     comes-sets : (k : ℕ × Placed Parameter) (v : List ℕ) → LetIn w k v → Comes w c (sets w n c t k (storedForm (k .1 .it .datainfo) v))
     unfolding sets body
     comes-sets k v i =
         let f = fit-is (verdict (k .1 .it .datainfo) v) (i .fitting) in
         let e = i .there in
-        let x : Value = showing (storedForm (k .1 .it .datainfo) v) t in
-        let r = reportOf (k .1) x in
+        let x : Held = valued (storedForm (k .1 .it .datainfo) v) in
+        let i = stored (k .1 .it .datainfo) v (in-table (k .0) (k .1) e) f in
+        let r = reportOf (k .1) (holding x t) in
         let order = orderChange c (k .0) (storedForm (k .1 .it .datainfo) v) in
         let updates = updatesTo (n .clients) (k .1 .home) r clientNumbers in
         let told = written-one order 262 tt (omega (arith, stored-short (k .1 .it .datainfo) v f)) in
-        comes (withValue n (k .0) x) (record { parameter = k .0; text = storedForm (k .1 .it .datainfo) v; time = t } ∷ []) (order ∷ updates) (changed r) 3622 415
-        (new-node (k .0) (k .1) e v f t h)
-        (written-append (order ∷ []) updates 262 3360 told (new-updates (k .0) (k .1) e v f t h))
-        (says-changed r (fine (k .0) (k .1) e x (new-value (k .0) (k .1) e v f t h)))
+        comes (withValue n (k .0) (holding x t)) (record { parameter = k .0; held = x; time = t } ∷ []) (order ∷ updates) (changed r) 3622 415
+        (new-node (k .0) (k .1) e x i t h)
+        (written-append (order ∷ []) updates 262 3360 told (new-updates (k .0) (k .1) e x i t h))
+        (says-changed r (fine (k .0) (k .1) e (holding x t) (i, h)) tt)
         (omega arith)
 
     argument-short : (d : Option Datainfo) (v : List ℕ) → isFit (argumentVerdict d v) ≡ true → length (argumentForm d v) ≤ 256
@@ -154,13 +159,14 @@ module _ (w : Table) (a : Accepted w) (n : Node) (s : Sound w n) where
         let told = written-one (orderCommand c (k .0) x) 262 tt (omega (arith, argument-short (k .1 .it .argument) v f)) in
         let names = each-at GoodCommand (commands w) (a .allCommands) (k .0) (k .1) (i .there) in
         comes n [] (orderCommand c (k .0) x ∷ []) (done (doneOf (k .1) t)) 262 415 s told
-        (says-done (doneOf (k .1) t) (record { names = names; small = omega arith; inTime = h })) (omega arith)
+        (says-done (doneOf (k .1) t) (record { names = names; small = omega arith; inTime = h }) tt) (omega arith)
 
     comes-outcome : (q : Request) → Asked q → Comes w c (outcome w n c t q)
     comes-outcome =
         outcome-holds (λ q o. Asked q → Comes w c o) w n c t
         (record {
           bad = λ q x i. tt;
+          failing = λ k f u e z i. subst (ValueHeld (k .1 .it)) z (s .values (k .0) (k .1) e) .1;
           telling = comes-tells;
           activating = λ m wanted u i. comes-activates wanted m i;
           deactivating = λ m wanted u i. comes-deactivates wanted m i;
@@ -172,8 +178,8 @@ module _ (w : Table) (a : Accepted w) (n : Node) (s : Sound w n) where
         → Kept w (conclude w n c t p o .0) (conclude w n c t p o .1)
     unfolding conclude
     concluded p q (refused e) i =
-        comes n [] [] (error (p .action) (p .specifier) e) 0 2120 s written-none
-        (says-error (p .action) (p .specifier) e (q .0 .0) (q .1 .0) (q .0 .1) (q .1 .1)) (omega arith)
+        comes n [] [] (error (p .action) (p .specifier) e) 0 2122 s written-none
+        (says-error (p .action) (p .specifier) e i (q .0 .0) (q .1 .0) (q .0 .1) (q .1 .1)) (omega arith)
     concluded p q (carried m ss rs r) i = i
 
     answered-parts : (p : Parts) → ShortWord (p .action) × ShortWord (p .specifier)
@@ -197,16 +203,29 @@ module _ (w : Table) (a : Accepted w) (n : Node) (s : Sound w n) where
       (with-client w n c (emptied (n .clients c)) low (emptied-held w (n .clients c) (s .clients c)) s) c low t h
       (partsOf (content l)) (parts-words (content l) (content-short l (line-held w (n .clients c) (s .clients c))))
 
+  -- what a driver tells is held
+  told-in : (k : ℕ) (p : Placed Parameter) → getElem? (parameters w) k ≡ some p → (x : Held) → HeldFits (p .it) x → (t : ℕ) → t ≤ latest
+      → Kept w (driverEffect n k p x t .next) (driverEffect n k p x t .records)
+  unfolding driverEffect
+  told-in k p e x f t h =
+      record {
+        sound = new-node w a n s k p e x f t h;
+        written = written-within 32019 (omega arith) (new-updates w a n s k p e x f t h);
+      }
+
   read-in : (k : ℕ) (o : Option (Placed Parameter)) → getElem? (parameters w) k ≡ o
       → (bs : List ℕ) (t : ℕ) → t ≤ latest → isFit (readingVerdict o bs) ≡ true
       → Kept w (readingEffect n k o bs t .next) (readingEffect n k o bs t .records)
   unfolding readingEffect readingVerdict
   read-in k none e bs t h f = quiet
-  read-in k (some p) e bs t h f =
-      record {
-        sound = new-node w a n s k p e bs f t h;
-        written = written-within 32019 (omega arith) (new-updates w a n s k p e bs f t h);
-      }
+  read-in k (some p) e bs t h f = told-in k p e (valued (storedForm (p .it .datainfo) bs)) (stored (p .it .datainfo) bs (in-table w a n s k p e) f) t h
+
+  unread-in : (k : ℕ) (o : Option (Placed Parameter)) → getElem? (parameters w) k ≡ o → (x : Option Fault) (t : ℕ) → t ≤ latest
+      → Kept w (unreadableEffect n k o x t .next) (unreadableEffect n k o x t .records)
+  unfolding unreadableEffect
+  unread-in k none e x t h = quiet
+  unread-in k (some p) e none t h = quiet
+  unread-in k (some p) e (some f) t h = told-in k p e (failed f) tt t h
 
 module _ (table : List ℕ) (a : Accepted (tableOf table)) where
   abbrev w : Table
@@ -230,6 +249,7 @@ module _ (table : List ℕ) (a : Accepted (tableOf table)) where
         let x = getElem? (parameters w) k in
         let f = isFit (readingVerdict x bs) in
         read-in w a n s k x refl bs t (time-low t (lowest-none _ z 0)) (not-false f (no-fault 14 (not f) (lowest-none _ z 2)))
+    effected (Unreadable k x t) z = unread-in w a n s k (getElem? (parameters w) k) refl (faultOf x) t (time-low t (lowest-none _ z 0))
 
     pub stepped : (e : Call) → Kept w (step table n e .0) (step table n e .1 .records)
     unfolding step stepIf settle

@@ -12,6 +12,7 @@ use Rattle.datainfo.specs.Datainfo.{Datainfo}
 use Rattle.fit.specs.Fit.{isStored}
 use Rattle.form.specs.Theorems.{InTable}
 use Rattle.message.specs.Line.{Line, whole, overlong}
+use Rattle.message.specs.Reply.{Held, valued, failed}
 use Rattle.table.specs.Table.{Parameter, Command, Table}
 use Rattle.table.specs.Layout.{tableOf}
 use Rattle.table.specs.Search.{Placed, parameters, commands}
@@ -32,9 +33,14 @@ abbrev pub ClientHeld : Table → Client → Type 0
 ClientHeld w closed = Unit {0}
 ClientHeld w (connected l a) = LineHeld l × ((i : ℕ) → length (w .modules) ≤ i → a i ≡ false)
 
--- a value is in stored form and fits its datainfo, and its time is within the limit
+-- a value is in stored form and fits its datainfo; an error has one of the four classes, so nothing is asked of it
+abbrev pub HeldFits : Parameter → Held → Type 0
+HeldFits p (valued v) = isStored (p .datainfo) v ≡ true
+HeldFits p (failed f) = Unit {0}
+
+-- and the time is within the limit
 abbrev pub ValueHeld : Parameter → Value → Type 0
-ValueHeld p v = (isStored (p .datainfo) (v .text) ≡ true) × (v .time ≤ latest)
+ValueHeld p v = HeldFits p (v .held) × (v .time ≤ latest)
 
 -- the contrary of document 01's "State is unfit if", of what a plain node holds
 pub record Sound (w : Table) (n : Node) : Type 0 where
@@ -50,7 +56,7 @@ pub record DatainfosInTable : Type 0 where
   pub ofArguments : (table : List ℕ) → tableNumber table ≡ 0 → (k : ℕ) (c : Placed Command) → getElem? (commands (tableOf table)) k ≡ some c
       → (d : Datainfo) → c .it .argument ≡ some d → InTable d
 
--- The plain node only ever holds values in stored form that fit their datainfo, with times within the limit; and so on for the rest.
+-- The plain node only ever holds values in stored form that fit their datainfo, or errors, with times within the limit; and so on for the rest.
 abbrev pub AlwaysSound : Type 0
 AlwaysSound = (table : List ℕ) (area time : ℕ) → startNumber table area time ≡ 0 → (h : List Call)
     → Sound (tableOf table) (finish table (begin (tableOf table) time) h)

@@ -1,4 +1,5 @@
--- Laws of stored values: what is shown, and that a value that is stored is shown from then on and no other is changed. Assumes nothing.
+-- Laws of stored values: what is shown, and that a value that is stored, or an error, is shown from then on and no other is changed. Assumes
+-- nothing.
 use Prim.Native.Nat.{ℕ, zero, suc, _+_, _*_, _-_, _≤_, _<_}
 use native.Mathlib.Nat.{add-zero, add-suc, suc-add, zero-add}
 use native.Mathlib.Omega.{arith}
@@ -19,9 +20,11 @@ use Rattle.table.specs.Search.{Placed}
 use Rattle.table.specs.declared.layout.Part.{Part}
 use Rattle.table.specs.At.{bytesOf}
 use Rattle.table.proofs.Accessibles.{in-some}
-use Rattle.plain.specs.Node.{put, showing}
+use Rattle.message.specs.Error.{Fault, HardwareError, CommunicationFailed, ReadFailed, OutOfRange, faultNumber, faultOf}
+use Rattle.message.specs.Reply.{failed, heldAs}
+use Rattle.plain.specs.Node.{Value, put, holding, showing}
 use Rattle.state.specs.declared.Settings.{Settings}
-use Rattle.state.specs.View.{storedText, shown, shownBytes, valueAt, withStored, withLength}
+use Rattle.state.specs.View.{storedText, shown, shownBytes, valueAt, withStored, withLength, withError}
 use Rattle.state.specs.Fit.{settingUnfit, settingsUnfit}
 use Rattle.state.proofs.Settings.{the-type, the-field}
 use Rattle.ascii.proofs.Lists.{neither}
@@ -72,33 +75,82 @@ module _ (s : Settings) (values : List ℕ) where
     all-fit h = to-fit ps 0 (λ p x e. subst (λ (k : ℕ). FitAt k x) (sym (zero-add p)) (h p x e))
 
 -- the parts of a fit setting
-pub record Fit (n : ℕ) (text : List ℕ) (time : ℕ) (x : Placed Parameter) : Type 0 where
+pub record Fit (n : ℕ) (text : List ℕ) (time error : ℕ) (x : Placed Parameter) : Type 0 where
   pub short : n ≤ 256
   pub form : not (eqb n 0) && not (isStored (x .it .datainfo) text) ≡ false
   pub inTime : time ≤ latest
+  pub class : error ≤ 4
 
-pub fit-parts : (s : Settings) (values : List ℕ) (p : ℕ) (x : Placed Parameter) → FitAt s values p x → Fit (getD (s .length) p 0) (storedText s values p) (getD (s .time) p 0) x
+pub fit-parts :
+    (s : Settings) (values : List ℕ) (p : ℕ) (x : Placed Parameter) → FitAt s values p x
+    → Fit (getD (s .length) p 0) (storedText s values p) (getD (s .time) p 0) (getD (s .error) p 0) x
 unfolding settingUnfit
 fit-parts s values p x h =
     let n = getD (s .length) p 0 in
-    let a = neither (ltb 256 n || (not (eqb n 0) && not (isStored (x .it .datainfo) (storedText s values p)))) _ h in
+    let form = not (eqb n 0) && not (isStored (x .it .datainfo) (storedText s values p)) in
+    let e = neither (ltb 256 n || form || ltb latest (getD (s .time) p 0)) _ h in
+    let a = neither (ltb 256 n || form) _ (e .0) in
     let b = neither (ltb 256 n) _ (a .0) in
-    record { short = ltb-false 256 n (b .0); form = b .1; inTime = ltb-false latest (getD (s .time) p 0) (a .1) }
+    record {
+      short = ltb-false 256 n (b .0);
+      form = b .1;
+      inTime = ltb-false latest (getD (s .time) p 0) (a .1);
+      class = ltb-false 4 (getD (s .error) p 0) (e .1);
+    }
 
--- ## A value is stored
+-- ## One setting alters, and no other
 
 -- how many elements the arrays have
 pub record Sized (s : Settings) : Type 0 where
   pub size : length (s .length) ≡ 64
+  pub error : length (s .error) ≡ 64
   pub time : length (s .time) ≡ 64
 
 -- as the fields of a struct are handed to a proof
 pub settings-sized : (s : Settings) {v : List Val} → shadow (the-field .row .own (the-type .to s) v) → Sized s
-settings-sized s g = record { size = length-unmapped ℕ (s .length) 64 (g .1 .1 .0 .1 .0 .1); time = length-unmapped ℕ (s .time) 64 (g .1 .1 .1 .0 .1 .0 .1) }
+settings-sized s g =
+    let fs = g .1 .1 in
+    record {
+      size = length-unmapped ℕ (s .length) 64 (fs .0 .1 .0 .1);
+      error = length-unmapped ℕ (s .error) 64 (fs .1 .0 .1 .0 .1);
+      time = length-unmapped ℕ (s .time) 64 (fs .1 .1 .0 .1 .0 .1);
+    }
+
+-- with parameter k, which is x, holding v, and nothing else altered for the plain node
+module _ (table : List ℕ) (s r : Settings) (values stored : List ℕ) (ps : List (Placed Parameter)) (k : ℕ) (x : Placed Parameter) (at : getElem? ps k ≡ some x) where
+  pub one-view : (v : Value) → valueAt table r stored k (some x) ≡ v
+      → ((p : ℕ) (y : Placed Parameter) → getElem? ps p ≡ some y → (p ≡ k → ⊥) → valueAt table r stored p (some y) ≡ valueAt table s values p (some y))
+      → (p : ℕ) → valueAt table r stored p (getElem? ps p) ≡ put (λ q. valueAt table s values q (getElem? ps q)) k v p
+  unfolding put valueAt
+  one-view v own others p = go (eqb p k) (eqb-true p k) (eqb-false p k)
+    where
+      other : (p ≡ k → ⊥) → (o : Option (Placed Parameter)) → getElem? ps p ≡ o → valueAt table r stored p o ≡ valueAt table s values p o
+      other n none e = refl
+      other n (some y) e = others p y e n
+
+      go : (t : Bool) → (t ≡ true → p ≡ k) → (t ≡ false → p ≡ k → ⊥)
+          → valueAt table r stored p (getElem? ps p) ≡ cond t v (valueAt table s values p (getElem? ps p))
+      go true a b = rw (a refl, at) own
+      go false a b = other (b refl) (getElem? ps p) refl
+
+  pub one-fit : FitAt r stored k x
+      → ((p : ℕ) (y : Placed Parameter) → getElem? ps p ≡ some y → (p ≡ k → ⊥) → FitAt r stored p y) → settingsUnfit r stored 0 ps ≡ false
+  one-fit own others = all-fit r stored ps (λ p y e. go p y e (eqb p k) (eqb-true p k) (eqb-false p k))
+    where
+      go : (p : ℕ) (y : Placed Parameter) → getElem? ps p ≡ some y → (t : Bool) → (t ≡ true → p ≡ k) → (t ≡ false → p ≡ k → ⊥) → FitAt r stored p y
+      go p y e true a b =
+          let same : x ≡ y = in-some (sym at ∙ ap (getElem? ps) (sym (a refl)) ∙ e) in
+          subst (λ (q : ℕ). FitAt r stored q y) (sym (a refl)) (subst (FitAt r stored k) same own)
+      go p y e false a b = others p y e (b refl)
+
+-- ## A value is stored
 
 module _ (s : Settings) (z : Sized s) (values : List ℕ) (room : 16384 ≤ length values) (k : ℕ) (h : k < 64) (text : List ℕ) (some-bytes : 0 < length text) (short : length text ≤ 256) (time : ℕ) where
   lengths : Changed (s .length) (set (s .length) k (length text)) k (length text)
   lengths = changed (s .length) k (length text) (rw (z .size) h)
+
+  errors : Changed (s .error) (set (s .error) k 0) k 0
+  errors = changed (s .error) k 0 (rw (z .error) h)
 
   times : Changed (s .time) (set (s .time) k time) k time
   times = changed (s .time) k time (rw (z .time) h)
@@ -117,44 +169,69 @@ module _ (s : Settings) (z : Sized s) (values : List ℕ) (room : 16384 ≤ leng
 
   -- the value that is shown, and the others
   own-value : (table : List ℕ) (x : Placed Parameter) → valueAt table (withLength s k (length text) time) (withStored values k text) k (some x) ≡ showing text time
-  unfolding valueAt shown
-  own-value table x = rw (lengths .own, ne-eqb (length text) 0 (λ e. omega arith), own-text, times .own)
+  unfolding valueAt shown faultOf
+  own-value table x = rw (errors .own, lengths .own, ne-eqb (length text) 0 (λ e. omega arith), own-text, times .own)
 
   other-value-at : (table : List ℕ) (p : ℕ) (x : Placed Parameter) → (p ≡ k → ⊥) → getD (s .length) p 0 ≤ 256 → valueAt table (withLength s k (length text) time) (withStored values k text) p (some x) ≡ valueAt table s values p (some x)
   unfolding valueAt shown
-  other-value-at table p x n l = rw (lengths .others p n, other-text p n l, times .others p n)
+  other-value-at table p x n l = rw (errors .others p n, lengths .others p n, other-text p n l, times .others p n)
 
   module _ (ps : List (Placed Parameter)) (fit : settingsUnfit s values 0 ps ≡ false) (x : Placed Parameter) (at : getElem? ps k ≡ some x) where
+    short-at : (p : ℕ) (y : Placed Parameter) → getElem? ps p ≡ some y → getD (s .length) p 0 ≤ 256
+    short-at p y e = fit-parts s values p y (each-fit s values ps fit p y e) .short
+
     -- the values of the plain node that the state stands for
     pub stored-view : (table : List ℕ) (p : ℕ)
         → valueAt table (withLength s k (length text) time) (withStored values k text) p (getElem? ps p)
         ≡ put (λ q. valueAt table s values q (getElem? ps q)) k (showing text time) p
-    unfolding put valueAt
-    stored-view table p = go (eqb p k) (eqb-true p k) (eqb-false p k)
-      where
-        other : (p ≡ k → ⊥) → (o : Option (Placed Parameter)) → getElem? ps p ≡ o → valueAt table (withLength s k (length text) time) (withStored values k text) p o ≡ valueAt table s values p o
-        other n none e = refl
-        other n (some y) e = other-value-at table p y n (fit-parts s values p y (each-fit s values ps fit p y e) .short)
-
-        go : (t : Bool) → (t ≡ true → p ≡ k) → (t ≡ false → p ≡ k → ⊥)
-            → valueAt table (withLength s k (length text) time) (withStored values k text) p (getElem? ps p)
-            ≡ cond t (showing text time) (valueAt table s values p (getElem? ps p))
-        go true a b = rw (a refl, at) (own-value table x)
-        go false a b = other (b refl) (getElem? ps p) refl
+    stored-view table =
+        one-view table s (withLength s k (length text) time) values (withStored values k text) ps k x at (showing text time) (own-value table x)
+        (λ p y e n. other-value-at table p y n (short-at p y e))
 
     pub stored-fit : isStored (x .it .datainfo) text ≡ true → time ≤ latest → settingsUnfit (withLength s k (length text) time) (withStored values k text) 0 ps ≡ false
     unfolding settingUnfit
-    stored-fit st tm = all-fit (withLength s k (length text) time) (withStored values k text) ps (λ p y e. go p y e (eqb p k) (eqb-true p k) (eqb-false p k))
-      where
-        own : FitAt (withLength s k (length text) time) (withStored values k text) k x
-        own = rw (lengths .own, own-text, times .own, st, le-ltb 256 (length text) short, le-ltb latest time tm, ne-eqb (length text) 0 (λ e. omega arith))
+    stored-fit st tm =
+        one-fit [] s (withLength s k (length text) time) values (withStored values k text) ps k x at
+        (rw (lengths .own, own-text, times .own, errors .own, st, le-ltb 256 (length text) short, le-ltb latest time tm, ne-eqb (length text) 0 (λ e. omega arith)))
+        (λ p y e n. rw (lengths .others p n, other-text p n (short-at p y e), times .others p n, errors .others p n) (each-fit s values ps fit p y e))
 
-        go : (p : ℕ) (y : Placed Parameter) → getElem? ps p ≡ some y → (t : Bool) → (t ≡ true → p ≡ k) → (t ≡ false → p ≡ k → ⊥) → FitAt (withLength s k (length text) time) (withStored values k text) p y
-        go p y e true a b =
-            let same : x ≡ y = in-some (sym at ∙ ap (getElem? ps) (sym (a refl)) ∙ e) in
-            subst (λ (q : ℕ). FitAt (withLength s k (length text) time) (withStored values k text) q y) (sym (a refl))
-            (subst (FitAt (withLength s k (length text) time) (withStored values k text) k) same own)
-        go p y e false a b =
-            let old = each-fit s values ps fit p y e in
-            let n = b refl in
-            rw (lengths .others p n, other-text p n (fit-parts s values p y old .short), times .others p n) old
+-- ## A parameter is reported unreadable
+
+-- the number of a class is its number
+pub numbered : (f : Fault) → faultOf (faultNumber f) ≡ some f
+unfolding faultOf faultNumber
+numbered HardwareError = refl
+numbered CommunicationFailed = refl
+numbered ReadFailed = refl
+numbered OutOfRange = refl
+
+number-low : (f : Fault) → faultNumber f ≤ 4
+unfolding faultNumber
+number-low HardwareError = omega arith
+number-low CommunicationFailed = omega arith
+number-low ReadFailed = omega arith
+number-low OutOfRange = omega arith
+
+module _ (s : Settings) (z : Sized s) (values : List ℕ) (k : ℕ) (h : k < 64) (f : Fault) (time : ℕ) where
+  classes : Changed (s .error) (set (s .error) k (faultNumber f)) k (faultNumber f)
+  classes = changed (s .error) k (faultNumber f) (rw (z .error) h)
+
+  since : Changed (s .time) (set (s .time) k time) k time
+  since = changed (s .time) k time (rw (z .time) h)
+
+  module _ (ps : List (Placed Parameter)) (fit : settingsUnfit s values 0 ps ≡ false) (x : Placed Parameter) (at : getElem? ps k ≡ some x) where
+    pub failed-view : (table : List ℕ) (p : ℕ)
+        → valueAt table (withError s k (faultNumber f) time) values p (getElem? ps p) ≡ put (λ q. valueAt table s values q (getElem? ps q)) k (holding (failed f) time) p
+    unfolding valueAt shown storedText
+    failed-view table =
+        one-view table s (withError s k (faultNumber f) time) values values ps k x at (holding (failed f) time)
+        (rw (classes .own, numbered f, since .own))
+        (λ p y e n. rw (classes .others p n, since .others p n))
+
+    pub failed-fit : time ≤ latest → settingsUnfit (withError s k (faultNumber f) time) values 0 ps ≡ false
+    unfolding settingUnfit storedText
+    failed-fit tm =
+        let old = fit-parts s values k x (each-fit s values ps fit k x at) in
+        one-fit [] s (withError s k (faultNumber f) time) values values ps k x at
+        (rw (classes .own, since .own, le-ltb 256 (getD (s .length) k 0) (old .short), old .form, le-ltb latest time tm, le-ltb 4 (faultNumber f) (number-low f)))
+        (λ p y e n. rw (classes .others p n, since .others p n) (each-fit s values ps fit p y e))

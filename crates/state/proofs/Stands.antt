@@ -11,13 +11,15 @@ use borrow.Author.Tests.{ltb-true, ltb-false, not-false}
 use Rattle.ascii.specs.Bytes.{all, any}
 use Rattle.fit.specs.Fit.{isStored}
 use Rattle.message.specs.Line.{whole, overlong}
+use Rattle.message.specs.Error.{Fault, faultOf}
+use Rattle.message.specs.Reply.{heldAs}
 use Rattle.table.specs.Table.{Parameter, Table}
 use Rattle.table.specs.Layout.{readTable, orEmpty, tableOf}
 use Rattle.table.specs.Search.{Placed, parameters}
 use Rattle.table.proofs.Places.{initial-lies}
 use Rattle.report.specs.Judge.{numberOf, tableNumber}
 use Rattle.plain.specs.Node.{closed, connected, clientNumbers}
-use Rattle.sound.specs.Theorems.{LineHeld, ClientHeld, ValueHeld, Sound}
+use Rattle.sound.specs.Theorems.{LineHeld, ClientHeld, HeldFits, ValueHeld, Sound}
 use Rattle.sound.proofs.Lists.{each-at}
 use Rattle.sound.proofs.Accepted.{GoodParameter, accepted}
 use Rattle.state.specs.declared.Clients.{Clients}
@@ -84,9 +86,13 @@ module _ (table : List ℕ) (e : tableNumber table ≡ 0) (s : State) (values : 
   pub value-held : (k : ℕ) (p : Placed Parameter) → getElem? (parameters (tableOf table)) k ≡ some p → ValueHeld (p .it) (valueAt table (s .settings) values k (getElem? (parameters (tableOf table)) k))
   unfolding valueAt shown
   value-held k p h =
-      rw h (go (eqb (getD (s .settings .length) k 0) 0) (f .form), f .inTime)
+      rw h (either (faultOf (getD (s .settings .error) k 0)) _ (go (eqb (getD (s .settings .length) k 0) 0) (f .form)), f .inTime)
     where
-      f : Settled.Fit (getD (s .settings .length) k 0) (storedText (s .settings) values k) (getD (s .settings .time) k 0) p
+      either : (o : Option Fault) (v : List ℕ) → isStored (p .it .datainfo) v ≡ true → HeldFits (p .it) (heldAs o v)
+      either none v i = i
+      either (some x) v i = tt
+
+      f : Settled.Fit (getD (s .settings .length) k 0) (storedText (s .settings) values k) (getD (s .settings .time) k 0) (getD (s .settings .error) k 0) p
       f = Settled.fit-parts (s .settings) values k p (Settled.each-fit (s .settings) values (parameters (tableOf table)) fit k p h)
 
       initial : isStored (p .it .datainfo) (take (length (p .it .initial)) (drop (p .it .place) table)) ≡ true

@@ -1,4 +1,4 @@
--- When a state is unfit for a table and a values area: number 9 (document 01, "State is unfit if"). Assumes nothing.
+-- When a state is unfit for a table and a values area: number 9 (document 01, "State is unfit if"; M-102). Assumes nothing.
 use Prim.Native.Nat.{ℕ, suc, _/_, _^_}
 use mathlib.Core.Bool.{Bool, false, not, _&&_, _||_}
 use mathlib.Core.List.{List, [], _∷_}
@@ -16,12 +16,13 @@ use Rattle.state.specs.declared.State.{State}
 use Rattle.state.specs.View.{isSet, lineBytes, storedText}
 
 -- "a stored length is over 256 ..": that, or a value is stored (its length is not 0) and is no stored form that fits, or the time is above the
--- limit
+-- limit; "State is also unfit if an error's class is not 1 to 4", where 0 is no error
 unfoldable pub settingUnfit : Settings → List ℕ → ℕ → Parameter → Bool
 settingUnfit s values p x =
     ltb 256 (getD (s .length) p 0)
     || (not (eqb (getD (s .length) p 0) 0) && not (isStored (x .datainfo) (storedText s values p)))
     || ltb latest (getD (s .time) p 0)
+    || ltb 4 (getD (s .error) p 0)
 
 -- of these parameters, of which the first has the number p. "Places past the last parameter are not looked at."
 unfoldable pub settingsUnfit : Settings → List ℕ → ℕ → List (Placed Parameter) → Bool

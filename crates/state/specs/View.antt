@@ -1,5 +1,5 @@
 -- The plain node that a state stands for, with the table and the values area that it is handed in with (document 01, "Numbers a call
--- answers with"). Assumes nothing.
+-- answers with"; M-102). Assumes nothing.
 use Prim.Native.Nat.{ℕ, _*_, _/_, _%_, _^_}
 use mathlib.Core.Bool.{Bool, cond, not}
 use mathlib.Core.List.{List, [], _∷_}
@@ -8,13 +8,15 @@ use lib.Dec.{eqb}
 use lib.ListN.{length, getD, set, take, drop, getElem?}
 use lib.Seq.{sets}
 use Rattle.message.specs.Line.{Line, whole, overlong}
+use Rattle.message.specs.Error.{faultNumber, faultOf}
+use Rattle.message.specs.Reply.{Held, valued, failed, heldAs}
 use Rattle.table.specs.Table.{Parameter}
 use Rattle.table.specs.At.{bytesOf}
 use Rattle.table.specs.declared.layout.Part.{Part}
 use Rattle.table.specs.Layout.{tableOf}
 use Rattle.table.specs.Search.{Placed, parameters}
 use Rattle.outbox.specs.Outbox.{Record, encodeAll}
-use Rattle.plain.specs.Node.{Client, closed, connected, Value, Node, Setting, showing}
+use Rattle.plain.specs.Node.{Client, closed, connected, Value, Node, Setting, holding, showing}
 use Rattle.state.specs.declared.Clients.{Clients}
 use Rattle.state.specs.declared.Settings.{Settings}
 use Rattle.state.specs.declared.State.{State}
@@ -57,10 +59,12 @@ shown table s values p x =
 unfoldable pub shownBytes : List ℕ → Settings → List ℕ → ℕ → Part → List ℕ
 shownBytes table s values p initial = cond (eqb (getD (s .length) p 0) 0) (bytesOf table initial) (storedText s values p)
 
--- past the last parameter nothing is looked at
+-- "holds either a value or such an error, with its time" (M-102): while there is one, the value is not shown. Past the last parameter nothing is
+-- looked at
 unfoldable pub valueAt : List ℕ → Settings → List ℕ → ℕ → Option (Placed Parameter) → Value
 valueAt table s values p none = showing [] 0
-valueAt table s values p (some x) = showing (shown table s values p (x .it)) (getD (s .time) p 0)
+valueAt table s values p (some x) =
+    holding (heldAs (faultOf (getD (s .error) p 0)) (shown table s values p (x .it))) (getD (s .time) p 0)
 
 -- a state with other clients; with other settings
 abbrev pub nextClients : State → Clients → State
@@ -80,19 +84,33 @@ view table s values =
 unfoldable pub withStored : List ℕ → ℕ → List ℕ → List ℕ
 withStored values p text = sets values (placeOf p) text
 
--- "A stored value carries the time of the event that set it.": lengths and times after parameter p was set to a value of so many bytes
+-- "A stored value carries the time of the event that set it.": lengths, errors and times after parameter p was set to a value of so many bytes.
+-- "The next value stored clears it", the error
 abbrev pub withLength : Settings → ℕ → ℕ → ℕ → Settings
-withLength s p size time = record { length = set (s .length) p size; time = set (s .time) p time }
+withLength s p size time = record { length = set (s .length) p size; error = set (s .error) p 0; time = set (s .time) p time }
+
+-- after parameter p was reported unreadable, with the number of a class: what is stored stays
+abbrev pub withError : Settings → ℕ → ℕ → ℕ → Settings
+withError s p class time = record { length = s .length; error = set (s .error) p class; time = set (s .time) p time }
+
+-- a setting to a value or to an error. "the values area isn't written" by an error
+unfoldable pub withHeld : List ℕ → ℕ → Held → List ℕ
+withHeld values p (valued v) = withStored values p v
+withHeld values p (failed f) = values
+
+unfoldable pub withSetting : Settings → ℕ → Held → ℕ → Settings
+withSetting s p (valued v) t = withLength s p (length v) t
+withSetting s p (failed f) t = withError s p (faultNumber f) t
 
 -- the values area, where what is set is stored, one setting after another, and nothing else is written
 unfoldable pub areaWith : List ℕ → List Setting → List ℕ
 areaWith values [] = values
-areaWith values (x ∷ xs) = areaWith (withStored values (x .parameter) (x .text)) xs
+areaWith values (x ∷ xs) = areaWith (withHeld values (x .parameter) (x .held)) xs
 
--- lengths and times, where what is set gets its time
+-- lengths, errors and times, where what is set gets its time
 unfoldable pub settingsWith : Settings → List Setting → Settings
 settingsWith s [] = s
-settingsWith s (x ∷ xs) = settingsWith (withLength s (x .parameter) (length (x .text)) (x .time)) xs
+settingsWith s (x ∷ xs) = settingsWith (withSetting s (x .parameter) (x .held) (x .time)) xs
 
 -- "An accepted call leaves outbox bytes past its written length untouched.": the outbox after a call that writes these records, and the
 -- written length

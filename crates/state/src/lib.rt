@@ -15,10 +15,12 @@ pub struct Clients {
     pub lines: [u8; 8192],
 }
 
-// Of each parameter: the length of its stored value (0: never set) and its time.
+// Of each parameter: the length of its stored value (0: never set), the class of the error in the value's place (0: none), and the time of the
+// value or of the error.
 #[repr(C)]
 pub struct Settings {
     pub length: [u16; 64],
+    pub error: [u8; 64],
     pub time: [u64; 64],
 }
 

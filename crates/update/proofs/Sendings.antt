@@ -5,6 +5,7 @@ use native.Mathlib.Omega.{arith}
 use mathlib.Core.Path.{_≡_, refl, sym, ap, _∙_}
 use mathlib.Core.Bool.{Bool, true, false, cond}
 use mathlib.Core.List.{List, [], _∷_, _++_, append-assoc, append-nil}
+use mathlib.Core.Option.{Option}
 use lib.ListN.{length, drop, length-append, drop-of-length-le}
 use lib.Dec.{eqb}
 use lib.Seq.{drop-cons}
@@ -12,9 +13,10 @@ use Rattle.ascii.specs.Text.{bytes}
 use Rattle.ascii.specs.Writer.{Puts}
 use Rattle.ascii.proofs.Puts.{puts-length, puts-both}
 use Rattle.ascii.proofs.Decimal.{seconds-low}
-use Rattle.message.specs.Reply.{Report, updateLine}
+use Rattle.message.specs.Error.{Fault}
+use Rattle.message.specs.Reply.{Held, valued, failed, heldAs, Report, updateWord, updateLine}
 use Rattle.message.specs.Said.{reportOf}
-use Rattle.message.proofs.Said.{data-length, report-length}
+use Rattle.message.proofs.Said.{held-short, report-length}
 use Rattle.outbox.specs.Outbox.{Record, update, body, encode, encodeAll}
 use Rattle.outbox.specs.Written.{RoomFor}
 use Rattle.plain.specs.Node.{Client, isActive, clientNumbers, updatesTo}
@@ -63,15 +65,22 @@ module _ {d : List ℕ} {at : ℕ} {all : List Record} {e : List ℕ} {p : ℕ} 
 
 -- ## An update
 
-update-short : (m a v : List ℕ) (t : ℕ) → length m + length a + length v ≤ 1024 → t < 2 ^ 64 → length (updateLine (reportOf m a v t) ++ bytes "\n") ≤ 65535
-unfolding updateLine bytes
-update-short m a v t h k = simp length-append (omega (arith, seconds-low t k, data-length v t, report-length m a v t))
+word-short : (v : Held) → length (updateWord v) ≤ 13
+unfolding updateWord bytes
+word-short (valued v) = omega arith
+word-short (failed f) = omega arith
 
-pub room-update :
-    (d : List ℕ) (at c : ℕ) (m a v : List ℕ) (t : ℕ) → length m + length a + length v ≤ 1024 → t < 2 ^ 64
-    → at + length (encodeAll (update c (reportOf m a v t) ∷ [])) ≤ length d → RoomFor d at (update c (reportOf m a v t))
-unfolding body
-room-update d at c m a v t h k l = record { fits = rw (encode-one (update c (reportOf m a v t))) at l; short = update-short m a v t h k }
+module _ (m a : List ℕ) (o : Option Fault) (v : List ℕ) (t : ℕ) where
+  update-short : length m + length a + length v ≤ 1024 → t < 2 ^ 64 → length (updateLine (reportOf m a (heldAs o v) t) ++ bytes "\n") ≤ 65535
+  unfolding updateLine bytes
+  update-short h k =
+      simp length-append (omega (arith, seconds-low t k, word-short (heldAs o v), held-short o v t, report-length m a (heldAs o v) t))
+
+  room-update :
+      (d : List ℕ) (at c : ℕ) → length m + length a + length v ≤ 1024 → t < 2 ^ 64
+      → at + length (encodeAll (update c (reportOf m a (heldAs o v) t) ∷ [])) ≤ length d → RoomFor d at (update c (reportOf m a (heldAs o v) t))
+  unfolding body
+  room-update d at c h k l = record { fits = rw (encode-one (update c (reportOf m a (heldAs o v) t))) at l; short = update-short h k }
 
 -- ## Updates to one client and the next
 
@@ -98,9 +107,9 @@ module _ (f : ℕ → Client) (i c : ℕ) (b : Bool) (h : b ≡ isActive (f c) i
   is-update : (r : Report) → b ≡ true → updatesTo f i r (c ∷ []) ≡ update c r ∷ []
   is-update r e = updates-cond f i r c ∙ rw (← h, e)
 
-  pub to-room : (d : List ℕ) (at : ℕ) (m a v : List ℕ) (t : ℕ) → b ≡ true → length m + length a + length v ≤ 1024 → t < 2 ^ 64
-      → at + length (encodeAll (updatesTo f i (reportOf m a v t) (c ∷ []))) ≤ length d → RoomFor d at (update c (reportOf m a v t))
-  to-room d at m a v t e s k l = room-update d at c m a v t s k (rw (is-update (reportOf m a v t) e) at l)
+  pub to-room : (d : List ℕ) (at : ℕ) (m a : List ℕ) (o : Option Fault) (v : List ℕ) (t : ℕ) → b ≡ true → length m + length a + length v ≤ 1024 → t < 2 ^ 64
+      → at + length (encodeAll (updatesTo f i (reportOf m a (heldAs o v) t) (c ∷ []))) ≤ length d → RoomFor d at (update c (reportOf m a (heldAs o v) t))
+  to-room d at m a o v t e s k l = room-update m a o v t d at c s k (rw (is-update (reportOf m a (heldAs o v) t) e) at l)
 
   pub to-active : (r : Report) {d e : List ℕ} {at p : ℕ} → b ≡ true → Puts d at (encode (update c r)) e p
       → Puts d at (encodeAll (updatesTo f i r (c ∷ []))) e p

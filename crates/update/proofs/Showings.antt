@@ -5,15 +5,17 @@ use native.Mathlib.Numerals.{add-one}
 use native.Mathlib.Omega.{arith}
 use mathlib.Core.Bool.{Bool, true, false, cond, not}
 use mathlib.Core.List.{List, [], _∷_, _++_}
-use mathlib.Core.Option.{some}
+use mathlib.Core.Option.{Option, some}
 use mathlib.Core.Path.{_≡_, refl, sym, ap, subst, _∙_}
 use lib.Dec.{eqb}
-use lib.ListN.{length, getD, drop, getElem?}
+use lib.ListN.{length, getD, drop, getElem?, length-append}
 use borrow.Author.Tests.{not-true, not-false}
 use Rattle.ascii.specs.Writer.{Puts}
-use Rattle.message.specs.Reply.{Report}
+use Rattle.ascii.specs.Text.{bytes}
+use Rattle.message.specs.Error.{Fault, faultOf}
+use Rattle.message.specs.Reply.{heldAs, Report}
 use Rattle.message.specs.Said.{reportOf}
-use Rattle.outbox.specs.Outbox.{Record, update, encode, encodeAll}
+use Rattle.outbox.specs.Outbox.{Record, update, body, encode, encodeAll}
 use Rattle.outbox.specs.Written.{RoomFor}
 use Rattle.table.specs.Table.{Parameter}
 use Rattle.table.specs.Layout.{tableOf}
@@ -28,10 +30,10 @@ use Rattle.search.specs.Found.{ParameterNumbered}
 use Rattle.search.proofs.Finds.{Counted, counted-parameters, number-end, number-is, number-on}
 use Rattle.report.specs.Judge.{tableNumber}
 use Rattle.plain.specs.Node as Node
-use Rattle.plain.specs.Node.{Value, updatesOf, showing, noneOpen}
+use Rattle.plain.specs.Node.{Value, updatesOf, holding, noneOpen}
 use Rattle.sound.specs.Theorems.{Sound}
 use Rattle.sound.proofs.Accepted.{accepted}
-use Rattle.sound.proofs.Records.{Fine, name-short, written-of}
+use Rattle.sound.proofs.Records.{Fine, update-short, written-of}
 use Rattle.sound.proofs.Steps.{fine}
 use Rattle.sound.proofs.Room.{encode-one, puts-none}
 use Rattle.state.specs.declared.Settings.{Settings}
@@ -46,7 +48,7 @@ use Rattle.outcome.specs.Ready.{Ready}
 use Rattle.update.specs.declared.Scope.{Scope}
 use Rattle.update.specs.Scope.{wanted}
 use Rattle.update.specs.Updatable.{shownReport, Updatable}
-use Rattle.update.proofs.Sendings.{Going, going-start, going-room, going-on, going-end, going-length, room-update}
+use Rattle.update.proofs.Sendings.{Going, going-start, going-room, going-on, going-end, going-length}
 
 -- ## One parameter
 
@@ -60,26 +62,23 @@ module _ (table : List ℕ) (s : Settings) (values out : List ℕ) (at c : ℕ) 
   unwanted z = rw (← h, not-true b z) (puts-none out)
 
   -- what the code has for the names and for the value
-  module _ (z : not b ≡ false) (m a v : List ℕ) (hm : m ≡ bytesOf table (e .name)) (ha : a ≡ bytesOf table (q .name)) (hv : v ≡ shownBytes table s values k (q .initial)) where
-    same-report : shownReport table s values k q e ≡ reportOf m a v (getD (s .time) k 0)
+  module _ (z : not b ≡ false) (m a v : List ℕ) (o : Option Fault) (hm : m ≡ bytesOf table (e .name)) (ha : a ≡ bytesOf table (q .name))
+      (hv : v ≡ shownBytes table s values k (q .initial)) (ho : o ≡ faultOf (getD (s .error) k 0)) where
+    same-report : shownReport table s values k q e ≡ reportOf m a (heldAs o v) (getD (s .time) k 0)
     unfolding shownReport
-    same-report = rw (hm, ha, hv)
+    same-report = rw (hm, ha, hv, ho)
 
-    pub shown-room : Updatable table s values out at c scope k q e → RoomFor out at (update c (reportOf m a v (getD (s .time) k 0)))
+    pub shown-room : Updatable table s values out at c scope k q e → RoomFor out at (update c (reportOf m a (heldAs o v) (getD (s .time) k 0)))
     shown-room g = rw same-report at (g .room (sym h ∙ not-false b z))
 
-    pub shown-put : {f : List ℕ} {p : ℕ} → Puts out at (encode (update c (reportOf m a v (getD (s .time) k 0)))) f p
+    pub shown-put : {f : List ℕ} {p : ℕ} → Puts out at (encode (update c (reportOf m a (heldAs o v) (getD (s .time) k 0)))) f p
         → Puts out at (encodeAll (updateIf scope c e (shownReport table s values k q e))) f p
     shown-put x = rw (← h, not-false b z, encode-one (update c (shownReport table s values k q e)), same-report) x
 
 -- room for the update of a fine report
 fine-room : (d : List ℕ) (at c : ℕ) (r : Report) → Fine r → at + length (encodeAll (update c r ∷ [])) ≤ length d → RoomFor d at (update c r)
-fine-room d at c r f h =
-    let m = name-short (r .moduleName) (f .names .0) in
-    let a = name-short (r .accessible) (f .names .1) in
-    let v = f .small in
-    let t = f .inTime in
-    room-update d at c (r .moduleName) (r .accessible) (r .value) (r .time) (omega arith) (omega arith) h
+unfolding body bytes
+fine-room d at c r f h = record { fits = rw (encode-one (update c r)) at h; short = simp length-append (omega (arith, update-short r f)) }
 
 -- ## All parameters
 
@@ -131,11 +130,12 @@ module _ (table : List ℕ) (s : Settings) (values : List ℕ) (c : ℕ) (scope 
         there : getElem? (parameters (tableOf table)) k ≡ some it
         there = number .is
 
-        value-is : shownAt k ≡ showing (cond (eqb (getD (s .length) k 0) 0) (it .it .initial) (storedText s values k)) (getD (s .time) k 0)
+        value-is : shownAt k
+            ≡ holding (heldAs (faultOf (getD (s .error) k 0)) (cond (eqb (getD (s .length) k 0) 0) (it .it .initial) (storedText s values k))) (getD (s .time) k 0)
         unfolding valueAt shown
         value-is =
             ap (valueAt table s values k) there
-            ∙ ap (λ (l : List ℕ). showing (cond (eqb (getD (s .length) k 0) 0) l (storedText s values k)) (getD (s .time) k 0))
+            ∙ ap (λ (l : List ℕ). holding (heldAs (faultOf (getD (s .error) k 0)) (cond (eqb (getD (s .length) k 0) 0) l (storedText s values k))) (getD (s .time) k 0))
             (initial-lies table (tableOf table) (was-read table a) k it there)
 
         abbrev own : Report

@@ -4,7 +4,8 @@ use mathlib.Core.Bool.{true}
 use mathlib.Core.List.{List}
 use mathlib.Core.Path.{_≡_}
 use lib.ListN.{length, getD}
-use Rattle.message.specs.Reply.{Report}
+use Rattle.message.specs.Error.{faultOf}
+use Rattle.message.specs.Reply.{heldAs, Report}
 use Rattle.outbox.specs.Outbox.{update}
 use Rattle.outbox.specs.Written.{RoomFor}
 use Rattle.table.specs.declared.layout.ParameterAt.{ParameterAt}
@@ -22,7 +23,7 @@ shownReport table s values k q e =
     record {
       moduleName = bytesOf table (e .name);
       accessible = bytesOf table (q .name);
-      value = shownBytes table s values k (q .initial);
+      held = heldAs (faultOf (getD (s .error) k 0)) (shownBytes table s values k (q .initial));
       time = getD (s .time) k 0;
     }
 

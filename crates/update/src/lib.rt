@@ -6,7 +6,7 @@ ghost use mathlib.Core.List.{[], _∷_};
 ghost use mathlib.Core.Path.{_≡_};
 ghost use lib.ListN.{length};
 ghost use Rattle.ascii.specs.Writer.{Puts};
-ghost use Rattle.message.specs.Said.{reportOf};
+ghost use Rattle.message.specs.Said.{heldBy, reportOf};
 ghost use Rattle.outbox.specs.Outbox.{encodeAll, update};
 ghost use Rattle.table.specs.At.{bytesOf, Inside};
 ghost use Rattle.table.specs.Layout.{tableOf};
@@ -16,6 +16,7 @@ ghost use Rattle.state.specs.View.{clientAt, view};
 ghost use Rattle.outcome.specs.Ready.{Ready};
 ghost use Rattle.update.specs.Scope.{wanted};
 ghost use Rattle.update.specs.Updatable.{shownReport, Updatable};
+use message::say::Sensor;
 use outbox::write::put_update;
 use search::cursor::Cursor;
 use search::cursor::NextParameter;
@@ -25,6 +26,7 @@ use state::Clients;
 use state::Settings;
 use state::State;
 use state::client::is_active;
+use state::setting::sensor_at;
 use state::setting::shown;
 use table::layout::ParameterAt;
 use table::layout::Part;
@@ -44,19 +46,20 @@ fn put_update_to(
     home: usize,
     module: &[u8],
     accessible: &[u8],
+    sensor: Sensor,
     value: &[u8],
     time: u64,
 ) -> usize
-    requires { ⌜ (c < 8) × ((home < 16) × ((at + length (encodeAll (updatesTo (clientAt clients) home (reportOf (now «module») (now accessible) (now value) time) (c ∷ []))) ≤ length (now out)) × (length (now «module») + length (now accessible) + length (now value) ≤ 1024))) ⌝ }
-    ensures { λ r. ⌜ Puts (now (out .entry)) at (encodeAll (updatesTo (clientAt clients) home (reportOf (now («module» .entry)) (now (accessible .entry)) (now (value .entry)) time) (c ∷ []))) (now (out .exit)) r ⌝ }
+    requires { ⌜ (c < 8) × ((home < 16) × ((at + length (encodeAll (updatesTo (clientAt clients) home (reportOf (now «module») (now accessible) (heldBy sensor (now value)) time) (c ∷ []))) ≤ length (now out)) × (length (now «module») + length (now accessible) + length (now value) ≤ 1024))) ⌝ }
+    ensures { λ r. ⌜ Puts (now (out .entry)) at (encodeAll (updatesTo (clientAt clients) home (reportOf (now («module» .entry)) (now (accessible .entry)) (heldBy sensor (now (value .entry))) time) (c ∷ []))) (now (out .exit)) r ⌝ }
 {
     if is_active(clients, c, home) {
-        return put_update(out, at, c as u8, module, accessible, value, time);
+        return put_update(out, at, c as u8, module, accessible, sensor, value, time);
     }
     at
 }
 
-// "an update to each open client with M active ..": of a parameter of the module of number `home`
+// "an update to each open client with M active ..": of a parameter of the module of number `home`, with a value unless its sensor fails
 pub fn put_updates_to(
     out: &mut [u8],
     at: usize,
@@ -64,16 +67,28 @@ pub fn put_updates_to(
     home: usize,
     module: &[u8],
     accessible: &[u8],
+    sensor: Sensor,
     value: &[u8],
     time: u64,
 ) -> usize
-    requires { ⌜ (home < 16) × ((at + length (encodeAll (updatesTo (clientAt clients) home (reportOf (now «module») (now accessible) (now value) time) clientNumbers)) ≤ length (now out)) × (length (now «module») + length (now accessible) + length (now value) ≤ 1024)) ⌝ }
-    ensures { λ r. ⌜ Puts (now (out .entry)) at (encodeAll (updatesTo (clientAt clients) home (reportOf (now («module» .entry)) (now (accessible .entry)) (now (value .entry)) time) clientNumbers)) (now (out .exit)) r ⌝ }
+    requires { ⌜ (home < 16) × ((at + length (encodeAll (updatesTo (clientAt clients) home (reportOf (now «module») (now accessible) (heldBy sensor (now value)) time) clientNumbers)) ≤ length (now out)) × (length (now «module») + length (now accessible) + length (now value) ≤ 1024)) ⌝ }
+    ensures { λ r. ⌜ Puts (now (out .entry)) at (encodeAll (updatesTo (clientAt clients) home (reportOf (now («module» .entry)) (now (accessible .entry)) (heldBy sensor (now (value .entry))) time) clientNumbers)) (now (out .exit)) r ⌝ }
 {
     let mut end = at;
     let mut c = 0;
     while c < 8 {
-        end = put_update_to(out, end, clients, c, home, module, accessible, value, time);
+        end = put_update_to(
+            out,
+            end,
+            clients,
+            c,
+            home,
+            module,
+            accessible,
+            sensor,
+            value,
+            time,
+        );
         c += 1;
     }
     end
@@ -88,7 +103,7 @@ fn wants(scope: Scope, i: usize) -> bool
     }
 }
 
-// The update of one parameter to a client, with the value shown, if the scope has its module.
+// The update of one parameter to a client, with the value shown or the error in its place, if the scope has its module.
 fn put_shown<'a>(
     table: &'a [u8],
     values: &'a [u8],
@@ -114,8 +129,9 @@ fn put_shown<'a>(
     let name = bytes_of(table, own_name);
     let initial = p.initial;
     let value = shown(table, values, settings, k, initial);
+    let sensor = sensor_at(settings, k);
     let times = settings.time;
-    put_update(out, at, client, module, name, value, times[k])
+    put_update(out, at, client, module, name, sensor, value, times[k])
 }
 
 // "an update for each parameter of those modules, table order", to one client, from the front of the outbox on

@@ -59,6 +59,9 @@ fn over_good_tables() -> Vec<(&'static str, Script)> {
         ("refused opens and closes", refused_opens_and_closes()),
         ("refused pieces", refused_pieces()),
         ("refused readings", refused_readings()),
+        ("a broken sensor", broken_sensor()),
+        ("what ends an error", ended_errors()),
+        ("refused reports of a broken sensor", refused_reports()),
         ("the lowest of several numbers", lowest_numbers()),
         ("start too late", late_start()),
         ("start with a short values area", short_start()),
@@ -409,6 +412,58 @@ fn refused_readings() -> Script {
         .reading(0, "10")
         .reading(0, "")
         .line(0, "read t1:p")
+}
+
+/// Who has the module active is told at once and at activation, others when
+/// they ask; the specifier of `error_read` is the one that was sent.
+fn broken_sensor() -> Script {
+    let two = vec![
+        module("t1", vec![three(), parameter("q", Datainfo::Bool, "true")]),
+        module("mf", vec![parameter("r", digit(), "0")]),
+    ];
+    Script::over(encode::table(&table(two)))
+        .start()
+        .open(0)
+        .open(2)
+        .line(2, "activate t1")
+        .unreadable(0, 1)
+        .unreadable(2, 2)
+        .lines(&["read t1:p", "read mf:r:x", "activate"])
+        .unreadable(0, 3)
+}
+
+/// A reading or a change ends an error, a refused one doesn't.
+fn ended_errors() -> Script {
+    started(vec![three()])
+        .open(0)
+        .unreadable(0, 4)
+        .reading(0, "10")
+        .line(0, "change t1:p true")
+        .line(0, "read t1:p")
+        .reading(0, "3")
+        .line(0, "read t1:p")
+        .unreadable(0, 4)
+        .line(0, "activate")
+        .line(0, "change t1:p 3")
+}
+
+/// Class 257 is not 1; a missing parameter comes before an unknown class.
+fn refused_reports() -> Script {
+    started(vec![three()])
+        .open(0)
+        .line(0, "activate")
+        .outbox(SHORT_OUTBOX)
+        .unreadable(0, 1)
+        .values(SHORT_VALUES)
+        .unreadable(0, 1)
+        .at(LATE)
+        .unreadable(0, 1)
+        .unreadable(1, 0)
+        .unreadable(0, 0)
+        .unreadable(0, 5)
+        .unreadable(0, 257)
+        .at(MAX_TIME)
+        .unreadable(0, 4)
 }
 
 /// Calls with several faults.

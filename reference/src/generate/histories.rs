@@ -44,10 +44,11 @@ fn over_faulty_table(random: Random, table: Vec<u8>, calls: usize) -> History {
     let mut host = Host::new(random, &table);
     host.start();
     while host.calls.len() < calls {
-        match host.random.below(4) {
+        match host.random.below(5) {
             0 => host.open(),
             1 => host.close(),
             2 => host.offer(0, b"ping\n".to_vec()),
+            3 => host.fail(0, 1),
             _ => host.report(0, b"1".to_vec()),
         }
     }
@@ -120,6 +121,7 @@ impl Host {
         match self.random.below(24) {
             0..=2 => self.open(),
             3 if self.random.one_in(3) => self.close(),
+            4..=6 if self.random.one_in(4) => self.failure(table),
             4..=6 => self.reading(table),
             7 => self.refused_call(table),
             _ => self.piece(table),
@@ -226,6 +228,34 @@ impl Host {
         self.report(parameter.number as u64, text);
     }
 
+    /// A parameter can't be read; now and then its class is unknown.
+    fn failure(&mut self, table: &Table) {
+        let parameter = self.random.below(table.parameters().len().max(1)) as u64;
+        let class = self.some_class();
+        self.fail(parameter, class);
+    }
+
+    /// A class of 1 to 4, now and then one that is none.
+    pub(super) fn some_class(&mut self) -> u64 {
+        if self.random.one_in(6) {
+            *self.random.pick(&[0, 5, 255, 256, 257, 1 << 32, u64::MAX])
+        } else {
+            self.random.between(1, 4) as u64
+        }
+    }
+
+    pub(super) fn fail(&mut self, parameter: u64, class: u64) {
+        let (values_len, outbox_len) = (self.values_len(), self.outbox_len());
+        let time = self.next_time();
+        self.call(Call::Unreadable {
+            parameter,
+            values_len,
+            outbox_len,
+            time,
+            class,
+        });
+    }
+
     pub(super) fn report(&mut self, parameter: u64, text: Vec<u8>) {
         let (values_len, outbox_len) = (self.values_len(), self.outbox_len());
         let time = self.next_time();
@@ -258,7 +288,7 @@ impl Host {
                 _ => {}
             }
         }
-        let call = match self.random.below(5) {
+        let call = match self.random.below(6) {
             0 => Call::Open {
                 client,
                 values_len,
@@ -275,6 +305,13 @@ impl Host {
                 outbox_len,
                 time,
                 bytes,
+            },
+            4 => Call::Unreadable {
+                parameter,
+                values_len,
+                outbox_len,
+                time,
+                class: self.some_class(),
             },
             _ => Call::Reading {
                 parameter,

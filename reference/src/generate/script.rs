@@ -108,6 +108,16 @@ impl Script {
         lines.iter().fold(self, |script, line| script.line(0, line))
     }
 
+    pub(super) fn unreadable(self, parameter: u64, class: u64) -> Script {
+        self.call(|lent| Call::Unreadable {
+            parameter,
+            values_len: lent.values_len,
+            outbox_len: lent.outbox_len,
+            time: lent.time,
+            class,
+        })
+    }
+
     pub(super) fn reading(self, parameter: u64, text: &str) -> Script {
         self.call(|lent| Call::Reading {
             parameter,

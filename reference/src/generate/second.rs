@@ -1,6 +1,6 @@
 //! Another history with the same course: the same bytes of each client, the
-//! same order of line feeds, readings, opens and closes with their times, but
-//! cut and mingled in another way. Refused calls are left out.
+//! same order of line feeds, readings, reports of unreadable parameters, opens
+//! and closes with their times, but cut and mingled in another way. Refused calls are left out.
 
 use crate::history::{Call, History};
 use crate::line::LINE_FEED;
@@ -27,6 +27,11 @@ enum Event {
         parameter: u64,
         time: u64,
         text: Vec<u8>,
+    },
+    Unreadable {
+        parameter: u64,
+        time: u64,
+        class: u64,
     },
 }
 
@@ -107,6 +112,16 @@ impl Course {
                 parameter: *parameter,
                 time: *time,
                 text: text.clone(),
+            }),
+            Call::Unreadable {
+                parameter,
+                time,
+                class,
+                ..
+            } => self.events.push(Event::Unreadable {
+                parameter: *parameter,
+                time: *time,
+                class: *class,
             }),
             Call::Piece {
                 client,
@@ -194,6 +209,20 @@ impl Writer {
                     outbox_len,
                     time: *time,
                     text: text.clone(),
+                });
+            }
+            Event::Unreadable {
+                parameter,
+                time,
+                class,
+            } => {
+                let (values_len, outbox_len) = (self.length(MIN_VALUES), self.length(MIN_OUTBOX));
+                self.calls.push(Call::Unreadable {
+                    parameter: *parameter,
+                    values_len,
+                    outbox_len,
+                    time: *time,
+                    class: *class,
                 });
             }
         }

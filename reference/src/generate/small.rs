@@ -297,6 +297,9 @@ fn reading(stage: &mut Stage) {
     stage.line(0, format!("read {specifier}"));
     let value = stage.short_value(&datainfo, values::any);
     stage.host.report(number, value);
+    let class = stage.random().between(1, 4) as u64;
+    stage.host.fail(number, class);
+    stage.line(0, format!("read {specifier}:x"));
 }
 
 fn refused_reading(stage: &mut Stage) {
@@ -307,6 +310,9 @@ fn refused_reading(stage: &mut Stage) {
     stage.host.report(number, unfit.as_bytes().to_vec());
     let beyond = *stage.random().pick(&[5, 6, 64, 1 << 32, u64::MAX]);
     stage.host.report(beyond, b"1".to_vec());
+    let class = *stage.random().pick(&[0, 5, 257]);
+    stage.host.fail(number, class);
+    stage.host.fail(beyond, 1);
     stage.line(0, format!("read {specifier}"));
 }
 

@@ -73,6 +73,7 @@ fn every_call_over_a_faulty_table_is_refused_with_its_number() {
         assert_eq!(number(node.close(0, VALUES, 0)), expected);
         assert_eq!(number(node.piece(9, 0, 0, u64::MAX, b"\n")), expected);
         assert_eq!(number(node.reading(99, 0, 0, u64::MAX, b"")), expected);
+        assert_eq!(number(node.unreadable(99, 0, 0, u64::MAX, 0)), expected);
         assert!(node.state().clients.iter().all(|client| !client.open));
     }
 }
@@ -181,6 +182,34 @@ fn readings_refused_from_the_lowest_number_up() {
         number(node.reading(5, VALUES, OUTBOX, 0, longest.as_bytes())),
         0
     );
+}
+
+/// "7 and 14 as for a reading; 16, unknown class, after 15".
+#[test]
+fn reports_of_broken_sensors_refused_from_the_lowest_number_up() {
+    let mut node = started(&lab(), &[0], 0);
+    send(&mut node, 0, 0, "activate");
+    let before = node.state().clone();
+    let refusals = [
+        (6, SMALL_VALUES, SMALL_OUTBOX, LATE, 0, 7),
+        (0, VALUES, SMALL_OUTBOX, 0, 1, 7),
+        (6, SMALL_VALUES, OUTBOX, LATE, 0, 8),
+        (6, VALUES, OUTBOX, LATE, 0, 10),
+        (6, VALUES, OUTBOX, 0, 0, 14),
+        (6, VALUES, OUTBOX, 0, 1, 14),
+        (u64::MAX, VALUES, OUTBOX, 0, 1, 14),
+        (0, VALUES, OUTBOX, 0, 0, 16),
+        (0, VALUES, OUTBOX, 0, 5, 16),
+        (0, VALUES, OUTBOX, 0, 257, 16),
+        (5, VALUES, OUTBOX, 0, (1 << 32) + 1, 16),
+        (5, VALUES, OUTBOX, 0, u64::MAX, 16),
+    ];
+    for (parameter, values_len, outbox_len, time, class, expected) in refusals {
+        let result = node.unreadable(parameter, values_len, outbox_len, time, class);
+        assert_eq!(number(result), expected);
+    }
+    assert_eq!(node.state(), &before);
+    assert_eq!(number(node.unreadable(5, VALUES, OUTBOX, MAX_TIME, 4)), 0);
 }
 
 #[test]

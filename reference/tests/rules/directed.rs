@@ -62,6 +62,12 @@ fn call_line(call: &Call) -> String {
             text: value,
             ..
         } => format!("@{time} reading {parameter} {}", text(value)),
+        Call::Unreadable {
+            parameter,
+            time,
+            class,
+            ..
+        } => format!("@{time} unreadable {parameter} {class}"),
     }
 }
 
@@ -78,6 +84,11 @@ fn ending(call: &Call, answer: &Answer) -> String {
             ..
         } => (*values_len, *outbox_len, bytes.len()),
         Call::Reading {
+            values_len,
+            outbox_len,
+            ..
+        }
+        | Call::Unreadable {
             values_len,
             outbox_len,
             ..
@@ -537,6 +548,88 @@ fn refused_readings() {
         @9000 reading 0  = 15
         @10000 0 > read t1:p\n
         0 < reply t1:p [3,{"t":1.000}]
+        "#,
+    );
+}
+
+#[test]
+fn a_broken_sensor() {
+    assert_course(
+        "a broken sensor",
+        r#"
+        @1000 start
+        @2000 open 0
+        @3000 open 2
+        @4000 2 > activate t1\n
+        2 * update t1:p [3,{"t":1.000}]
+        2 * update t1:q [true,{"t":1.000}]
+        2 < active t1
+        @5000 unreadable 0 1
+        2 * error_update t1:p ["HardwareError","HardwareError",{"t":5.000}]
+        @6000 unreadable 2 2
+        @7000 0 > read t1:p\n
+        0 < error_read t1:p ["HardwareError","HardwareError",{"t":5.000}]
+        @8000 0 > read mf:r:x\n
+        0 < error_read mf:r:x ["CommunicationFailed","CommunicationFailed",{"t":6.000}]
+        @9000 0 > activate\n
+        0 * error_update t1:p ["HardwareError","HardwareError",{"t":5.000}]
+        0 * update t1:q [true,{"t":1.000}]
+        0 * error_update mf:r ["CommunicationFailed","CommunicationFailed",{"t":6.000}]
+        0 < active
+        @10000 unreadable 0 3
+        0 * error_update t1:p ["ReadFailed","ReadFailed",{"t":10.000}]
+        2 * error_update t1:p ["ReadFailed","ReadFailed",{"t":10.000}]
+        "#,
+    );
+}
+
+#[test]
+fn what_ends_an_error() {
+    assert_course(
+        "what ends an error",
+        r#"
+        @1000 start
+        @2000 open 0
+        @3000 unreadable 0 4
+        @4000 reading 0 10 = 15
+        @5000 0 > change t1:p true\n
+        0 < error_change t1:p ["WrongType","value has the wrong type",{}]
+        @6000 0 > read t1:p\n
+        0 < error_read t1:p ["OutOfRange","OutOfRange",{"t":3.000}]
+        @7000 reading 0 3
+        @8000 0 > read t1:p\n
+        0 < reply t1:p [3,{"t":7.000}]
+        @9000 unreadable 0 4
+        @10000 0 > activate\n
+        0 * error_update t1:p ["OutOfRange","OutOfRange",{"t":9.000}]
+        0 < active
+        @11000 0 > change t1:p 3\n
+        0 DR 0 3
+        0 * update t1:p [3,{"t":11.000}]
+        0 < changed t1:p [3,{"t":11.000}]
+        "#,
+    );
+}
+
+#[test]
+fn refused_reports_of_a_broken_sensor() {
+    assert_course(
+        "refused reports of a broken sensor",
+        r#"
+        @1000 start
+        @2000 open 0
+        @3000 0 > activate\n
+        0 * update t1:p [3,{"t":1.000}]
+        0 < active
+        @4000 unreadable 0 1 outbox=32767 = 7
+        @5000 unreadable 0 1 values=16383 = 8
+        @10000000000000 unreadable 0 1 = 10
+        @7000 unreadable 1 0 = 14
+        @8000 unreadable 0 0 = 16
+        @9000 unreadable 0 5 = 16
+        @10000 unreadable 0 257 = 16
+        @9999999999999 unreadable 0 4
+        0 * error_update t1:p ["OutOfRange","OutOfRange",{"t":9999999999.999}]
         "#,
     );
 }

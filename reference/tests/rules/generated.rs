@@ -238,7 +238,7 @@ fn histories_hold_together() {
         all.numbers.extend(seen.numbers);
         all.records.extend(seen.records);
     }
-    for number in (0..=15).filter(|&number| number != 9) {
+    for number in (0..=16).filter(|&number| number != 9) {
         assert!(all.numbers.contains(&number), "{number} never came");
     }
     assert!(!all.numbers.contains(&9));
@@ -291,10 +291,19 @@ fn assert_records_of_all_kinds(records: &[Record]) {
         "reply ",
         "changed ",
         "done ",
+        "error_read ",
     ];
     for front in fronts {
         assert!(
             replies.iter().any(|line| line.starts_with(front)),
+            "{front}"
+        );
+    }
+    let is_update = |record: &&Record| record.mark == Mark::Update;
+    let updates: Vec<String> = records.iter().filter(is_update).map(line_of).collect();
+    for front in ["update ", "error_update "] {
+        assert!(
+            updates.iter().any(|line| line.starts_with(front)),
             "{front}"
         );
     }
@@ -375,6 +384,14 @@ fn course(history: &History) -> (Vec<Vec<Vec<u8>>>, Vec<String>) {
             } => {
                 events.push(format!("reading {parameter} {time} {text:?}"));
             }
+            Call::Unreadable {
+                parameter,
+                time,
+                class,
+                ..
+            } => {
+                events.push(format!("unreadable {parameter} {time} {class}"));
+            }
             Call::Piece {
                 client,
                 time,
@@ -450,7 +467,7 @@ fn small_histories_are_small_and_various() {
         all.numbers.extend(seen.numbers);
         all.records.extend(seen.records);
     }
-    for number in [0, 7, 8, 10, 11, 12, 13, 14, 15] {
+    for number in [0, 7, 8, 10, 11, 12, 13, 14, 15, 16] {
         assert!(all.numbers.contains(&number), "{number} never came");
     }
     assert_records_of_all_kinds(&all.records);
@@ -491,7 +508,7 @@ fn the_printed_histories_have_all_kinds_of_records_and_numbers_but_6_and_9() {
         .iter()
         .flat_map(|one| one.numbers[1..].to_vec())
         .collect();
-    let expected = (0..=15).filter(|number| ![6, 9].contains(number));
+    let expected = (0..=16).filter(|number| ![6, 9].contains(number));
     assert_eq!(later, expected.collect());
 }
 

@@ -59,6 +59,16 @@ fn reading(parameter: u64, text: &str) -> Call {
     }
 }
 
+fn unreadable(parameter: u64, class: u64) -> Call {
+    Call::Unreadable {
+        parameter,
+        values_len: VALUES,
+        outbox_len: OUTBOX,
+        time: 9,
+        class,
+    }
+}
+
 /// A state over a table with client 0 open and inside a line.
 fn begun(table: &[u8]) -> Kept {
     let mut kept = Kept::new(VALUES);
@@ -77,7 +87,13 @@ fn poked(pokes: &[Poke]) -> Kept {
 #[track_caller]
 fn assert_unfit(pokes: &[Poke]) {
     let kept = poked(pokes);
-    for call in [open(1), close(0), piece(0, "\n"), reading(0, "5")] {
+    for call in [
+        open(1),
+        close(0),
+        piece(0, "\n"),
+        reading(0, "5"),
+        unreadable(0, 1),
+    ] {
         let mut after = kept.clone();
         let unfit = Answer {
             number: 9,
@@ -144,6 +160,44 @@ fn unfit_names() {
         }
         assert!(!named.is_fit(&table), "{name}");
     }
+}
+
+/// Classes 1 to 4 are fit; what is stored behind an error is judged as ever.
+#[test]
+fn unfit_errors() {
+    for class in 0..=4 {
+        assert_fit(&[Poke::StoredError(0, class)]);
+        assert_fit(&[Poke::StoredError(1, class)]);
+    }
+    for class in [5, 6, 128, 255] {
+        assert_unfit(&[Poke::StoredError(0, class)]);
+        assert_unfit(&[Poke::StoredError(1, class)]);
+        assert_fit(&[Poke::StoredError(2, class)]);
+    }
+    let in_error = |pokes: [Poke; 2]| [vec![Poke::StoredError(0, 1)], pokes.to_vec()].concat();
+    assert_unfit(&in_error(value("10")));
+    assert_unfit(&in_error(value("4 ")));
+    assert_unfit(&[Poke::StoredError(0, 1), Poke::StoredTime(0, MAX_TIME + 1)]);
+}
+
+/// An error writes its class and its time, and nothing else; the next value
+/// takes its class away.
+#[test]
+fn errors_leave_the_stored_value() {
+    let table = two_parameters();
+    let mut kept = begun(&table);
+    let before = kept.clone();
+    assert_eq!(kept.call(&table, &unreadable(0, 3)).number, 0);
+    let mut expected = before.clone();
+    expected.settings[0].error = 3;
+    expected.settings[0].time = 9;
+    assert_eq!(kept, expected);
+    assert_eq!(kept.call(&table, &unreadable(1, 4)).number, 0);
+    assert_eq!((kept.settings[1].length, kept.settings[1].error), (0, 4));
+    assert_eq!(kept.values, before.values);
+    assert_eq!(kept.call(&table, &reading(0, "5")).number, 0);
+    assert_eq!((kept.settings[0].length, kept.settings[0].error), (1, 0));
+    assert_eq!((kept.settings[0].time, kept.values[0]), (8, b'5'));
 }
 
 #[test]
@@ -223,6 +277,7 @@ fn what_a_program_is_to_print() {
         Operation::Call(piece(1, "\\")),
         Operation::Poke(Poke::Open(3, 7)),
         Operation::Poke(Poke::Overlong(3, 9)),
+        Operation::Poke(Poke::StoredError(1, 2)),
         Operation::Show(2),
     ];
     let pattern = (0..40_000).map(|at| (at % 251) as u8);
@@ -248,8 +303,8 @@ fn what_a_program_is_to_print() {
          client 5 0 0 0 0\n\
          client 6 0 0 0 0\n\
          client 7 0 0 0 0\n\
-         parameter 0 1 7\n\
-         parameter 1 0 5\n"
+         parameter 0 1 0 7\n\
+         parameter 1 0 2 5\n"
     );
     assert_eq!(output(&operations), expected);
 }
@@ -259,7 +314,9 @@ fn what_a_program_reads() {
     let operations = [
         Operation::Table(b"ND".to_vec()),
         Operation::Call(piece(2, "ab")),
+        Operation::Call(unreadable(3, 258)),
         Operation::Poke(Poke::StoredTime(63, 258)),
+        Operation::Poke(Poke::StoredError(63, 4)),
         Operation::Poke(Poke::Values(256, b"1".to_vec())),
         Operation::Show(3),
     ];
@@ -275,9 +332,18 @@ fn what_a_program_reads() {
         &number(7),
         &[0x40, 0, 0x80, 0, 0, 2],
         b"ab",
+        b"U",
+        &number(3),
+        &number(9),
+        &[0x40, 0, 0x80, 0, 0, 8],
+        &[0, 0, 0, 0, 0, 0, 1, 2],
         b"t",
         &number(63),
         &[0, 0, 0, 0, 0, 0, 1, 2],
+        &[0; 6],
+        b"e",
+        &number(63),
+        &number(4),
         &[0; 6],
         b"w",
         &[0, 0, 0, 0, 0, 0, 1, 0],
@@ -294,7 +360,7 @@ fn what_a_program_reads() {
 
 /// The calls of the printed output, each by its name and number.
 fn answers(printed: &str) -> Vec<(&str, u8)> {
-    const CALLS: [&str; 5] = ["start", "open", "close", "piece", "reading"];
+    const CALLS: [&str; 6] = ["start", "open", "close", "piece", "reading", "unreadable"];
     fn answer(line: &str) -> Option<(&str, u8)> {
         let mut words = line.split(' ');
         let name = words.next().filter(|name| CALLS.contains(name))?;
@@ -315,6 +381,7 @@ fn the_script_has_every_number() {
         ("close", [all(0, 6), all(8, 12)].concat()),
         ("piece", all(0, 12)),
         ("reading", [all(0, 10), vec![14, 15]].concat()),
+        ("unreadable", [all(0, 10), vec![14, 16]].concat()),
     ];
     for (name, numbers) in expected {
         let mut found: Vec<u8> = answers

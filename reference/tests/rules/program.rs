@@ -63,6 +63,8 @@ fn run_answers_a_history_written_by_hand() {
          piece 2 16384 32768 6 70\n\
          reading 0 16384 32768 7 66616c7365 = -\n\
          reading 1 16384 32768 7 -\n\
+         unreadable 0 16384 32768 8 257\n\
+         unreadable 0 16384 32768 9 2 = 0\n\
          close 1 16384 10000000000000\n\
          end\n\
          client 0 whatever\n"
@@ -80,6 +82,8 @@ fn run_answers_a_history_written_by_hand() {
          piece 2 16384 32768 6 70 = 0 1 -\n\
          reading 0 16384 32768 7 66616c7365 = 0 -\n\
          reading 1 16384 32768 7 - = 14 -\n\
+         unreadable 0 16384 32768 8 257 = 16 -\n\
+         unreadable 0 16384 32768 9 2 = 0 -\n\
          close 1 16384 10000000000000 = 10\n\
          end\n\
          client 0 closed active=0000 line=-\n\
@@ -90,7 +94,7 @@ fn run_answers_a_history_written_by_hand() {
          client 5 closed active=0000 line=-\n\
          client 6 closed active=0000 line=-\n\
          client 7 closed active=0000 line=-\n\
-         parameter 0 time=7 value=66616c7365 set\n"
+         parameter 0 time=9 error=CommunicationFailed\n"
     );
     assert_eq!(printed(&["run", "-"], &input), expected);
 }

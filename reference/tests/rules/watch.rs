@@ -11,7 +11,7 @@ use reference::table::Table;
 struct Watcher {
     /// The modules' names.
     modules: Vec<String>,
-    /// For each parameter its specifier and its data report.
+    /// For each parameter its specifier and its report, of a value or an error.
     parameters: Vec<(String, String)>,
     open: [bool; CLIENTS],
     /// For each client, which modules it has active.
@@ -54,6 +54,33 @@ pub fn watch(history: &History) -> Seen {
     seen
 }
 
+const CLASSES: [&str; 4] = [
+    "HardwareError",
+    "CommunicationFailed",
+    "ReadFailed",
+    "OutOfRange",
+];
+
+/// The report of a parameter that can't be read.
+fn error_report(class: u64, time: u64) -> String {
+    let name = CLASSES[class as usize - 1];
+    format!("[\"{name}\",\"{name}\",{{\"t\":{}}}]", seconds(time))
+}
+
+/// No value has the form of such a report: it would have to be two values.
+fn is_error_report(report: &str) -> bool {
+    let front = |name: &&str| report.starts_with(&format!("[\"{name}\",\"{name}\",{{"));
+    CLASSES.iter().any(|name| front(name))
+}
+
+fn update_action(report: &str) -> &'static str {
+    if is_error_report(report) {
+        "error_update"
+    } else {
+        "update"
+    }
+}
+
 impl Watcher {
     fn new(table: &Table, start_time: u64) -> Watcher {
         let text = |bytes: &[u8]| String::from_utf8(bytes.to_vec()).expect("ASCII");
@@ -82,6 +109,16 @@ impl Watcher {
                 text,
                 ..
             } => self.follow_reading(*parameter as usize, *time, text, records),
+            Call::Unreadable {
+                parameter,
+                time,
+                class,
+                ..
+            } => {
+                let report = error_report(*class, *time);
+                self.parameters[*parameter as usize].1 = report;
+                self.expect_updates(*parameter as usize, records);
+            }
             Call::Piece {
                 client,
                 time,
@@ -138,7 +175,8 @@ impl Watcher {
         assert_eq!(clients, expected);
         for record in records {
             assert_eq!(record.mark, Mark::Update);
-            assert_eq!(line_of(record), format!("update {specifier} {report}"));
+            let action = update_action(report);
+            assert_eq!(line_of(record), format!("{action} {specifier} {report}"));
         }
     }
 
@@ -180,6 +218,14 @@ impl Watcher {
                 assert!(before.is_empty());
                 let known = &self.parameters[self.number_of(specifier)].1;
                 assert!(known.is_empty() || known == report, "{known} {report}");
+                assert_eq!(update_action(report), "update");
+            }
+            ["error_read", specifier, report] if is_error_report(report) => {
+                assert!(before.is_empty());
+                // What follows a second colon is repeated in the reply.
+                let mut parts = specifier.split(':').map(str::to_string);
+                let names = [parts.next(), parts.next()].map(Option::unwrap).join(":");
+                assert_eq!(self.parameters[self.number_of(&names)].1, report);
             }
             ["pong", _, report] => {
                 assert!(before.is_empty());
@@ -245,7 +291,7 @@ impl Watcher {
             let (specifier, report) = expected.next().expect("no update too many");
             assert_eq!((record.mark, record.client), (Mark::Update, client));
             let line = line_of(record);
-            let front = format!("update {specifier} ");
+            let front = format!("{} {specifier} ", update_action(report));
             assert!(line.starts_with(&front));
             assert!(report.is_empty() || line == front + report);
         }

@@ -25,6 +25,8 @@ pub enum Act {
     Send(Vec<u8>),
     /// A parameter as `module:parameter`, and a value.
     Read(String, String),
+    /// A parameter that can't be read, and the error's name.
+    Fail(String, String),
 }
 
 /// The entries of a script, or the first line that is none.
@@ -60,6 +62,10 @@ fn act(who: &str, what: &str) -> Option<Act> {
         ("node", "starts") => return Some(Act::Start),
         ("node", _) => return None,
         ("driver", _) => {
+            if let Some(report) = what.strip_prefix("! ") {
+                let (parameter, error) = report.split_once(' ')?;
+                return Some(Act::Fail(parameter.to_string(), error.to_string()));
+            }
             let (parameter, value) = what.strip_prefix("> ")?.split_once(' ')?;
             return Some(Act::Read(parameter.to_string(), value.to_string()));
         }

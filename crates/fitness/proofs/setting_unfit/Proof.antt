@@ -1,6 +1,6 @@
 -- `fitness::setting_unfit` meets its contract. Assumes nothing.
 use borrow.Author.Needs.{needs}
-use Rattle.fitness.proofs.Unfits.{too-long, too-late, never-set, is-set}
+use Rattle.fitness.proofs.Unfits.{too-long, too-late, no-class, never-set, is-set}
 use Rattle.fitness.proofs.setting_unfit.Statement.{statement}
 use Rattle.fitness.proofs.setting_unfit.Tie as tie
 
@@ -25,8 +25,14 @@ array-read-if2 c = search needs
 returns-2 : tie.Need-returns-2
 returns-2 c = search too-late
 
+array-read-if3 : tie.Need-array-read-if3
+array-read-if3 c = search needs
+
 returns-3 : tie.Need-returns-3
-returns-3 c = search never-set
+returns-3 c = search no-class
+
+returns-4 : tie.Need-returns-4
+returns-4 c = search never-set
 
 mul-at : tie.Need-mul-at
 mul-at c = search needs
@@ -46,8 +52,8 @@ part-is-stored-end c = search needs
 is-stored-requires : tie.Need-is-stored-requires
 is-stored-requires c κs = search needs
 
-returns-4 : tie.Need-returns-4
-returns-4 c = search is-set
+returns-5 : tie.Need-returns-5
+returns-5 c = search is-set
 
 pub setting-unfit-spec : {M : Type 1} → statement M
 setting-unfit-spec =
@@ -60,11 +66,13 @@ setting-unfit-spec =
     mul-if2
     array-read-if2
     returns-2
+    array-read-if3
     returns-3
+    returns-4
     mul-at
     add-end
     sub-is-stored
     part-is-stored-start
     part-is-stored-end
     is-stored-requires
-    returns-4)
+    returns-5)

@@ -22,6 +22,9 @@ bytes-of-requires-2 c κs = search needs
 shown-requires : tie.Need-shown-requires
 shown-requires c κs = search needs
 
+sensor-at-requires : tie.Need-sensor-at-requires
+sensor-at-requires c κs = search needs
+
 mul-put-update : tie.Need-mul-put-update
 mul-put-update c = search needs
 
@@ -47,6 +50,7 @@ put-shown-spec =
     bytes-of-requires
     bytes-of-requires-2
     shown-requires
+    sensor-at-requires
     mul-put-update
     array-read-put-update
     put-update-requires

@@ -3,7 +3,7 @@ use borrow.Author.Needs.{needs}
 use native.Mathlib.Omega.{arith}
 use Prim.Native.Nat.{_-_, _≤_}
 use lib.ListN.{drop}
-use Rattle.message.specs.Said.{reportOf}
+use Rattle.message.specs.Said.{heldBy, reportOf}
 use Rattle.plain.specs.Node.{clientNumbers, updatesTo}
 use Rattle.state.specs.View.{clientAt}
 use Rattle.update.proofs.Sendings.{Going, going-start, going-length, next-room, next-sent, all-sent}
@@ -11,12 +11,12 @@ use Rattle.update.proofs.put_updates_to.Statement.{statement}
 use Rattle.update.proofs.put_updates_to.Tie as tie
 
 abbrev Inv-loop : tie.InvT-loop
-Inv-loop out₀ at clients home «module» accessible value time end₀ c₀ out end c =
-    let r = reportOf «module» accessible value time in
+Inv-loop out₀ at clients home «module» accessible sensor value time end₀ c₀ out end c =
+    let r = reportOf «module» accessible (heldBy sensor value) time in
     (c ≤ 8) × Going out₀ at (updatesTo (clientAt clients) home r clientNumbers) (updatesTo (clientAt clients) home r (drop c clientNumbers)) out end
 
 abbrev μ-loop : tie.MeasureT-loop
-μ-loop out₀ at clients home «module» accessible value time end₀ c₀ out end c = 8 - c
+μ-loop out₀ at clients home «module» accessible sensor value time end₀ c₀ out end c = 8 - c
 
 loop-holds : tie.Need-loop-holds Inv-loop μ-loop
 loop-holds c = (omega arith, going-start _ _ _)

@@ -153,6 +153,17 @@ impl Course {
         }
     }
 
+    pub(super) fn unreadable(&mut self, parameter: u64, class: u64) {
+        let time = self.now();
+        self.call(Call::Unreadable {
+            parameter,
+            values_len: MIN_VALUES,
+            outbox_len: MIN_OUTBOX,
+            time,
+            class,
+        });
+    }
+
     pub(super) fn reading(&mut self, parameter: u64, text: &str) {
         let time = self.now();
         self.call(Call::Reading {

@@ -8,6 +8,9 @@ use crate::generate::parts::{
     array, command, digit, double, enumeration, module, parameter, readonly, string, structure,
     table,
 };
+use crate::history::Call;
+use crate::node::MIN_VALUES;
+use crate::outbox::MIN_OUTBOX;
 use crate::table::{Accessible, Module, Table};
 
 pub(super) fn all(course: &mut Course) {
@@ -17,6 +20,7 @@ pub(super) fn all(course: &mut Course) {
     secop(course);
     actions(course);
     errors(course);
+    broken_sensors(course);
 }
 
 fn kelvin() -> Datainfo {
@@ -315,5 +319,56 @@ fn errors(course: &mut Course) {
     course.line(1, &format!("change mf:label \"{}\"", "x".repeat(254)));
     course.line(1, &format!("change mf:label  \"{}\" ", "x".repeat(255)));
     course.line(1, "read mf:label");
+    course.show();
+}
+
+/// A thermometer falls off and comes back: each class, who is told, and what
+/// ends an error.
+fn broken_sensors(course: &mut Course) {
+    course.started("broken sensors", &lab());
+    for client in [0, 3, 5] {
+        course.open(client);
+    }
+    course.line(3, "activate t1");
+    course.line(5, "activate");
+    course.reading(0, "4.2");
+    for class in 1..=4 {
+        course.unreadable(0, class);
+        course.lines(0, &["read t1:value", "read t1:value:x y"]);
+    }
+    course.unreadable(0, 4);
+    course.show();
+    course.lines(0, &["activate mf", "activate t1:value", "deactivate"]);
+    course.line(0, "change t1:value 4");
+    course.reading(0, "warm");
+    course.reading(0, "4.2");
+    course.line(0, "read t1:value");
+    // A change ends an error as a reading does; a refused one doesn't.
+    course.unreadable(3, 2);
+    course.lines(
+        0,
+        &[
+            "change mf:target 99",
+            "read mf:target",
+            "change mf:target 5",
+        ],
+    );
+    course.line(0, "read mf:target");
+    // Of a parameter that was never set, and with a time that goes back.
+    course.call(Call::Unreadable {
+        parameter: 5,
+        values_len: MIN_VALUES,
+        outbox_len: MIN_OUTBOX,
+        time: 0,
+        class: 1,
+    });
+    course.lines(0, &["read mf:mode", "describe", "activate"]);
+    course.close(3);
+    course.open(3);
+    course.unreadable(0, 3);
+    course.show();
+    course.start();
+    course.open(0);
+    course.lines(0, &["read t1:value", "activate"]);
     course.show();
 }

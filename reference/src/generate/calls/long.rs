@@ -117,5 +117,9 @@ fn long_updates(course: &mut Course) {
         &format!("change {}:{} {}", name('m'), name('z'), value("w")),
     );
     course.reading(0, &value("\\\\")[..255]);
+    for parameter in 0..26 {
+        course.unreadable(parameter, 2);
+    }
+    course.line(7, "activate");
     course.show();
 }

@@ -57,7 +57,7 @@ fn some_table(random: &mut Random) -> Vec<u8> {
 
 fn some_pokes(random: &mut Random) -> Vec<Poke> {
     let (client, number) = (random.below(4), random.below(6));
-    match random.below(8) {
+    match random.below(9) {
         0 => vec![Poke::Open(client, *random.pick(&[0, 1, 2, 255]))],
         1 => vec![Poke::Overlong(client, *random.pick(&[0, 1, 128]))],
         2 => vec![Poke::Active(
@@ -83,6 +83,10 @@ fn some_pokes(random: &mut Random) -> Vec<Poke> {
             number,
             *random.pick(&[0, 5, MAX_TIME, MAX_TIME + 1, u64::MAX]),
         )],
+        6 => vec![Poke::StoredError(
+            number,
+            *random.pick(&[0, 1, 2, 3, 4, 5, 255]),
+        )],
         _ => {
             let text = *random.pick(&TEXTS);
             let length = *random.pick(&[text.len(), text.len(), text.len(), 0, 257]);
@@ -96,7 +100,7 @@ fn some_pokes(random: &mut Random) -> Vec<Poke> {
 
 fn call(course: &mut Course, random: &mut Random) {
     let client = random.below(4) as u64;
-    match random.below(8) {
+    match random.below(9) {
         0 => course.open(client),
         1 => course.close(client),
         2 => {
@@ -106,7 +110,8 @@ fn call(course: &mut Course, random: &mut Random) {
         3 => course.piece(client, "read mf"),
         4 => course.piece(client, "\n"),
         5 => course.line(client, "activate"),
-        6 => {
+        6 => course.unreadable(random.below(5) as u64, random.below(6) as u64),
+        7 => {
             let line = *random.pick(&[":p 5", "t1:p", "read t1:p", "deactivate mf"]);
             course.line(client, line);
         }

@@ -17,14 +17,16 @@ enum Kind {
     Close,
     Piece,
     Reading,
+    Unreadable,
 }
 
-const KINDS: [Kind; 5] = [
+const KINDS: [Kind; 6] = [
     Kind::Start,
     Kind::Open,
     Kind::Close,
     Kind::Piece,
     Kind::Reading,
+    Kind::Unreadable,
 ];
 
 pub(super) fn all(course: &mut Course) {
@@ -42,6 +44,7 @@ fn numbers(kind: Kind) -> &'static [u8] {
         Kind::Close => &[8, 9, 10, 11, 12],
         Kind::Piece => &[7, 8, 9, 10, 11, 12],
         Kind::Reading => &[7, 8, 9, 10, 14, 15],
+        Kind::Unreadable => &[7, 8, 9, 10, 14, 16],
     }
 }
 
@@ -82,6 +85,13 @@ fn faulty_call(kind: Kind, faults: &[u8], now: u64) -> Call {
             time,
             text: if has(15) { "10" } else { "5" }.into(),
         },
+        Kind::Unreadable => Call::Unreadable {
+            parameter: u64::from(has(14)),
+            values_len,
+            outbox_len,
+            time,
+            class: if has(16) { 5 } else { 4 },
+        },
     }
 }
 
@@ -118,6 +128,7 @@ fn over_a_good_table(course: &mut Course) {
     }
     make(course, Kind::Close, numbers(Kind::Close));
     make(course, Kind::Reading, numbers(Kind::Reading));
+    make(course, Kind::Unreadable, numbers(Kind::Unreadable));
     course.show();
     for client in [8, 9, 255, 256, 1 << 32, u64::MAX] {
         course.open(client);
@@ -126,6 +137,11 @@ fn over_a_good_table(course: &mut Course) {
     }
     for parameter in [1, 2, 63, 64, 255, 256, 1 << 32, u64::MAX] {
         course.reading(parameter, "5");
+        course.unreadable(parameter, 1);
+        course.unreadable(parameter, 0);
+    }
+    for class in [0, 5, 255, 256, 257, 260, 1 << 32, (1 << 32) + 1, u64::MAX] {
+        course.unreadable(0, class);
     }
     for text in ["", " ", "null", "01", "4 5", "\n4", "4\u{80}", "-1", "4.0"] {
         course.reading(0, text);

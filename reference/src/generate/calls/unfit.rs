@@ -50,11 +50,12 @@ fn begun(course: &mut Course, name: &str) {
 }
 
 /// A call of each kind but start, all of which would be accepted.
-fn four_calls(course: &mut Course) {
+fn each_call(course: &mut Course) {
     course.open(1);
     course.close(0);
     course.line(0, "change t1:p 5");
     course.reading(0, "6");
+    course.unreadable(0, 3);
 }
 
 fn value(number: usize, text: &str) -> Vec<Poke> {
@@ -78,12 +79,12 @@ fn unfit(course: &mut Course) {
         course.named(name);
         course.poked_for(&pokes, |course| {
             assert!(!course.is_fit(), "{name}");
-            four_calls(course);
+            each_call(course);
         });
         assert!(course.is_fit(), "{name}");
     }
     course.show();
-    four_calls(course);
+    each_call(course);
     course.show();
 }
 
@@ -150,6 +151,24 @@ fn unfit_values() -> Vec<(&'static str, Vec<Poke>)> {
             "a late time of a value never set",
             vec![Poke::StoredTime(2, MAX_TIME + 1)],
         ),
+        ("an error of class 5", vec![Poke::StoredError(0, 5)]),
+        ("an error of class 255", vec![Poke::StoredError(1, 255)]),
+        (
+            "an error of class 5 of a value never set",
+            vec![Poke::StoredError(2, 5)],
+        ),
+        (
+            "an error over a length of 257",
+            vec![Poke::StoredError(1, 1), Poke::StoredLength(1, 257)],
+        ),
+        (
+            "an error with a late time",
+            vec![Poke::StoredError(0, 2), Poke::StoredTime(0, MAX_TIME + 1)],
+        ),
+        (
+            "an error over a value of another type",
+            [vec![Poke::StoredError(0, 4)], value(0, "true")].concat(),
+        ),
     ]
 }
 
@@ -190,6 +209,7 @@ fn unfit_in_the_last_places(course: &mut Course) {
         vec![Poke::StoredLength(63, 257)],
         value(63, "x"),
         vec![Poke::StoredTime(63, MAX_TIME + 1)],
+        vec![Poke::StoredError(63, 5)],
         vec![Poke::Overlong(7, 1)],
         vec![Poke::Active(7, 1)],
         vec![Poke::LineLength(7, 1)],
@@ -220,13 +240,13 @@ fn over_another_table(course: &mut Course) {
     };
     begun(course, "over another table");
     course.table(&one(digit(), "3"));
-    four_calls(course);
+    each_call(course);
     course.table(&two_modules());
     course.close(2);
     course.table(&one(Datainfo::Int { min: 5, max: 9 }, "5"));
-    four_calls(course);
+    each_call(course);
     course.table(&one(Datainfo::Bool, "true"));
-    four_calls(course);
+    each_call(course);
     course.table(&one(Datainfo::Int { min: 4, max: 4 }, "4"));
     course.line(0, "read t1:p");
     course.table(&two_modules());
@@ -236,7 +256,7 @@ fn over_another_table(course: &mut Course) {
 }
 
 /// What each fit state answers with, then the state.
-fn six_calls(course: &mut Course) {
+fn some_calls(course: &mut Course) {
     assert!(course.is_fit());
     course.open(1);
     course.line(2, "p");
@@ -274,6 +294,15 @@ fn fit(course: &mut Course) {
         ("the latest time", vec![Poke::StoredTime(0, MAX_TIME)]),
         ("the first time", vec![Poke::StoredTime(1, 0)]),
         ("a value never set", vec![Poke::StoredLength(0, 0)]),
+        ("an error of class 1", vec![Poke::StoredError(0, 1)]),
+        (
+            "an error of class 4 of a value never set",
+            vec![Poke::StoredLength(0, 0), Poke::StoredError(0, 4)],
+        ),
+        (
+            "errors of all",
+            (0..3).map(|at| Poke::StoredError(at, 2)).collect(),
+        ),
         ("another value", value(0, "-0")),
         (
             "rubbish in lines that nobody has",
@@ -292,14 +321,15 @@ fn fit(course: &mut Course) {
         for poke in pokes {
             course.poke(poke);
         }
-        six_calls(course);
+        some_calls(course);
     }
     begun(course, "rubbish past the last parameter");
     for number in 3..64 {
         course.poke(Poke::StoredLength(number, 65_535));
         course.poke(Poke::StoredTime(number, u64::MAX));
+        course.poke(Poke::StoredError(number, 255));
     }
-    six_calls(course);
+    some_calls(course);
 }
 
 /// With sixteen modules every mask will do.
@@ -353,5 +383,7 @@ fn restored(course: &mut Course) {
     course.reading(2, " false ");
     course.close(4);
     course.line(6, "change t1:l \"c\"");
+    course.poke(Poke::StoredError(1, 2));
+    course.lines(6, &["read t1:l", "activate", "change t1:l \"d\""]);
     course.show();
 }

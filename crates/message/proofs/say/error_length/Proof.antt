@@ -1,7 +1,7 @@
 -- `message::say::error_length` meets its contract. Assumes nothing.
 use native.Mathlib.Omega.{arith}
-use Rattle.message.specs.Said.{classOf}
-use Rattle.message.proofs.Said.{error-length, error-short}
+use Rattle.message.specs.Said.{denialOf}
+use Rattle.message.proofs.Said.{error-length}
 use borrow.Author.Needs.{needs}
 use Rattle.message.proofs.say.error_length.Statement.{statement}
 use Rattle.message.proofs.say.error_length.Tie as tie
@@ -16,12 +16,12 @@ error-report-length-requires : tie.Need-error-report-length-requires
 error-report-length-requires c κs = search needs
 
 add-result-3 : tie.Need-add-result-3
-add-result-3 c = let start = c .before .before .before in omega (arith, error-short (classOf (start .args .class)))
+add-result-3 c = search needs
 
 returns : tie.Need-returns
 returns c =
     let start = c .before .before .before in
-    omega (arith, error-length (start .args .action .now) (start .args .specifier .now) (classOf (start .args .class)))
+    omega (arith, error-length (start .args .action .now) (start .args .specifier .now) (denialOf (start .args .denial)))
 
 pub error-length-spec : {M : Type 1} → statement M
 error-length-spec =

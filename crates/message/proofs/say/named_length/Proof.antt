@@ -2,7 +2,8 @@
 use native.Mathlib.Omega.{arith}
 use Rattle.ascii.proofs.Decimal.{seconds-low}
 use lib.ListN.{length-append}
-use Rattle.message.proofs.Said.{data-length, report-length}
+use Rattle.message.specs.Said.{sensorFault, heldBy}
+use Rattle.message.proofs.Said.{held-short, report-length}
 use borrow.Author.Needs.{needs}
 use Rattle.message.proofs.say.named_length.Statement.{statement}
 use Rattle.message.proofs.say.named_length.Tie as tie
@@ -14,7 +15,7 @@ add-result : tie.Need-add-result
 add-result c =
     let start = (c .before .before .before .before .before) in
     let args = start .args in
-    omega (arith, start .pre, seconds-low (args .time) (omega arith), data-length (args .value .now) (args .time), report-length (args .«module» .now) (args .accessible .now) (args .value .now) (args .time))
+    omega (arith, start .pre, seconds-low (args .time) (omega arith), held-short (sensorFault (args .sensor)) (args .value .now) (args .time), report-length (args .«module» .now) (args .accessible .now) (heldBy (args .sensor) (args .value .now)) (args .time))
 
 returns : tie.Need-returns
 returns c = simp length-append (omega arith)

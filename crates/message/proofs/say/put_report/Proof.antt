@@ -16,9 +16,9 @@ put-byte-requires : tie.Need-put-byte-requires
 unfolding bytes
 put-byte-requires c κs = search report-2
 
-put-data-report-requires : tie.Need-put-data-report-requires
+put-held-report-requires : tie.Need-put-held-report-requires
 unfolding bytes
-put-data-report-requires c κs = search report-3
+put-held-report-requires c κs = search report-3
 
 same-length : tie.Need-same-length
 same-length c = search needs
@@ -34,6 +34,6 @@ put-report-spec =
     slice-aggregate-put3
     put3-requires
     put-byte-requires
-    put-data-report-requires
+    put-held-report-requires
     same-length
     returns)

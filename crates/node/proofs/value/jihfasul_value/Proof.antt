@@ -34,8 +34,8 @@ not-shown-requires-3 c κs = search needs
 returns-3 : tie.Need-returns-3
 returns-3 c = search value-none
 
-part-shown-requires : tie.Need-part-shown-requires
-part-shown-requires c κs = (search needs, search value-part)
+held-shown-requires : tie.Need-held-shown-requires
+held-shown-requires c κs = (search needs, search value-part)
 
 returns-4 : tie.Need-returns-4
 returns-4 c = search value-found
@@ -54,5 +54,5 @@ jihfasul-value-spec =
     enum-told
     not-shown-requires-3
     returns-3
-    part-shown-requires
+    held-shown-requires
     returns-4)

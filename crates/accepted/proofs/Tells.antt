@@ -1,0 +1,155 @@
+-- What a driver tells of a parameter is taken in: what is held and sent, and that it has room. Assumes nothing.
+use Prim.Native.Nat.{ℕ, _+_, _-_, _≤_, _<_}
+use native.Mathlib.Nat.{zero-add}
+use native.Mathlib.Omega.{arith}
+use mathlib.Core.Bool.{false}
+use mathlib.Core.List.{List, [], _∷_}
+use mathlib.Core.Option.{some}
+use mathlib.Core.Path.{_≡_, refl, sym, ap, _∙_}
+use lib.ListN.{length, getElem?}
+use Rattle.ascii.specs.Bytes.{any}
+use Rattle.ascii.specs.Writer.{Puts}
+use Rattle.table.specs.Table.{Parameter, Table}
+use Rattle.table.specs.Layout.{tableOf}
+use Rattle.table.specs.Search.{Placed, parameters}
+use Rattle.table.specs.At.{bytesOf, parameterOf}
+use Rattle.table.specs.declared.layout.ParameterAt.{ParameterAt}
+use Rattle.table.proofs.Search.{parameter-home}
+use Rattle.message.specs.Error.{faultNumber, faultOf}
+use Rattle.message.specs.Reply.{Held, failed, Report}
+use Rattle.message.specs.Said.{faultAs, reportOf}
+use Rattle.message.specs.declared.say.Fault.{Fault}
+use Rattle.outbox.specs.Outbox.{Record, encodeAll}
+use Rattle.search.specs.declared.cursor.Cursor.{Cursor}
+use Rattle.search.specs.Left.{placed}
+use Rattle.plain.specs.Node.{Setting, withSettings, clientNumbers, updatesTo}
+use Rattle.plain.specs.Calls.{Event, Unreadable, Effect, driverEffect, unreadableEffect, effect}
+use Rattle.sound.specs.Theorems.{HeldFits}
+use Rattle.sound.proofs.Lists.{each-at}
+use Rattle.sound.proofs.Accepted.{GoodParameter, accepted}
+use Rattle.sound.proofs.Records.{Small, Fine, name-short, written-to}
+use Rattle.state.specs.declared.Clients.{Clients}
+use Rattle.state.specs.declared.Settings.{Settings}
+use Rattle.state.specs.declared.State.{State}
+use Rattle.state.specs.View.{clientAt, view, withHeld, withSetting, withError, areaWith, settingsWith, outboxAfter, written, nextSettings}
+use Rattle.state.specs.Fit.{clientUnfit, settingsUnfit, isUnfit}
+use Rattle.state.proofs.Settled.{Sized}
+use Rattle.state.proofs.Sets.{AllSet, all-set}
+use Rattle.promise.specs.Answer.{doneWith}
+use Rattle.promise.specs.Leaves.{Leaves}
+use Rattle.promise.proofs.Clients.{fit-parts}
+use Rattle.accepted.specs.Fitting.{readingRoom, Tellable, Standing, Taken}
+
+module _ (table outbox : List ℕ) (k t : ℕ) (q : ParameterAt) (e : Cursor) (g : Tellable table outbox k t q e) where
+  abbrev w : Table
+  w = tableOf table
+
+  -- the parameter that is told of
+  abbrev pub it : Placed Parameter
+  it = placed table e (parameterOf table q (g .found .held .datainfo))
+
+  pub there : getElem? (parameters w) k ≡ some it
+  there = g .found .is
+
+  -- the report of what it holds
+  abbrev pub told : Held → Report
+  told h = reportOf (bytesOf table (e .name)) (bytesOf table (q .name)) h t
+
+  fine : (h : Held) → Small h → Fine (told h)
+  unfolding parameterOf
+  fine h n =
+      let names = each-at GoodParameter (parameters w) (accepted table (g .accepted) .allParameters) k it there .0 in
+      record { names = names; small = n; inTime = g .inTime }
+
+  -- what is sent to these clients
+  module _ (cs : Clients) where
+    abbrev pub updates : Held → List Record
+    updates h = updatesTo (clientAt cs) (e .modules - 1) (told h) clientNumbers
+
+    updates-short : (h : Held) → Small h → length (encodeAll (updates h)) ≤ readingRoom
+    updates-short h n = written-to (clientAt cs) (e .modules - 1) (told h) (fine h n) clientNumbers .short
+
+    pub tell-room : (h : Held) → Small h → (v : List ℕ) → length v ≤ 256
+        → (e .modules - 1 < 16)
+        × ((0 + length (encodeAll (updates h)) ≤ length outbox) × (length (bytesOf table (e .name)) + length (bytesOf table (q .name)) + length v ≤ 1024))
+    tell-room h n v l =
+        let f = fine h n in
+        let u = updates-short h n in
+        let room = g .room in
+        let few = accepted table (g .accepted) .fewModules in
+        let home = parameter-home w k it there in
+        (omega arith, (omega arith, omega (arith, name-short (bytesOf table (e .name)) (f .names .0), name-short (bytesOf table (q .name)) (f .names .1))))
+
+    -- where it can't be read, by the names as they are read from the table
+    module _ (f : Fault) (m a : List ℕ) (named-module : m ≡ bytesOf table (e .name)) (named : a ≡ bytesOf table (q .name)) where
+      abbrev pub sent : List Record
+      sent = updatesTo (clientAt cs) (e .modules - 1) (reportOf m a (failed (faultAs f)) t) clientNumbers
+
+      pub fail-room : (e .modules - 1 < 16) × ((0 + length (encodeAll sent) ≤ length outbox) × (length m + length a + 0 ≤ 1024))
+      fail-room = rw (named-module, named) (tell-room (failed (faultAs f)) tt [] (omega arith))
+
+  -- it holds h, from the time t on
+  module _ (s : State) (h : Held) (small : Small h) (values : List ℕ) (stands : Standing table s values) (fits : HeldFits (it .it) h)
+      (ev : Event) (does : effect w (view table s values) ev ≡ driverEffect (view table s values) k it h t) where
+    abbrev sets : List Setting
+    sets = record { parameter = k; held = h; time = t } ∷ []
+
+    does-is : effect w (view table s values) ev ≡ record { next = withSettings (view table s values) sets; settings = sets; used = 0; records = updates (s .clients) h }
+    unfolding driverEffect view parameterOf
+    does-is = does
+
+    fit : (settingsUnfit (s .settings) values 0 (parameters w) ≡ false) × (any (clientUnfit (length (w .modules)) (s .clients)) clientNumbers ≡ false)
+    fit = fit-parts w s values (stands .fit)
+
+    module _ (z : Sized (s .settings)) (settings : Settings) (i : settings ≡ withSetting (s .settings) k h t) (after : List ℕ) (a : after ≡ withHeld values k h)
+        (outbox′ : List ℕ) (n : ℕ) (puts : Puts outbox 0 (encodeAll (updates (s .clients) h)) outbox′ n) where
+      abbrev next : State
+      next = nextSettings s settings
+
+      is-set : AllSet table s values sets
+      is-set =
+          all-set table (accepted table (g .accepted) .few) sets s values z (stands .area) (fit .0)
+          (record { it = it; there = there; fits = fits; inTime = g .inTime }, tt)
+
+      node-is : view table next after ≡ withSettings (view table s values) sets
+      unfolding areaWith settingsWith
+      node-is = rw (i, a) (is-set .node)
+
+      still-fit : isUnfit w next after ≡ false
+      unfolding isUnfit areaWith settingsWith
+      still-fit = rw (i, a) (rw (is-set .fit, fit .1) refl)
+
+      is-left : Leaves table s values ev outbox (doneWith 0 n next) after outbox′
+      unfolding written outboxAfter areaWith settingsWith
+      is-left =
+          let d = sym does-is in
+          record {
+            number = refl;
+            used = ap (λ (y : Effect). y .used) d;
+            writes = puts .ends ∙ zero-add _ ∙ ap (λ (y : Effect). written (y .records)) d;
+            sends = puts .is ∙ ap (λ (y : Effect). outboxAfter outbox (y .records)) d;
+            area = a ∙ ap (λ (y : Effect). areaWith values (y .settings)) d;
+            settings = i ∙ ap (λ (y : Effect). settingsWith (s .settings) (y .settings)) d;
+            node = node-is ∙ ap (λ (y : Effect). y .next) d;
+            fit = still-fit;
+          }
+
+      pub is-told : Taken table s values outbox ev (doneWith 0 n next) after outbox′
+      is-told =
+          let u = updates-short (s .clients) h small in
+          let end = puts .ends in
+          record { leaves = is-left; short = omega arith }
+
+  -- ## A parameter that can't be read, by the names as they are read from the table
+
+  module _ (s : State) (f : Fault) (m a : List ℕ) (named-module : m ≡ bytesOf table (e .name)) (named : a ≡ bytesOf table (q .name)) where
+    pub is-failed :
+        Sized (s .settings) → (number : ℕ) → number ≡ faultNumber (faultAs f) → (settings : Settings) → settings ≡ withError (s .settings) k number t
+        → (outbox′ : List ℕ) (n : ℕ)
+        → Puts outbox 0 (encodeAll (sent (s .clients) f m a named-module named)) outbox′ n → (values : List ℕ) (class : ℕ) → Standing table s values → faultOf class ≡ some (faultAs f)
+        → Taken table s values outbox (Unreadable k class t) (doneWith 0 n (nextSettings s settings)) values outbox′
+    unfolding effect unreadableEffect withHeld withSetting
+    is-failed z number j settings i outbox′ n puts values class stands known =
+        is-told s (failed (faultAs f)) tt values stands tt (Unreadable k class t) (rw (there, known) refl) z settings
+        (i ∙ ap (λ (x : ℕ). withError (s .settings) k x t) j) values refl outbox′ n
+        (rw (named-module, named) at puts)

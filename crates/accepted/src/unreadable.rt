@@ -1,0 +1,49 @@
+// A parameter that can't be read.
+use message::say::Fault;
+use message::say::Sensor;
+use message::say::fault_number;
+use promise::Done;
+use search::cursor::Cursor;
+use state::State;
+use state::setting::failed;
+use table::layout::ParameterAt;
+use update::bytes_of;
+use update::put_updates_to;
+ghost use Prim.Native.Nat.{ℕ};
+ghost use mathlib.Core.List.{List};
+ghost use mathlib.Core.Option.{some};
+ghost use mathlib.Core.Path.{_≡_};
+ghost use Rattle.message.specs.Error.{faultOf};
+ghost use Rattle.message.specs.Said.{faultAs};
+ghost use Rattle.plain.specs.Calls.{Unreadable};
+ghost use Rattle.accepted.specs.Fitting.{Tellable, Standing, Taken};
+
+// "Each parameter's record then holds .. such an error, with its time": of parameter k, of which p has the positions; `home` is the cursor after it,
+// in its module. The updates are written to the front of the outbox, or of the part of one, that it is lent. What the values area has doesn't matter.
+pub fn take_unreadable(
+    table: &[u8],
+    outbox: &mut [u8],
+    state: State,
+    k: usize,
+    time: u64,
+    fault: Fault,
+    p: ParameterAt,
+    home: Cursor,
+) -> Done
+    requires { ⌜ Tellable (now table) (now outbox) k time p home ⌝ }
+    ensures { λ r. ⌜ ((values : List ℕ) (class : ℕ) → Standing (now (table .entry)) state values → faultOf class ≡ some (faultAs fault) → Taken (now (table .entry)) state values (now (outbox .entry)) (Unreadable k class time) r values (now (outbox .exit))) ⌝ }
+{
+    let clients = state.clients;
+    let module = bytes_of(table, home.name);
+    let name = bytes_of(table, p.name);
+    let number = home.modules - 1;
+    let sensor = Sensor::Fails(fault);
+    let written = put_updates_to(outbox, 0, clients, number, module, name, sensor, b"", time);
+    let settings = failed(state.settings, k, fault_number(fault), time);
+    Done {
+        number: 0,
+        used: 0,
+        written,
+        state: State { clients, settings },
+    }
+}
