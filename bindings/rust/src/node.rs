@@ -35,8 +35,8 @@ pub struct Value<'a> {
     pub time: u64,
 }
 
-/// A value in stored form, JSON without spaces outside strings, or an error in
-/// its place.
+/// A value in stored form, JSON without spaces outside strings and with an
+/// enum's members by their numbers, or an error in its place.
 #[derive(Clone, Copy, Debug, PartialEq, Eq)]
 pub enum Held<'a> {
     /// The table's initial value: it was never set.
