@@ -54,6 +54,7 @@ enum Action {
     Ping,
     Scoped(Switch),
     Named(Verb),
+    Count,
     Unknown,
 }
 
@@ -65,6 +66,7 @@ pub enum Request {
     All(Switch),
     Scoped(Switch, Part),
     Named(Verb, Part, Part),
+    Count,
     Malformed,
 }
 
@@ -185,6 +187,9 @@ fn action_of(word: &[u8]) -> Action
     if same(word, b"do") {
         return Action::Named(Verb::Execute);
     }
+    if same(word, b"_count") {
+        return Action::Count;
+    }
     Action::Unknown
 }
 
@@ -246,6 +251,7 @@ pub fn request_of(line: &[u8], action: Part, specifier: Part) -> Request
         Action::Ping => Request::Ping,
         Action::Scoped(switch) => scoped_request(line, specifier, switch),
         Action::Named(verb) => named_request(line, specifier, verb),
+        Action::Count => Request::Count,
         Action::Unknown => Request::Malformed,
     }
 }
