@@ -37,6 +37,7 @@ pub fn conclude(
 {
     let clients = state.clients;
     let settings = state.settings;
+    let counts = state.counts;
     match came {
         Outcome::Refused(class) => {
             let denial = Denial::Class(class);
@@ -55,6 +56,7 @@ pub fn conclude(
                 state: State {
                     clients: next,
                     settings,
+                    counts,
                 },
                 written,
             }
@@ -65,6 +67,7 @@ pub fn conclude(
                 state: State {
                     clients,
                     settings: next,
+                    counts,
                 },
                 written,
             }

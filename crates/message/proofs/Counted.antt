@@ -33,11 +33,11 @@ module _ {d e : List ℕ} {at p m : ℕ} (n : ℕ) (h : n < 2 ^ 32) (room : at +
 
 module _ (x : Counts) (active : ℕ) {d e f g h i : List ℕ} {p q r s t : ℕ} where
   pub counts-all :
-      Puts d 0 (91 ∷ decimal (x .lines)) e p × (p ≤ 0 + 11) → Puts e p (44 ∷ decimal (x .errors)) f q × (q ≤ p + 11)
+      64 ≤ length d → Puts d 0 (91 ∷ decimal (x .lines)) e p × (p ≤ 0 + 11) → Puts e p (44 ∷ decimal (x .errors)) f q × (q ≤ p + 11)
       → Puts f q (44 ∷ decimal (x .updates)) g r × (r ≤ q + 11) → Puts g r (44 ∷ decimal active) h s × (s ≤ r + 11) → Puts h s (93 ∷ []) i t
-      → Puts d 0 (countsText x active) i t × (t ≤ 64)
+      → Puts d 0 (countsText x active) i t × (t ≤ length d)
   unfolding countsText bytes
-  counts-all a b c k l =
+  counts-all room a b c k l =
       let z = l .ends in
       (puts-both (puts-both (puts-both (puts-both (a .0) (b .0)) (c .0)) (k .0)) l, omega (arith, a .1, b .1, c .1, k .1))
 

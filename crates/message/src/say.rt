@@ -348,7 +348,7 @@ fn put_count(out: &mut [u8], at: usize, mark: u8, n: u32) -> usize
 // "`[lines,errors,updates,active]`", at the front of a buffer of its own.
 pub fn put_counts(out: &mut [u8], counts: Counts, active: u32) -> usize
     requires { ⌜ 64 ≤ length (now out) ⌝ }
-    ensures { λ r. ⌜ (Puts (now (out .entry)) 0 (countsText counts active) (now (out .exit)) r) × (r ≤ 64) ⌝ }
+    ensures { λ r. ⌜ (Puts (now (out .entry)) 0 (countsText counts active) (now (out .exit)) r) × (r ≤ length (now (out .entry))) ⌝ }
 {
     let second = put_count(out, 0, b'[', counts.lines);
     let third = put_count(out, second, b',', counts.errors);

@@ -207,7 +207,12 @@ readCounts xs now =
 counts-parts : (x : Counts) (n : ℕ)
     → countsText x n ≡ 91 ∷ (decimal (x .lines) ++ 44 ∷ (decimal (x .errors) ++ 44 ∷ (decimal (x .updates) ++ 44 ∷ (decimal n ++ 93 ∷ []))))
 unfolding countsText bytes
-counts-parts x n = simp append-assoc
+counts-parts x n =
+    let a : List ℕ = 91 ∷ decimal (x .lines) in
+    let b : List ℕ = 44 ∷ decimal (x .errors) in
+    let c : List ℕ = 44 ∷ decimal (x .updates) in
+    let d : List ℕ = 44 ∷ decimal n in
+    append-assoc (a ++ b ++ c) d (93 ∷ []) ∙ append-assoc (a ++ b) c (d ++ 93 ∷ []) ∙ append-assoc a b (c ++ (d ++ 93 ∷ []))
 
 readCounted : List ℕ → Reply
 readCounted xs = readCounts (drop 1 (readValue xs)) (readTime xs)

@@ -1,6 +1,6 @@
 -- Laws of records that are counted where they stand. Assumes nothing.
-use Prim.Native.Nat.{ℕ, _+_, _*_, _/_, _%_, _≤_, _<_}
-use native.Mathlib.Nat.{div-add-mod', add-zero, add-assoc}
+use Prim.Native.Nat.{ℕ, _+_, _-_, _*_, _/_, _%_, _≤_, _<_}
+use native.Mathlib.Nat.{div-add-mod', zero-add, add-zero, add-assoc}
 use native.Mathlib.Omega.{arith}
 use borrow.Author.Tests.{eq-eqb, ne-eqb}
 use mathlib.Core.Bool.{Bool, true, false, cond, not, _&&_, false≢true}
@@ -9,16 +9,22 @@ use mathlib.Core.Option.{none}
 use mathlib.Core.Path.{_≡_, refl, sym, ap, ap₂, _∙_}
 use lib.Dec.{eqb}
 use lib.ListN.{length, take, drop, length-append, length-drop, length-take}
-use lib.Seq.{drop-append-seam, drop-drop}
+use lib.Seq.{sets-eq, take-append-seam, drop-append-seam, drop-drop}
 use Rattle.ascii.specs.Text.{bytes}
 use Rattle.ascii.specs.Bytes.{same, head, all, after, isSome}
 use Rattle.ascii.specs.Numbers.{twoBytes}
+use Rattle.ascii.specs.Writer.{Puts}
+use Rattle.ascii.specs.Reader.{ByteAt}
 use Rattle.ascii.proofs.Lists.{all-parts}
-use Rattle.message.specs.Reply.{Reply, replyLine, updateLine, begins, isError}
+use Rattle.counter.specs.declared.Counts.{Counts}
+use Rattle.message.specs.Reply.{Reply, counted, countsText, replyLine, updateLine, begins, isError}
+use Rattle.message.specs.Said.{countedText}
 use Rattle.outbox.specs.Outbox.{Record, final, update, orderChange, orderCommand, mark, client, body, encode, encodeAll}
 use Rattle.outbox.specs.Sent.{errorTo, updateTo, errorsSent, updatesSent}
+use Rattle.outbox.specs.Written.{sealed, LineRoom, RoomFor}
 use Rattle.outbox.specs.Tallied.{sizeAt, isTo, errorAt, updateAt, Holds, tallyOf}
 use Rattle.outbox.specs.declared.tally.Tally.{Tally}
+use Rattle.outbox.proofs.Written.{line-of}
 
 -- ## Texts that begin with a word
 
@@ -63,13 +69,16 @@ module _ (out : List ℕ) (at : ℕ) where
   unfolding bytes
   error-none h = short-begins (bytes "error_") (drop at out) (rw length-drop (omega arith))
 
-  pub error-past : 6 ≤ length out → length out < at + 6 → false ≡ begins (bytes "error_") (drop at out)
+  pub error-past : 6 ≤ length out → length out - 6 < at → false ≡ begins (bytes "error_") (drop at out)
   unfolding bytes
   error-past g h = short-begins (bytes "error_") (drop at out) (rw length-drop (omega arith))
 
-  pub error-front : at + 6 ≤ length out → (t : Bool) → t ≡ same (take 6 (drop at out)) (bytes "error_") → t ≡ begins (bytes "error_") (drop at out)
+  pub error-front : 6 ≤ length out → at ≤ length out - 6 → {t : Bool} → t ≡ same (take (at + 6 - at) (drop at out)) (bytes "error_")
+      → t ≡ begins (bytes "error_") (drop at out)
   unfolding bytes
-  error-front h t e = e ∙ front-begins (bytes "error_") (drop at out) (rw length-drop (omega arith))
+  error-front g h e =
+      let n : at + 6 - at ≡ 6 = omega arith in
+      e ∙ ap (λ (k : ℕ). same (take k (drop at out)) (bytes "error_")) n ∙ front-begins (bytes "error_") (drop at out) (rw length-drop (omega arith))
 
 -- ## A record and what follows it
 
@@ -103,6 +112,10 @@ body-in (orderCommand c p v) y = refl
 
 -- ## What is counted of it
 
+feedless : all (λ b. not (eqb 10 b)) (bytes "error_") ≡ true
+unfolding all bytes
+feedless = refl
+
 module _ (d : ℕ) (y : List ℕ) where
   -- of the four marks one begins so
   error-in : (r : Record)
@@ -111,10 +124,6 @@ module _ (d : ℕ) (y : List ℕ) where
   error-in (final c r) =
       ap (λ (t : Bool). cond (eqb c d && t) 1 0)
       (ap (begins (bytes "error_")) (append-assoc (replyLine r) (10 ∷ []) y) ∙ line-begins (bytes "error_") feedless (replyLine r) y)
-    where
-      feedless : all (λ b. not (eqb 10 b)) (bytes "error_") ≡ true
-      unfolding all bytes
-      feedless = refl
   error-in (update c r) = refl
   error-in (orderChange c p v) = refl
   error-in (orderCommand c p v) = refl
@@ -160,47 +169,52 @@ module _ (r : Record) (y out : List ℕ) (at : ℕ) (h : drop at out ≡ encode 
 
 size-of : (r : Record) → length (encode r) ≡ 5 + length (body r)
 unfolding encode mark twoBytes bytes
-size-of (final c r) = refl
-size-of (update c r) = refl
-size-of (orderChange c p v) = refl
-size-of (orderCommand c p v) = refl
+size-of (final c r) = omega arith
+size-of (update c r) = omega arith
+size-of (orderChange c p v) = omega arith
+size-of (orderCommand c p v) = omega arith
+
+-- ## The record at a position, by the code's tests
+
+module _ (out : List ℕ) (at m d : ℕ) {b : ℕ} (first : ByteAt out at b) where
+  pub not-marked : (b ≡ m → ⊥) → false ≡ isTo out at m d
+  unfolding isTo
+  not-marked h = rw (← (first .is), ne-eqb b m h)
+
+  pub marked : b ≡ m → {e : ℕ} → ByteAt out (at + 2) e → eqb e d ≡ isTo out at m d
+  unfolding isTo
+  marked h {e} second = rw (← (first .is), eq-eqb b m h, ← (second .is))
+
+module _ (out : List ℕ) (at d : ℕ) {t : Bool} where
+  pub no-reply : t ≡ isTo out at 82 d → t ≡ false → 0 ≡ errorAt out at d
+  unfolding errorAt
+  no-reply e f = rw (← e, f)
+
+  pub a-reply : t ≡ isTo out at 82 d → t ≡ true → {u : Bool} → u ≡ begins (bytes "error_") (drop (at + 5) out)
+      → {r : ℕ} → r ≡ cond u 1 0 → r ≡ errorAt out at d
+  unfolding errorAt
+  a-reply e f g i = i ∙ rw (← e, f, ← g)
+
+  pub an-update : t ≡ isTo out at 85 d → t ≡ true → 1 ≡ updateAt out at d
+  unfolding updateAt
+  an-update e f = rw (← e, f)
+
+  pub no-update : t ≡ isTo out at 85 d → t ≡ false → 0 ≡ updateAt out at d
+  unfolding updateAt
+  no-update e f = rw (← e, f)
 
 one-or-none : (b : Bool) → cond b 1 0 ≤ 1
 one-or-none true = omega arith
 one-or-none false = omega arith
 
--- ## The record at a position, by the code's tests
-
-module _ (out : List ℕ) (at m d : ℕ) where
-  pub not-marked : (head (drop at out) ≡ m → ⊥) → false ≡ isTo out at m d
-  unfolding isTo
-  not-marked h = rw (ne-eqb (head (drop at out)) m h)
-
-  pub marked : head (drop at out) ≡ m → (b : ℕ) → b ≡ head (drop (at + 2) out) → (t : Bool) → t ≡ eqb b d → t ≡ isTo out at m d
-  unfolding isTo
-  marked h b e t f = rw (eq-eqb (head (drop at out)) m h, ← e) f
-
-module _ (out : List ℕ) (at d : ℕ) {t : Bool} where
-  pub no-reply : t ≡ isTo out at 82 d → t ≡ false → (0 ≡ errorAt out at d) × (0 ≤ 1)
+module _ (out : List ℕ) (at d e : ℕ) where
+  pub error-low : e ≡ errorAt out at d → e ≤ 1
   unfolding errorAt
-  no-reply e f = (rw (← e, f), omega arith)
+  error-low h = rw h (one-or-none (isTo out at 82 d && begins (bytes "error_") (drop (at + 5) out)))
 
-  module _ (e : t ≡ isTo out at 82 d) (f : t ≡ true) {u : Bool} (g : u ≡ begins (bytes "error_") (drop (at + 5) out)) where
-    pub an-error : u ≡ true → (1 ≡ errorAt out at d) × (1 ≤ 1)
-    unfolding errorAt
-    an-error i = (rw (← e, f, ← g, i), omega arith)
-
-    pub no-error : u ≡ false → (0 ≡ errorAt out at d) × (0 ≤ 1)
-    unfolding errorAt
-    no-error i = (rw (← e, f, ← g, i), omega arith)
-
-  pub an-update : t ≡ isTo out at 85 d → t ≡ true → (1 ≡ updateAt out at d) × (1 ≤ 1)
+  pub update-low : e ≡ updateAt out at d → e ≤ 1
   unfolding updateAt
-  an-update e f = (rw (← e, f), omega arith)
-
-  pub no-update : t ≡ isTo out at 85 d → t ≡ false → (0 ≡ updateAt out at d) × (0 ≤ 1)
-  unfolding updateAt
-  no-update e f = (rw (← e, f), omega arith)
+  update-low h = rw h (one-or-none (isTo out at 85 d))
 
 -- ## All records: the walk over them
 
@@ -216,9 +230,12 @@ pub record Partway (out rest : List ℕ) (written d : ℕ) (rs : List Record) (a
 abbrev pub Walks : List ℕ → ℕ → ℕ → ℕ → ℕ → ℕ → Type 0
 Walks out written d at errors updates = (rs : List Record) (g : Holds out written rs) → Partway out (g .rest) written d rs at errors updates
 
+abbrev made : ℕ → ℕ → Tally
+made x y = record { errors = x; updates = y }
+
 module _ (out : List ℕ) (written d : ℕ) where
   pub walk-begins : Walks out written d 0 0 0
-  walk-begins rs g = record { left = rs; is = g .is; ends = sym (g .ends); errors-are = refl; updates-are = refl }
+  walk-begins rs g = record { left = rs; is = g .is; ends = zero-add _ ∙ sym (g .ends); errors-are = sym (zero-add _); updates-are = sym (zero-add _) }
 
   pub walk-ends : (at errors updates : ℕ) → written ≤ at → Walks out written d at errors updates
       → (rs : List Record) → Holds out written rs → _≡_ {A = Tally} (record { errors = errors; updates = updates }) (tallyOf d rs)
@@ -227,17 +244,16 @@ module _ (out : List ℕ) (written d : ℕ) where
     where
       go : (left : List Record) → at + length (encodeAll left) ≡ written → errorsSent d rs ≡ errors + errorsSent d left
           → updatesSent d rs ≡ updates + updatesSent d left → _≡_ {A = Tally} (record { errors = errors; updates = updates }) (tallyOf d rs)
-      unfolding encodeAll errorsSent updatesSent
-      go [] e a b = rw (a, b, add-zero)
+      go [] e a b = sym (ap₂ (λ (x y : ℕ). made x y) (a ∙ add-zero errors) (b ∙ add-zero updates))
       go (r ∷ left) e a b = absurd (omega (arith, size-of r, length-append (encode r) (encodeAll left)))
 
   pub walk-on : (at errors updates : ℕ) → at < written → Walks out written d at errors updates
       → (e u p : ℕ) → e ≡ errorAt out at d → u ≡ updateAt out at d → p ≡ at + 5 + sizeAt out at → Walks out written d p (errors + e) (updates + u)
+  unfolding encodeAll errorsSent updatesSent
   walk-on at errors updates h f e u p i j k rs g = go (f rs g .left) (f rs g .is) (f rs g .ends) (f rs g .errors-are) (f rs g .updates-are)
     where
       go : (left : List Record) → drop at out ≡ encodeAll left ++ g .rest → at + length (encodeAll left) ≡ written → errorsSent d rs ≡ errors + errorsSent d left
           → updatesSent d rs ≡ updates + updatesSent d left → Partway out (g .rest) written d rs p (errors + e) (updates + u)
-      unfolding encodeAll errorsSent updatesSent
       go [] q z a b = absurd (omega arith)
       go (r ∷ left) q z a b =
           let y = encodeAll left ++ g .rest in
@@ -250,3 +266,36 @@ module _ (out : List ℕ) (written d : ℕ) where
             errors-are = a ∙ ap (λ (m : ℕ). errors + (m + errorsSent d left)) (sym (i ∙ is-error r y out at s d)) ∙ sym (add-assoc errors e (errorsSent d left));
             updates-are = b ∙ ap (λ (m : ℕ). updates + (m + updatesSent d left)) (sym (j ∙ is-update r y out at s d)) ∙ sym (add-assoc updates u (updatesSent d left));
           }
+
+-- ## What was written stands at the front
+
+module _ {d xs e : List ℕ} {p : ℕ} (x : Puts d 0 xs e p) (h : p ≤ length d) where
+  size : p ≡ length xs
+  size = x .ends ∙ zero-add (length xs)
+
+  split : e ≡ xs ++ drop (0 + length xs) d
+  split = x .is ∙ sets-eq xs d 0 (let z = x .ends in omega arith)
+
+  pub front : take p e ≡ xs
+  front = ap (λ (k : ℕ). take k e) size ∙ ap (take (length xs)) split ∙ take-append-seam xs (drop (0 + length xs) d)
+
+pub puts-holds : {d e : List ℕ} {rs : List Record} {p : ℕ} → Puts d 0 (encodeAll rs) e p → p ≤ length d → Holds e p rs
+puts-holds {d} {e} {rs} x h = record { rest = drop (0 + length (encodeAll rs)) d; is = split x h; ends = size x h }
+
+-- the text of counts
+module _ (x : Counts) (m : ℕ) {d text : List ℕ} {p : ℕ} (w : Puts d 0 (countsText x m) text p × (p ≤ length d)) where
+  text-is : take p text ≡ countsText x m
+  text-is = front (w .0) (w .1)
+
+  pub text-part : p ≡ length (take p text)
+  text-part = size (w .0) (w .1) ∙ ap length (sym text-is)
+
+  module _ (out : List ℕ) (at c t : ℕ) where
+    pub text-room : RoomFor out at (final c (counted x m t)) → LineRoom out at (bytes "RP") c (countedText (take p text) t)
+    unfolding replyLine countedText
+    text-room h = rw text-is (line-of out at c (counted x m t) h)
+
+    pub text-put : {e : List ℕ} {q : ℕ} → Puts out at (sealed (bytes "RP") c (countedText (take p text) t ++ bytes "\n")) e q
+        → Puts out at (encode (final c (counted x m t))) e q
+    unfolding sealed encode mark client body replyLine countedText
+    text-put y = rw text-is at y

@@ -1,5 +1,6 @@
 // What is sent to a client, counted by reading the records off an outbox.
 ghost use mathlib.Core.Path.{_≡_};
+ghost use mathlib.Core.Bool.{cond};
 ghost use mathlib.Core.List.{List};
 ghost use Prim.Native.Nat.{_+_, _≤_};
 ghost use lib.ListN.{drop};
@@ -40,16 +41,19 @@ fn is_to(out: &[u8], at: usize, mark: u8, client: u8) -> bool
     byte(out, at + 2) == client
 }
 
+fn one_if(b: bool) -> u32
+    ensures { λ r. ⌜ r ≡ cond b 1 0 ⌝ }
+{
+    if b { 1 } else { 0 }
+}
+
 // 1 where it is an error that is replied to the client.
 fn error_at(out: &[u8], at: usize, client: u8) -> u32
     requires { ⌜ at ≤ 65536 ⌝ }
-    ensures { λ r. ⌜ (r ≡ errorAt (now (out .entry)) at client) × (r ≤ 1) ⌝ }
+    ensures { λ r. ⌜ r ≡ errorAt (now (out .entry)) at client ⌝ }
 {
-    if !is_to(out, at, b'R', client) {
-        return 0;
-    }
-    if is_error(out, at + 5) {
-        return 1;
+    if is_to(out, at, b'R', client) {
+        return one_if(is_error(out, at + 5));
     }
     0
 }
@@ -57,7 +61,7 @@ fn error_at(out: &[u8], at: usize, client: u8) -> u32
 // 1 where it is an update to the client.
 fn update_at(out: &[u8], at: usize, client: u8) -> u32
     requires { ⌜ at ≤ 65536 ⌝ }
-    ensures { λ r. ⌜ (r ≡ updateAt (now (out .entry)) at client) × (r ≤ 1) ⌝ }
+    ensures { λ r. ⌜ r ≡ updateAt (now (out .entry)) at client ⌝ }
 {
     if is_to(out, at, b'U', client) {
         return 1;
@@ -76,7 +80,7 @@ fn past_record(out: &[u8], at: usize) -> usize
 }
 
 // Of the records in the first `written` bytes.
-pub fn tally(out: &[u8], written: usize, client: u8) -> Tally
+pub fn sent_to(out: &[u8], written: usize, client: u8) -> Tally
     requires { ⌜ written ≤ 65536 ⌝ }
     ensures { λ r. ⌜ ((rs : List Record) → Holds (now (out .entry)) written rs → r ≡ tallyOf client rs) ⌝ }
 {

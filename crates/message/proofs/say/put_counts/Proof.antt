@@ -27,7 +27,7 @@ returns c =
     let fourth = c .before .before .before .before .before .before in
     let second = fourth .before .before .before .before .before .before .before .before in
     let start = second .before .before .before .before .before .before .before in
-    counts-all (start .args .counts) (start .args .active) (second .before .before .before .before .put-count .ensures) (second .put-count2 .ensures)
+    counts-all (start .args .counts) (start .args .active) (start .pre) (second .before .before .before .before .put-count .ensures) (second .put-count2 .ensures)
     (fourth .before .before .before .before .put-count3 .ensures) (fourth .put-count4 .ensures) (c .before .before .put-byte .ensures)
 
 pub put-counts-spec : {M : Type 1} → statement M
