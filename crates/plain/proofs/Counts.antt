@@ -14,7 +14,8 @@ use Rattle.counter.specs.Counts.{highest, stopping, linesCounted, allCounted}
 use Rattle.message.specs.Line.{Parts}
 use Rattle.message.specs.Request.{Request, request}
 use Rattle.message.specs.Reply.{Report, Reply, isError}
-use Rattle.outbox.specs.Outbox.{Record, final, update}
+use Rattle.fit.specs.Fit.{storedForm}
+use Rattle.outbox.specs.Outbox.{Record, final, update, orderChange, orderCommand}
 use Rattle.outbox.specs.Sent.{errorTo, updateTo, errorsSent, updatesSent}
 use Rattle.table.specs.Table.{Parameter, Table}
 use Rattle.table.specs.Search.{Placed, parameters}
@@ -69,6 +70,14 @@ module _ (d : ℕ) where
         updates = updates-append rs ss ∙ omega (arith, h .updates, k .updates);
       }
 
+  none-change : (c p : ℕ) (v : List ℕ) → NoneTo (orderChange c p v ∷ [])
+  unfolding errorsSent updatesSent errorTo updateTo
+  none-change c p v = record { errors = refl; updates = refl }
+
+  none-command : (c p : ℕ) (v : List ℕ) → NoneTo (orderCommand c p v ∷ [])
+  unfolding errorsSent updatesSent errorTo updateTo
+  none-command c p v = record { errors = refl; updates = refl }
+
   module _ (c : ℕ) (e : eqb c d ≡ false) where
     none-final : (r : Reply) → NoneTo (final c r ∷ [])
     unfolding errorsSent updatesSent errorTo updateTo
@@ -121,7 +130,7 @@ module _ (d : ℕ) (above : 8 ≤ d) where
     other = ne-eqb c d (λ e. omega arith)
 
     before-none : (w : Table) (n : Node) (now : ℕ) (q : Request) → NoneTo d (before (outcome w n c now q))
-    unfolding activates deactivates sets errorsSent updatesSent errorTo updateTo
+    unfolding activates deactivates sets
     before-none w n now =
         outcome-holds (λ q o. NoneTo d (before o)) w n c now
         (record {
@@ -130,9 +139,8 @@ module _ (d : ℕ) (above : 8 ≤ d) where
           telling = λ q f h. none-none d;
           activating = λ m f h. none-of d c other _ (n .values) 0 (parameters w);
           deactivating = λ m f h. none-none d;
-          setting = λ k v h.
-              let u = no-updates (n .clients) (k .1 .home) _ in record { errors = u .errors; updates = u .updates };
-          doing = λ k v h. record { errors = refl; updates = refl };
+          setting = λ k v h. none-both d _ _ (none-change d c (k .0) (storedForm (k .1 .it .datainfo) v)) (no-updates (n .clients) (k .1 .home) _);
+          doing = λ k v h. none-command d c (k .0) _;
         })
 
     pub no-answers : (w : Table) (n : Node) (now : ℕ) (p : Parts) → NoneTo d (answerParts w n c now p .1)

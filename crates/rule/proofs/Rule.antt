@@ -28,7 +28,7 @@ use Rattle.rule.specs.Records.{updatesFor, repliesFor, inScopeOf, report
 use Rattle.rule.specs.Theorems.{partsAt, requestOf, ToActive, UpdatesGoToActiveClients, Set, ReadingSets, ReadingsAreSentToAll, UnreadableSets, UnreadablesAreSentToAll, Changed, ChangeSets, OfPiece, of-piece, ChangesAreSentToAll, BySetting, by-reading, by-unreadable, by-change, ValuesAlterBySettings, InitialUpdates, ActivationsSendAll, ActivationsAreOnesOwn, AltersNothing, ErrorsAlterNothing}
 use Rattle.rule.proofs.Laws.{updates-append, replies-append, no-final-replies, updates-to-member, updates-of-member, updates-of-for, sent-once, sent-never}
 use Rattle.rule.proofs.Told.{kind, apart, told-kind, scope-is}
-use Rattle.rule.proofs.Calls.{quiet, idle, outcomeAt, Answered, Did, opened, shut, received, read, unread, line, every-call, accepted-call, Line-of, line-of, line-of-final, refusals-alter-nothing}
+use Rattle.rule.proofs.Calls.{quiet, idle, toldNode, outcomeAt, Answered, Did, opened, shut, received, read, unread, line, every-call, accepted-call, Line-of, line-of, line-of-final, refusals-alter-nothing}
 
 -- ## Errors
 
@@ -90,7 +90,7 @@ reading-sets {w} {n} {k = k} {bs} {t} (read p q f) =
     record {
       p = p;
       fitting = f;
-      set = set-sent w n (withValue n k v) k p v _ q refl (λ d. refl);
+      set = set-sent w n (toldNode n k p v) k p v _ q refl (λ d. refl);
       records = refl;
     }
 
@@ -101,7 +101,7 @@ unreadable-sets {w} {n} {k = k} {t = t} (unread p f q i) =
       p = p;
       f = f;
       known = i;
-      set = set-sent w n (withValue n k v) k p v _ q refl (λ d. refl);
+      set = set-sent w n (toldNode n k p v) k p v _ q refl (λ d. refl);
       records = refl;
     }
 

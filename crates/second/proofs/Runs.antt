@@ -158,7 +158,7 @@ module _ (w : Table) where
       → afterMark n s m ≡ afterMark n (λ d. firstLine (lines s (mark m ∷ x) d)) m
   unfolding own consIf itemOf markOf
   mark-lines n s (feeds c t) x =
-      ap (λ q. answerParts w n c t (partsOf (content (lineOf (relined (n .clients c) (firstLine (seen (s c) (consIf q (mark (feeds c t)) (own c x)))))))))
+      ap (λ q. told (answerParts w (withLine n c) c t (partsOf (content (lineOf (relined (n .clients c) (firstLine (seen (s c) (consIf q (mark (feeds c t)) (own c x))))))))))
       (sym (eq-eqb c c refl))
   mark-lines n s (opens c t) x = refl
   mark-lines n s (closes c t) x = refl

@@ -1,13 +1,15 @@
 -- What is counted, and the plain node that a state stands for (M-108). Assumes nothing.
-use Prim.Native.Nat.{ℕ, zero, suc, _+_, _≤_, _<_, min}
+use Prim.Native.Nat.{ℕ, zero, suc, _+_, _^_, _≤_, _<_, min}
 use native.Mathlib.Nat.{add-zero, zero-add}
 use native.Mathlib.Omega.{arith}
 use borrow.Author.Tests.{eqb-true, eqb-false, ltb-true, ltb-false, lt-ltb, le-ltb, eq-eqb, ne-eqb}
 use mathlib.Core.Bool.{Bool, true, false, cond}
 use mathlib.Core.List.{List}
 use mathlib.Core.Path.{_≡_, refl, sym, ap, ap₂, subst, _∙_, fun-ext}
+use denote.Shadow.{shadow}
+use mir.Val.{Val}
 use lib.Dec.{eqb, ltb}
-use lib.ListN.{length, getD, set, length-set, List·getD-eq-default}
+use lib.ListN.{length, length-map, getD, set, length-set, List·getD-eq-default}
 use lib.Seq.{getD-set-same, getD-set-other}
 use Rattle.counter.specs.declared.Counts.{Counts}
 use Rattle.counter.specs.Counts.{highest, noCounts, stopping, linesCounted, allCounted}
@@ -17,6 +19,7 @@ use Rattle.outbox.specs.Tallied.{Holds}
 use Rattle.plain.specs.Node.{Node, put, withCount, withCounts, counting}
 use Rattle.plain.proofs.Counts.{counted-twice, line-counted, NoneTo}
 use Rattle.state.specs.declared.State.{State}
+use Rattle.state.proofs.State.{the-type, the-field}
 use Rattle.state.specs.View.{countsAt, view, nextCounts}
 use Rattle.state.specs.Fit.{isUnfit}
 use Rattle.table.specs.Table.{Table}
@@ -111,6 +114,33 @@ module _ (table : List ℕ) (s : State) (values : List ℕ) (size : length (s .c
         go d false l e =
             let n = none d (l refl) in
             rw (e, n .errors, n .updates) (sym (again (getD (s .counts) d noCounts) 0 0 0))
+
+-- ## The code that counts
+
+-- how many elements the array has, as the fields of a struct are handed to a proof
+pub counts-sized : (s : State) {v : List Val} → shadow (the-field .row .own (the-type .to s) v) → length (s .counts) ≡ 8
+counts-sized s g = sym (length-map (s .counts) _) ∙ g .1 .1 .1 .1 .0 .1 .0 .1
+
+stays : (k : ℕ) → k < 2 ^ 32 → k ≡ stopping k 0
+stays k h = omega arith
+
+-- a count of 32 bits
+pub low-stays : (x : Counts) → x .lines < 2 ^ 32 → x .errors < 2 ^ 32 → x .updates < 2 ^ 32 → x ≡ allCounted x 0 0 0
+low-stays x p q r = λ i. record { lines = stays (x .lines) p i; errors = stays (x .errors) q i; updates = stays (x .updates) r i }
+
+module _ (xs counts : List Counts) (out : List ℕ) (written c : ℕ) (h : (rs : List Record) → Holds out written rs → counts ≡ sentCounted xs rs c) where
+  -- one client more
+  pub sent-step : (x : Counts) → ((rs : List Record) → Holds out written rs → x ≡ withSent (getD counts c noCounts) rs c)
+      → (rs : List Record) → Holds out written rs → set counts c x ≡ sentCounted xs rs (c + 1)
+  unfolding sentCounted
+  sent-step x y rs k =
+      let next : c + 1 ≡ suc c = omega arith in
+      ap₂ (λ (l : List Counts) (z : Counts). set l c z) (h rs k) (y rs k ∙ ap (λ (l : List Counts). withSent (getD l c noCounts) rs c) (h rs k))
+      ∙ ap (sentCounted xs rs) (sym next)
+
+  -- all eight
+  pub sent-ends : c ≤ 8 → 8 ≤ c → (rs : List Record) → Holds out written rs → counts ≡ sentCounted xs rs 8
+  sent-ends p q rs k = let e : c ≡ 8 = omega arith in h rs k ∙ ap (sentCounted xs rs) e
 
 -- a state whose counts alone are others
 pub counts-fit : (w : Table) (s r : State) (values : List ℕ) (xs : List Counts) → r ≡ nextCounts s xs → isUnfit w s values ≡ false → isUnfit w r values ≡ false

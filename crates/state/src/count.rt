@@ -6,6 +6,7 @@ use outbox::tally::sent_to;
 ghost use mathlib.Core.Path.{_≡_};
 ghost use mathlib.Core.List.{List};
 ghost use Prim.Native.Nat.{_<_, _≤_};
+ghost use Rattle.counter.specs.Counts.{allCounted};
 ghost use Rattle.outbox.specs.Outbox.{Record};
 ghost use Rattle.outbox.specs.Tallied.{Holds};
 ghost use Rattle.state.specs.View.{countsAt};
@@ -78,11 +79,18 @@ pub fn sent_counted(s: State, out: &[u8], written: usize) -> State
     }
 }
 
+// A count of 32 bits is at most where it stops.
+fn stopped(one: Counts) -> Counts
+    ensures { λ r. ⌜ r ≡ allCounted one 0 0 0 ⌝ }
+{
+    one
+}
+
 // Client c's counts.
 pub fn counts_of(s: State, c: usize) -> Counts
     requires { ⌜ c < 8 ⌝ }
     ensures { λ r. ⌜ r ≡ countsAt (s .counts) c ⌝ }
 {
     let counts = s.counts;
-    counts[c]
+    stopped(counts[c])
 }

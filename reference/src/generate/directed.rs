@@ -62,6 +62,8 @@ fn over_good_tables() -> Vec<(&'static str, Script)> {
         ("a broken sensor", broken_sensor()),
         ("what ends an error", ended_errors()),
         ("refused reports of a broken sensor", refused_reports()),
+        ("who talks how much", who_talks()),
+        ("counts of another open", counts_of_another_open()),
         ("the lowest of several numbers", lowest_numbers()),
         ("start too late", late_start()),
         ("start with a short values area", short_start()),
@@ -464,6 +466,33 @@ fn refused_reports() -> Script {
         .unreadable(0, 257)
         .at(MAX_TIME)
         .unreadable(0, 4)
+}
+
+/// Each line feed counts, each error reply and each update; other custom
+/// actions are not built.
+fn who_talks() -> Script {
+    started(vec![three()])
+        .open(0)
+        .open(1)
+        .lines(&["_count", "activate", "_count x y"])
+        .line(1, "_counts")
+        .line(1, "change t1:p 4")
+        .unreadable(0, 2)
+        .lines(&["read t1:p", "", "_count"])
+        .line(1, "_count")
+}
+
+/// An open begins anew, a refused one doesn't; a close forgets nothing of it.
+fn counts_of_another_open() -> Script {
+    started(vec![three()])
+        .open(0)
+        .line(0, "activate")
+        .open(0)
+        .line(0, "_count")
+        .close(0)
+        .reading(0, "4")
+        .open(0)
+        .line(0, "_count")
 }
 
 /// Calls with several faults.
