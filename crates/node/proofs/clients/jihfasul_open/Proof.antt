@@ -36,12 +36,15 @@ returns-3 c = search open-twice
 opened-requires : tie.Need-opened-requires
 opened-requires c κs = search needs
 
+cleared-requires : tie.Need-cleared-requires
+cleared-requires c κs = search needs
+
 quiet-requires-4 : tie.Need-quiet-requires-4
 quiet-requires-4 c κs = search needs
 
 returns-4 : tie.Need-returns-4
 returns-4 c =
-    let start = c .before .before .before .before .before .before .before .before .before .before .before in
+    let start = c .before .before .before .before .before .before .before .before .before .before .before .before .before in
     let z = clients-sized (start .args .state .clients) (start .good .1 .1 .0 .1 .1 .0) in
     search (open-good, z)
 
@@ -58,5 +61,6 @@ jihfasul-open-spec =
     quiet-requires-3
     returns-3
     opened-requires
+    cleared-requires
     quiet-requires-4
     returns-4)

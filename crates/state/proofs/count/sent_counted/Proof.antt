@@ -52,7 +52,7 @@ loop-again c = (omega arith, search sent-step)
 returns : tie.Need-returns Inv-loop μ-loop
 returns c =
     let start = c .before .before .before .before .before .before in
-    record { size = counts-sized (start .args .s) (start .good .0); is = λ rs h. ap (nextCounts _) (sent-ends _ _ _ _ _ (c .before .loop .inv .1) (c .before .loop .inv .0) (omega arith) rs h) }
+    record { size = counts-sized (start .args .s) (start .good .0); is = λ rs h. ap (nextCounts (start .args .s)) (sent-ends _ _ _ _ _ (c .before .loop .inv .1) (c .before .loop .inv .0) (omega arith) rs h) }
 
 pub sent-counted-spec : {M : Type 1} → statement M
 sent-counted-spec =
