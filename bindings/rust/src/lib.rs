@@ -19,4 +19,4 @@ pub use node::{Held, Node, Taken, Value, OUTBOX, VALUES};
 pub use outbox::{Mark, Record, Records};
 pub use refusal::Refusal;
 pub use sensor::SensorError;
-pub use state::{Done, Shown, State};
+pub use state::{Counts, Done, Shown, State};
