@@ -2,7 +2,7 @@
 use mathlib.Core.Path.{_≡_, refl}
 use Rattle.report.specs.Notes.{noteMember, notedMembers, notedValue, notedReport}
 use Rattle.examples.specs.Demo.{demo, noted, stage, oneModule, reported, onOff, kelvin, initial, small, counted}
-use Rattle.examples.specs.Theorems.{examples, exchanges, changing, failing, pieceCalls, repliesTo, lastWritten, ExamplesAreRight, FiveMilliseconds, WholeReport, NotedReport, TablesAreGood, OutboxExample, BrokenSensor, ExchangesAreRight}
+use Rattle.examples.specs.Theorems.{examples, exchanges, changing, failing, talking, pieceCalls, repliesTo, lastWritten, ExamplesAreRight, FiveMilliseconds, WholeReport, NotedReport, TablesAreGood, OutboxExample, BrokenSensor, WhoTalks, ExchangesAreRight}
 use Rattle.examples.proofs.Computed.{computed}
 
 pub examples-are-right : ExamplesAreRight
@@ -37,3 +37,7 @@ outbox-example = refl
 pub broken-sensor : BrokenSensor
 unfolding computed stage oneModule kelvin initial small counted failing lastWritten
 broken-sensor = refl
+
+pub who-talks : WhoTalks
+unfolding computed stage oneModule kelvin initial small counted talking lastWritten
+who-talks = refl
