@@ -56,10 +56,10 @@ module _ (d : List ℕ) (c : ℕ) (room : 32768 ≤ length d) where
   unfolding bytes
   pong-room t h token k = final-room (pong token t) (omega (arith, pong-length token t, data-length (bytes "null") t, seconds-latest t h))
 
-  pub counted-room : {x : Counts} {m t k : ℕ} {xs : List Counts} {mask : ℕ} → x ≡ countsAt xs k → m ≡ count (bit mask) (below 16) → t ≤ latest
+  pub counted-room : (k : ℕ) (xs : List Counts) (mask : ℕ) {x : Counts} {m t : ℕ} → x ≡ countsAt xs k → m ≡ count (bit mask) (below 16) → t ≤ latest
       → RoomFor d 0 (final c (counted x m t))
   unfolding countsAt
-  counted-room {x} {m} {t} {mask = mask} e f h =
+  counted-room k xs mask {x} {m} {t} e f h =
       let held : CountsHeld x = rw e (omega arith, (omega arith, omega arith)) in
       final-room (counted x m t) (omega (arith, says-counted x m t held (omega (arith, f, count-low (bit mask) 16)) h .1))
 

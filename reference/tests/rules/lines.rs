@@ -1,11 +1,6 @@
 //! Lines and their answers.
 
 use crate::build::*;
-use reference::node::Node;
-
-fn lab_node(clients: &[u64]) -> Node {
-    started(&lab(), clients, 1_000)
-}
 
 fn error(action: &str, specifier: &str, class: &str) -> String {
     let text = match class {
