@@ -125,7 +125,7 @@ fn the_end_shows_active_modules_and_overlong_lines() {
         ],
     };
     let printed = text::print(&history, &history.run().unwrap());
-    assert!(printed.contains("\nclient 1 open active=0004 line=overlong counts=1,0,4\n"));
+    assert!(printed.contains("\nclient 1 open active=0004 line=overlong counts=1,0,3\n"));
     assert!(printed.contains("\nparameter 3 time=0 value=2d30 initial\n"));
 }
 

@@ -16,6 +16,8 @@ struct Watcher {
     open: [bool; CLIENTS],
     /// For each client, which modules it has active.
     active: [Vec<bool>; CLIENTS],
+    /// For each client its lines, errors and updates since it was opened.
+    counts: [[usize; 3]; CLIENTS],
 }
 
 /// What a history was seen to contain.
@@ -95,6 +97,7 @@ impl Watcher {
             parameters: parameters.collect(),
             open: [false; CLIENTS],
             active: std::array::from_fn(|_| vec![false; table.modules.len()]),
+            counts: [[0; 3]; CLIENTS],
         }
     }
 
@@ -134,6 +137,14 @@ impl Watcher {
                 }
             }
         }
+        for record in records {
+            let counts = &mut self.counts[record.client as usize];
+            match record.mark {
+                Mark::Update => counts[2] += 1,
+                Mark::Reply if line_of(record).starts_with("error_") => counts[1] += 1,
+                _ => {}
+            }
+        }
     }
 
     fn set_open(&mut self, client: usize, open: bool, records: &[Record]) {
@@ -141,6 +152,9 @@ impl Watcher {
         assert_ne!(self.open[client], open);
         self.open[client] = open;
         self.active[client].fill(false);
+        if open {
+            self.counts[client] = [0; 3];
+        }
     }
 
     fn follow_reading(&mut self, parameter: usize, time: u64, text: &[u8], records: &[Record]) {
@@ -192,6 +206,7 @@ impl Watcher {
     fn follow_line(&mut self, client: u8, time: u64, records: &[Record]) {
         let (reply, before) = records.split_last().expect("a reply");
         assert_eq!((reply.mark, reply.client), (Mark::Reply, client));
+        self.counts[client as usize][0] += 1;
         let line = line_of(reply);
         let words: Vec<&str> = line.splitn(3, ' ').collect();
         match words[..] {
@@ -226,6 +241,14 @@ impl Watcher {
                 let mut parts = specifier.split(':').map(str::to_string);
                 let names = [parts.next(), parts.next()].map(Option::unwrap).join(":");
                 assert_eq!(self.parameters[self.number_of(&names)].1, report);
+            }
+            ["_counted", ".", report] => {
+                assert!(before.is_empty());
+                let [lines, errors, updates] = self.counts[client as usize];
+                let active = self.active[client as usize].iter().filter(|&&is| is).count();
+                let time = seconds(time);
+                let expected = format!("[[{lines},{errors},{updates},{active}],{{\"t\":{time}}}]");
+                assert_eq!(report, expected);
             }
             ["pong", _, report] => {
                 assert!(before.is_empty());

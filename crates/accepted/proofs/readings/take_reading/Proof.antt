@@ -41,22 +41,26 @@ stored-requires c κs = (search needs, search read-size)
 
 sent-counted-requires : tie.Need-sent-counted-requires
 sent-counted-requires c κs =
-    let start = c .before .before .before .before .before .before .before .before .before .before .before .before .before .before .before .before .before .before in
-    read-few _ (start .args .state) _ _ _ _ _ _ _ (start .pre) _ _ (c .before .before .before .before .before .before .before .before .before .before .before .put-form .ensures) _ _ (c .before .before .before .before .before .before .before .before .bytes-of .ensures) (c .before .before .before .before .before .before .before .bytes-of2 .ensures)
-    (c .before .before .put-updates-to .ensures)
+    let named = c .before .before .before .before .before .before .before .before .before in
+    let formed = named .before .before .before .before in
+    let start = formed .before .before .before .before .before .before .before .before in
+    read-few _ (start .args .state) _ _ _ _ _ _ _ (start .pre) _ _ (formed .put-form .ensures) _ _ (named .before .bytes-of .ensures) (named .bytes-of2 .ensures)
+    (c .before .before .before .before .put-updates-to .ensures)
 
 same-length : tie.Need-same-length
-same-length c = search needs
+same-length c = search (needs, c .before .before .before .before .before .before .before .before .before .before .before .before .before .before .put-form)
 
 same-length-2 : tie.Need-same-length-2
 same-length-2 c = search needs
 
 returns : tie.Need-returns
 returns c =
-    let start = c .before .before .before .before .before .before .before .before .before .before .before .before .before .before .before .before .before .before .before .before .before in
+    let named = c .before .before .before .before .before .before .before .before .before .before in
+    let formed = named .before .before .before .before in
+    let start = formed .before .before .before .before .before .before .before .before in
     let z = settings-sized (start .args .state .settings) (start .good .1 .1 .1 .0 .1 .1 .1 .0) in
-    is-taken _ (start .args .state) _ _ _ _ _ _ _ (start .pre) _ _ (c .before .before .before .before .before .before .before .before .before .before .before .before .before .put-form .ensures) _ _ (c .before .before .before .before .before .before .before .before .before .before .bytes-of .ensures) (c .before .before .before .before .before .before .before .before .before .bytes-of2 .ensures) z _
-    (c .before .stored .ensures) _ _ (c .before .before .before .before .put-updates-to .ensures) _ (c .sent-counted .ensures)
+    is-taken _ (start .args .state) _ _ _ _ _ _ _ (start .pre) _ _ (formed .put-form .ensures) _ _ (named .before .bytes-of .ensures) (named .bytes-of2 .ensures)
+    z _ (c .before .before .stored .ensures) _ _ (c .before .before .before .before .before .put-updates-to .ensures) _ (c .sent-counted .ensures)
 
 pub take-reading-spec : {M : Type 1} → statement M
 take-reading-spec =

@@ -30,19 +30,21 @@ failed-requires c κs = search needs
 
 sent-counted-requires : tie.Need-sent-counted-requires
 sent-counted-requires c κs =
-    let start = c .before .before .before .before .before .before .before .before .before .before .before .before in
-    fail-few _ _ _ _ _ _ (start .pre) (start .args .state .clients) (start .args .fault) _ _ (c .before .before .before .before .before .before .before .before .bytes-of .ensures) (c .before .before .before .before .before .before .before .bytes-of2 .ensures)
-    (c .before .before .before .put-updates-to .ensures)
+    let named = c .before .before .before .before .before .before .before .before .before in
+    let start = named .before .before .before .before .before .before in
+    fail-few _ _ _ _ _ _ (start .pre) (start .args .state .clients) (start .args .fault) _ _ (named .before .bytes-of .ensures) (named .bytes-of2 .ensures)
+    (c .before .before .before .before .before .put-updates-to .ensures)
 
 same-length : tie.Need-same-length
 same-length c = search needs
 
 returns : tie.Need-returns
 returns c =
-    let start = c .before .before .before .before .before .before .before .before .before .before .before .before .before .before .before in
+    let named = c .before .before .before .before .before .before .before .before .before .before in
+    let start = named .before .before .before .before .before .before in
     let z = settings-sized (start .args .state .settings) (start .good .1 .1 .0 .1 .1 .1 .0) in
-    is-failed _ _ _ _ _ _ (start .pre) (start .args .state) (start .args .fault) _ _ (c .before .before .before .before .before .before .before .before .before .before .bytes-of .ensures) (c .before .before .before .before .before .before .before .before .before .bytes-of2 .ensures) z _
-    (c .before .before .fault-number .ensures) _ (c .before .failed .ensures) _ _ (c .before .before .before .before .before .put-updates-to .ensures) _ (c .sent-counted .ensures)
+    is-failed _ _ _ _ _ _ (start .pre) (start .args .state) (start .args .fault) _ _ (named .before .bytes-of .ensures) (named .bytes-of2 .ensures) z _
+    (c .before .before .before .fault-number .ensures) _ (c .before .before .failed .ensures) _ _ (c .before .before .before .before .before .before .put-updates-to .ensures) _ (c .sent-counted .ensures)
 
 pub take-unreadable-spec : {M : Type 1} → statement M
 take-unreadable-spec =
