@@ -74,15 +74,29 @@ module _ (w : Table) (p : Placed Parameter) (s : ℕ × Placed Parameter) where
   unfolding statusOf admitting
   is-status t f a = rw (t, same-self (bytes "target"), f, a)
 
-  -- it is not the parameter itself
-  pub status-other : IsStatus w p s → (k : ℕ) → getElem? (parameters w) k ≡ some p → s .0 ≡ k → ⊥
+  -- one that doesn't admit it is not
+  pub no-status : findParameter w (p .moduleName) (bytes "status") ≡ some s → isFit (verdict (s .1 .it .datainfo) busy) ≡ false → statusOf w p ≡ none
+  unfolding statusOf admitting
+  no-status f a = rw (f, a) (go (same (p .it .name) (bytes "target")))
+    where
+      go : (q : Bool) → _≡_ {A = Option (ℕ × Placed Parameter)} (cond q none none) none
+      go true = refl
+      go false = refl
+
+  -- a status is not the target itself
+  pub named-other : p .it .name ≡ bytes "target" → findParameter w (p .moduleName) (bytes "status") ≡ some s → (k : ℕ) → getElem? (parameters w) k ≡ some p
+      → s .0 ≡ k → ⊥
   unfolding bytes same
-  status-other i k e z =
-      let o : some (s .1) ≡ some p = sym (i .there) ∙ ap (getElem? (parameters w)) z ∙ e in
-      let n : bytes "status" ≡ bytes "target" =
-          sym (i .named) ∙ ap (λ (x : Placed Parameter). x .it .name) (Option·some-injective (s .1) p o) ∙ i .target in
-      let t : true ≡ false = sym (same-self (bytes "status")) ∙ ap (same (bytes "status")) n in
-      true≢false t
+  named-other t f k e z =
+      let there = parameter-there w (p .moduleName) (bytes "status") s f in
+      let named = parameter-named w (p .moduleName) (bytes "status") s f .1 in
+      let o : some (s .1) ≡ some p = sym there ∙ ap (getElem? (parameters w)) z ∙ e in
+      let n : bytes "status" ≡ bytes "target" = sym named ∙ ap (λ (x : Placed Parameter). x .it .name) (Option·some-injective (s .1) p o) ∙ t in
+      let q : true ≡ false = sym (same-self (bytes "status")) ∙ ap (same (bytes "status")) n in
+      true≢false q
+
+  pub status-other : IsStatus w p s → (k : ℕ) → getElem? (parameters w) k ≡ some p → s .0 ≡ k → ⊥
+  status-other i = named-other (i .target) (i .found)
 
 -- ## It is stored as it stands: "a name has no space", so no enum names the string in it
 
