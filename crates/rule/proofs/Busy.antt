@@ -1,7 +1,7 @@
 -- Busy before changed: what follows from what a change sets and sends. Assumes nothing.
 use Prim.Native.Nat.{ℕ}
 use mathlib.Core.Bool.{true, false, cond}
-use mathlib.Core.List.{List, [], _∷_, _++_, append-assoc, List·Memᴰ, List·Memᴰ·tail, List·Memᴰ·cases-cons, List·Memᴰ·append-cases, List·Memᴰ·eq-of-singleton, Memᴰ·append-left}
+use mathlib.Core.List.{List, [], _∷_, _++_, List·Memᴰ, List·Memᴰ·tail, List·Memᴰ·cases-cons, List·Memᴰ·append-cases, List·Memᴰ·eq-of-singleton, Memᴰ·append-left}
 use mathlib.Core.Logic.{⊎-elim}
 use mathlib.Core.Option.{none, some}
 use mathlib.Core.Path.{_≡_, refl, sym, _∙_, ap, subst}
@@ -15,7 +15,7 @@ use Rattle.plain.specs.Node.{Node, Value, reportOf, clientNumbers, updatesTo, s
 use Rattle.plain.specs.Answer.{busy, statusOf, busySettings, busyUpdates}
 use Rattle.plain.specs.Calls.{Event}
 use Rattle.plain.proofs.Put.{put-at, put-other}
-use Rattle.plain.proofs.Busy.{is-status, no-status, status-is, named-other}
+use Rattle.plain.proofs.Busy.{is-status, no-status, named-other}
 use Rattle.rule.specs.Theorems.{Changed, ChangeSets, OfPiece, of-piece, BusyFirst, StatusLeft, BusyBeforeChanged, OtherStatusStays}
 use Rattle.rule.proofs.Laws.{sent-to, updates-to-member}
 use Rattle.rule.proofs.Rule.{not-update, changes-are-sent-to-all}
@@ -39,7 +39,7 @@ module _ (w : Table) (n m : Node) (c k : ℕ) (p : Placed Parameter) (v : List �
     is : statusOf w p ≡ some s
     is = is-status w p s target found e
 
-    first : List Record
+    abbrev first : List Record
     first = updatesTo (m .clients) (s .1 .home) (reportOf (s .1) status) clientNumbers
 
     first-is : busyUpdates (m .clients) (statusOf w p) t ≡ first
@@ -52,9 +52,7 @@ module _ (w : Table) (n m : Node) (c k : ℕ) (p : Placed Parameter) (v : List �
         record {
           earlier = orderChange c k v ∷ (first ++ told);
           records =
-              h .records
-              ∙ ap (λ b. orderChange c k v ∷ (b ++ told ++ (final c (changed (reportOf p value)) ∷ []))) first-is
-              ∙ ap (orderChange c k v ∷_) (sym (append-assoc first told (final c (changed (reportOf p value)) ∷ [])));
+              h .records ∙ ap (λ b. orderChange c k v ∷ (b ++ told ++ (final c (changed (reportOf p value)) ∷ []))) first-is;
           sent = λ d l a. List·Memᴰ·tail (Memᴰ·append-left told (sent-to (m .clients) (s .1 .home) (reportOf (s .1) status) d l a));
           held =
               ap (λ f. f (s .0)) (h .values)

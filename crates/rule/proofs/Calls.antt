@@ -30,7 +30,7 @@ use Rattle.plain.proofs.Put.{put-at, put-put}
 use Rattle.plain.proofs.Clients.{emptied-received}
 use Rattle.plain.proofs.Outcomes.{nodeAfter, before, replyTo, concluded, outcome-holds}
 use Rattle.rule.specs.Theorems.{partsAt, requestOf, Refused, RefusalsAlterNothing}
-use Rattle.rule.proofs.Laws.{NoFinal, no-final-append, final-not-in, updates-to-no-final, busy-no-final, updates-of-no-final}
+use Rattle.rule.proofs.Laws.{NoFinal, final-not-in, updates-to-no-final, busy-no-final, updates-of-no-final}
 
 -- ## Outcomes
 
@@ -46,7 +46,7 @@ quiet w n c now =
       activating = λ m f h. updates-of-no-final c _ (n .values) 0 (parameters w);
       deactivating = λ m f h. tt;
       setting = λ k v h.
-          (tt, no-final-append _ _ (busy-no-final (n .clients) (statusOf w (k .1)) now) (updates-to-no-final (n .clients) (k .1 .home) _ clientNumbers));
+          (tt, busy-no-final (n .clients) (statusOf w (k .1)) now (k .1 .home) (reportOf (k .1) (showing (storedForm (k .1 .it .datainfo) v) now)));
       doing = λ k v h. (tt, tt);
     })
 

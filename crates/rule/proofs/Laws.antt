@@ -16,8 +16,8 @@ use Rattle.table.specs.Table.{Parameter}
 use Rattle.table.specs.Search.{Placed}
 use Rattle.message.specs.Reply.{Report, Reply}
 use Rattle.outbox.specs.Outbox.{Record, final, update, orderChange, orderCommand}
-use Rattle.plain.specs.Node.{Client, Value, isActive, reportOf, clientNumbers, updatesTo, updatesOf}
-use Rattle.plain.specs.Answer.{busyUpdates}
+use Rattle.plain.specs.Node.{Client, Value, showing, isActive, reportOf, clientNumbers, updatesTo, updatesOf}
+use Rattle.plain.specs.Answer.{busy, busyUpdates}
 use Rattle.rule.specs.Records.{updatesFor, repliesFor, reportsOf, busyReports}
 
 -- ## Records
@@ -72,10 +72,15 @@ updates-to-no-final f i r (c ∷ cs) = go (isActive (f c) i) (updates-to-no-fina
     go true h = (tt, h)
     go false h = h
 
-pub busy-no-final : (f : ℕ → Client) (o : Option (ℕ × Placed Parameter)) (t : ℕ) → NoFinal (busyUpdates f o t)
+-- with those of a status before them
+pub busy-no-final : (f : ℕ → Client) (o : Option (ℕ × Placed Parameter)) (t i : ℕ) (r : Report) → NoFinal (busyUpdates f o t ++ updatesTo f i r clientNumbers)
 unfolding busyUpdates
-busy-no-final f none t = tt
-busy-no-final f (some s) t = updates-to-no-final f (s .1 .home) _ clientNumbers
+busy-no-final f none t i r = updates-to-no-final f i r clientNumbers
+busy-no-final f (some s) t i r =
+    let first = reportOf (s .1) (showing busy t) in
+    no-final-append (updatesTo f (s .1 .home) first clientNumbers) (updatesTo f i r clientNumbers)
+    (updates-to-no-final f (s .1 .home) first clientNumbers)
+    (updates-to-no-final f i r clientNumbers)
 
 pub updates-of-no-final : (c : ℕ) (wanted : ℕ → Bool) (values : ℕ → Value) (k : ℕ) (ps : List (Placed Parameter))
     → NoFinal (updatesOf c wanted values k ps)

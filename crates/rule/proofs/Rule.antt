@@ -1,7 +1,7 @@
 -- The user's rule: updates, settings, activations and errors. Assumes nothing.
 use Prim.Native.Nat.{ℕ, zero, suc, _+_}
 use mathlib.Core.Bool.{Bool, true, false, cond, not, _&&_, _||_, true≢false, or-true}
-use mathlib.Core.List.{List, [], _∷_, _++_, append-nil, append-assoc, List·Memᴰ, List·Memᴰ·append-cases, List·Memᴰ·cases-cons, List·Memᴰ·not-nil, List·Memᴰ·eq-of-singleton, List·Memᴰ·head, Memᴰ·append-right}
+use mathlib.Core.List.{List, [], _∷_, _++_, append-nil, List·Memᴰ, List·Memᴰ·append-cases, List·Memᴰ·cases-cons, List·Memᴰ·not-nil, List·Memᴰ·eq-of-singleton, List·Memᴰ·head, Memᴰ·append-right}
 use mathlib.Core.Logic.{_⊎_, inl, inr, ⊎-elim}
 use mathlib.Core.Option.{Option, none, some}
 use mathlib.Core.Path.{_≡_, refl, sym, _∙_, ap, ap₂, subst}
@@ -199,7 +199,7 @@ module _ (w : Table) (n m : Node) (c t : ℕ) (k : ℕ × Placed Parameter) (v :
           nobody = λ d h.
               sent-updates d
               ∙ ap₂ _++_ (busy-never (m .clients) (statusOf w (k .1)) t d h) (sent-never (m .clients) (k .1 .home) (reportOf (k .1) value) d h);
-          records = records-are ∙ ap (orderChange c (k .0) v ∷_) (append-assoc (busied (m .clients)) (updates (m .clients)) finally);
+          records = records-are;
         }
 
   pub answered-change : (bs : List ℕ) → Answered w n c bs t m rs → outcomeAt w n c bs t ≡ sets w (idle n c) c t k v
