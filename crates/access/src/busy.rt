@@ -22,20 +22,20 @@ use table::layout::ParameterAt;
 use update::put_updates_to;
 
 // "If the status's datainfo doesn't admit that value, status stays as it is."
-fn admitted(table: &[u8], k: usize, home: usize, q: ParameterAt, busy: &[u8]) -> Status
+fn admitted(table: &[u8], k: usize, home: usize, q: ParameterAt, text: &[u8]) -> Status
     requires { ⌜ ReadableAt (now table) (q .info) 4 ⌝ }
-    ensures { λ r. ⌜ Admits (datainfoAt (drop (q .info) (now (table .entry)))) (now (busy .entry)) k home r ⌝ }
+    ensures { λ r. ⌜ Admits (datainfoAt (drop (q .info) (now (table .entry)))) (now (text .entry)) k home r ⌝ }
 {
     let info = q.info;
-    if is_fit(verdict(table, info, busy)) {
+    if is_fit(verdict(table, info, text)) {
         return Status::Busy(k, home);
     }
     Status::Stays
 }
 
 // "a parameter named `target`, in a module with a parameter named `status`": what a change of the parameter of these names sets first
-pub fn status_of(table: &[u8], module: &[u8], name: &[u8], busy: &[u8]) -> Status
-    requires { ⌜ (tableNumber (now table) ≡ 0) × (now busy ≡ busy) ⌝ }
+pub fn status_of(table: &[u8], module: &[u8], name: &[u8], text: &[u8]) -> Status
+    requires { ⌜ (tableNumber (now table) ≡ 0) × (now text ≡ busy) ⌝ }
     ensures { λ r. ⌜ FindsStatus (now (table .entry)) (now («module» .entry)) (now (name .entry)) r ⌝ }
 {
     if !same(name, b"target") {
@@ -44,18 +44,18 @@ pub fn status_of(table: &[u8], module: &[u8], name: &[u8], busy: &[u8]) -> Statu
     let FoundParameter::At(k, home, q) = find_parameter(table, module, b"status") else {
         return Status::Stays;
     };
-    admitted(table, k, home, q, busy)
+    admitted(table, k, home, q, text)
 }
 
 // "shall first store `[300,"target changed"]` there ..": at the front of its place in the values area
-pub fn store_status(values: &mut [u8], status: Status, busy: &[u8])
-    requires { ⌜ StatusLow status × ((16384 ≤ length (now values)) × (length (now busy) ≤ 256)) ⌝ }
-    ensures { λ r. ⌜ now (values .exit) ≡ withStatus (now (values .entry)) status (now (busy .entry)) ⌝ }
+pub fn store_status(values: &mut [u8], status: Status, text: &[u8])
+    requires { ⌜ StatusLow status × ((16384 ≤ length (now values)) × (length (now text) ≤ 256)) ⌝ }
+    ensures { λ r. ⌜ now (values .exit) ≡ withStatus (now (values .entry)) status (now (text .entry)) ⌝ }
 {
     match status {
         Status::Stays => {}
         Status::Busy(k, _) => {
-            put(values, 256 * k, busy);
+            put(values, 256 * k, text);
         }
     }
 }
@@ -67,12 +67,12 @@ pub fn put_status(
     clients: Clients,
     status: Status,
     module: &[u8],
-    busy: &[u8],
+    text: &[u8],
     time: u64,
 ) -> usize
-    requires { ⌜ StatusLow status × ((at + length (encodeAll (statusUpdates clients status (now «module») (now busy) time)) ≤ length (now out))
-        × (length (now «module») + 6 + length (now busy) ≤ 1024)) ⌝ }
-    ensures { λ r. ⌜ Puts (now (out .entry)) at (encodeAll (statusUpdates clients status (now («module» .entry)) (now (busy .entry)) time)) (now (out .exit)) r ⌝ }
+    requires { ⌜ StatusLow status × ((at + length (encodeAll (statusUpdates clients status (now «module») (now text) time)) ≤ length (now out))
+        × (length (now «module») + 6 + length (now text) ≤ 1024)) ⌝ }
+    ensures { λ r. ⌜ Puts (now (out .entry)) at (encodeAll (statusUpdates clients status (now («module» .entry)) (now (text .entry)) time)) (now (out .exit)) r ⌝ }
 {
     match status {
         Status::Stays => at,
@@ -84,7 +84,7 @@ pub fn put_status(
             module,
             b"status",
             Sensor::Works,
-            busy,
+            text,
             time,
         ),
     }
