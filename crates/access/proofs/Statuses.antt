@@ -1,25 +1,25 @@
 -- The status that a change sets first: which one the code finds, and that it stands for the plain node's. Assumes nothing.
 use Prim.Native.Nat.{ℕ, _+_, _*_, _≤_, _<_}
 use native.Mathlib.Omega.{arith}
-use mathlib.Core.Path.{_≡_, refl, sym, ap, subst, _∙_}
+use mathlib.Core.Path.{_≡_, refl, sym, subst, _∙_}
 use mathlib.Core.Bool.{Bool, true, false, cond, not, true≢false, false≢true}
-use mathlib.Core.List.{List, []}
-use mathlib.Core.Option.{Option, none, some}
-use lib.ListN.{length, drop, getElem?}
+use mathlib.Core.List.{List}
+use mathlib.Core.Option.{Option, none}
+use lib.ListN.{length, drop}
 use lib.Seq.{length-sets}
 use Rattle.ascii.specs.Text.{bytes}
 use Rattle.ascii.specs.Bytes.{same}
 use Rattle.ascii.specs.Writer.{Puts}
 use Rattle.datainfo.specs.Datainfo.{Datainfo}
 use Rattle.datainfo.specs.Layout.{datainfoAt, ReadableAt}
-use Rattle.fit.specs.Fit.{verdict, isFit, isStored}
+use Rattle.fit.specs.Fit.{verdict, isFit}
 use Rattle.fit.specs.Verdict.{meaning, JudgesText}
 use Rattle.fit.specs.declared.Verdict.{Verdict}
 use Rattle.table.specs.Table.{Parameter}
 use Rattle.table.specs.Layout.{tableOf}
-use Rattle.table.specs.Search.{Placed, parameters, findParameter}
+use Rattle.table.specs.Search.{Placed, findParameter}
 use Rattle.table.specs.declared.layout.ParameterAt.{ParameterAt}
-use Rattle.search.specs.Found.{ParameterFound, FindsParameter}
+use Rattle.search.specs.Found.{FindsParameter}
 use Rattle.search.specs.declared.find.FoundParameter as F
 use Rattle.report.specs.Judge.{tableNumber}
 use Rattle.message.specs.Reply.{valued}
@@ -32,7 +32,7 @@ use Rattle.sound.proofs.Accepted.{datainfos-in-table}
 use Rattle.sound.proofs.Room.{puts-none}
 use Rattle.state.specs.declared.Clients.{Clients}
 use Rattle.state.specs.View.{clientAt, withStored, withHeld, areaWith}
-use Rattle.outcome.specs.Outcome.{statusSettings, storedBy, Holds, StatusHolds}
+use Rattle.outcome.specs.Outcome.{statusSettings, storedBy, StatusHolds}
 use Rattle.outcome.specs.declared.Status.{Status}
 use Rattle.outcome.specs.declared.Status.the-variants.{Stays, Busy}
 use Rattle.access.specs.Busy.{StatusLow, Admits, StatusIs, FindsStatus, withStatus, statusUpdates}

@@ -72,7 +72,8 @@ pub fn put_status(
 ) -> usize
     requires { ⌜ StatusLow status × ((at + length (encodeAll (statusUpdates clients status (now «module») (now text) time)) ≤ length (now out))
         × (length (now «module») + 6 + length (now text) ≤ 1024)) ⌝ }
-    ensures { λ r. ⌜ Puts (now (out .entry)) at (encodeAll (statusUpdates clients status (now («module» .entry)) (now (text .entry)) time)) (now (out .exit)) r ⌝ }
+    ensures { λ r. ⌜ Puts (now (out .entry)) at (encodeAll (statusUpdates clients status (now («module» .entry)) (now (text .entry)) time))
+        (now (out .exit)) r ⌝ }
 {
     match status {
         Status::Stays => at,

@@ -33,8 +33,8 @@ fn put_set(
     value: &[u8],
 ) -> usize
     requires { ⌜ Settable (now out) k home (now «module») (now name) time × (Staged status (now busy) × (length (now value) ≤ 256)) ⌝ }
-    ensures { λ r. ⌜ Puts (now (out .entry)) 0 (encodeAll (setRecords clients status (now (busy .entry)) client k home (now («module» .entry)) (now (name .entry))
-        (now (value .entry)) time)) (now (out .exit)) r ⌝ }
+    ensures { λ r. ⌜ Puts (now (out .entry)) 0 (encodeAll (setRecords clients status (now (busy .entry)) client k home (now («module» .entry))
+        (now (name .entry)) (now (value .entry)) time)) (now (out .exit)) r ⌝ }
 {
     let order = put_order_change(out, 0, client, k as u8, value);
     let first = put_status(out, order, clients, status, module, busy, time);
@@ -68,8 +68,8 @@ pub fn set(
     text: &[u8],
 ) -> Outcome
     requires { ⌜ Settable (now out) k home (now «module») (now name) time × Accepts (now table) info (now values) (now text) ⌝ }
-    ensures { λ r. ⌜ IsSetBy (now (table .entry)) (datainfoIn 4 (drop info (now (table .entry)))) clients client k home (now («module» .entry)) (now (name .entry))
-        (now (text .entry)) time (now (values .entry)) (now (out .entry)) r (now (values .exit)) (now (out .exit)) ⌝ }
+    ensures { λ r. ⌜ IsSetBy (now (table .entry)) (datainfoIn 4 (drop info (now (table .entry)))) clients client k home (now («module» .entry))
+        (now (name .entry)) (now (text .entry)) time (now (values .entry)) (now (out .entry)) r (now (values .exit)) (now (out .exit)) ⌝ }
 {
     let busy = b"[300,\"target changed\"]";
     let status = status_of(table, module, name, busy);
@@ -78,7 +78,17 @@ pub fn set(
     let end = put_form(table, info, values, at, text);
     let value = &values[at..end];
     let written = put_set(
-        out, clients, status, busy, client, time, k, home, module, name, value,
+        out,
+        clients,
+        status,
+        busy,
+        client,
+        time,
+        k,
+        home,
+        module,
+        name,
+        value,
     );
     Outcome::Stored(status, k, end - at, written)
 }

@@ -2,7 +2,8 @@
 use mathlib.Core.Path.{_≡_, refl}
 use Rattle.report.specs.Notes.{noteMember, notedMembers, notedValue, notedReport}
 use Rattle.examples.specs.Demo.{demo, noted, valueAndTarget, stage, ramp, oneModule, reported, onOff, kelvin, initial, small, counted}
-use Rattle.examples.specs.Theorems.{examples, exchanges, changing, failing, ramping, pieceCalls, repliesTo, lastWritten, ExamplesAreRight, FiveMilliseconds, WholeReport, NotedReport, TablesAreGood, OutboxExample, BrokenSensor, Ramps, ExchangesAreRight}
+use Rattle.examples.specs.Theorems.{examples, exchanges, changing, failing, pieceCalls, repliesTo, lastWritten, ExamplesAreRight, FiveMilliseconds, WholeReport, NotedReport, TablesAreGood, OutboxExample, BrokenSensor, ExchangesAreRight}
+use Rattle.examples.specs.Theorems.{ramping, Ramps}
 use Rattle.examples.proofs.Computed.{computed}
 
 pub examples-are-right : ExamplesAreRight

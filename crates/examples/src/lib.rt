@@ -1,6 +1,7 @@
 ghost use mathlib.Core.Bool.{true};
 ghost use mathlib.Core.Path.{_≡_};
-ghost use Rattle.examples.specs.Theorems.{ExamplesAreRight, OutboxExample, BrokenSensor, Ramps, WholeReport, NotedReport, TablesAreGood, FiveMilliseconds, ExchangesAreRight, HistoriesAreAsDue};
+ghost use Rattle.examples.specs.Theorems.{Ramps};
+ghost use Rattle.examples.specs.Theorems.{ExamplesAreRight, OutboxExample, BrokenSensor, WholeReport, NotedReport, TablesAreGood, FiveMilliseconds, ExchangesAreRight, HistoriesAreAsDue};
 
 // Each function here promises a theorem about the definitions. Nothing is run.
 

@@ -148,7 +148,8 @@ module _ (table : List ℕ) (s : State) (values before : List ℕ) (c t : ℕ) (
     all-settable h (Busy j b) i y = (settable h i, (settable h y, tt))
 
     -- lengths and times, of a status and then of the parameter
-    settings-are : (g : Settings) (f : Status) (k : ℕ) (x : List ℕ) → withLength (settingsWith g (statusSettings f t)) k (length x) t ≡ settingsWith g (storedBy f k x t)
+    settings-are : (g : Settings) (f : Status) (k : ℕ) (x : List ℕ)
+        → withLength (settingsWith g (statusSettings f t)) k (length x) t ≡ settingsWith g (storedBy f k x t)
     unfolding settingsWith withSetting
     settings-are g Stays k x = refl
     settings-are g (Busy j b) k x = refl

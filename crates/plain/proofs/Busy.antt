@@ -17,7 +17,8 @@ use Rattle.json.specs.Readable.{Readable}
 use Rattle.json.proofs.ReadBack.{readable-trees}
 use Rattle.datainfo.specs.Datainfo.{Variant, Datainfo, double, int, bool, enum, string, array, tuple, struct, scaled, blob, Elements, no-elements, element}
 use Rattle.datainfo.specs.Rules.{goodNames, namesGood, elementsNamesGood}
-use Rattle.fit.specs.Fit.{memberNumber, within, asString, asArray, asObject, mapItems, exchanged, numbered, numberedElements, verdict, formOf, storedForm, isFit, isStored}
+use Rattle.fit.specs.Fit.{memberNumber, within, asString, asArray, asObject, mapItems, exchanged, numbered, numberedElements}
+use Rattle.fit.specs.Fit.{verdict, formOf, storedForm, isFit, isStored}
 use Rattle.table.specs.Table.{Parameter, Table}
 use Rattle.table.specs.Search.{Placed, parameters, findParameter}
 use Rattle.table.proofs.Search.{parameter-there, parameter-named}

@@ -1,7 +1,8 @@
 -- Laws about records: what each client is sent among them, and which are updates. Assumes nothing.
 use Prim.Native.Nat.{ℕ, zero, suc, _+_, _<_, _≤_}
 use mathlib.Core.Bool.{Bool, true, false, cond}
-use mathlib.Core.List.{List, [], _∷_, _++_, append-assoc, List·Memᴰ, List·Memᴰ·cases-cons, List·Memᴰ·not-nil, List·Memᴰ·head, List·Memᴰ·tail, Memᴰ·append-left, Memᴰ·append-right}
+use mathlib.Core.List.{List, [], _∷_, _++_, append-assoc, List·Memᴰ, List·Memᴰ·cases-cons, List·Memᴰ·not-nil}
+use mathlib.Core.List.{List·Memᴰ·head, List·Memᴰ·tail, Memᴰ·append-left, Memᴰ·append-right}
 use mathlib.Core.Logic.{_⊎_, ⊎-elim}
 use mathlib.Core.Option.{Option, none, some}
 use mathlib.Core.Path.{_≡_, refl, sym, _∙_, ap, subst}
@@ -246,8 +247,9 @@ unfolding updatesTo
 sent-in f i r d [] h m = absurd (List·Memᴰ·not-nil m)
 sent-in f i r d (c ∷ cs) h m =
     ⊎-elim
-    (λ e. Memᴰ·append-left (updatesTo f i r cs) (subst (List·Memᴰ (update d r)) (ap (λ q. cond q (update c r ∷ []) []) (sym (ap (λ x. isActive (f x) i) (sym e) ∙ h)))
-    (List·Memᴰ·head (ap (λ x. update x r) e))))
+    (λ e.
+    let here = ap (λ q. cond q (update c r ∷ []) []) (sym (ap (λ x. isActive (f x) i) (sym e) ∙ h)) in
+    Memᴰ·append-left (updatesTo f i r cs) (subst (List·Memᴰ (update d r)) here (List·Memᴰ·head (ap (λ x. update x r) e))))
     (λ l. Memᴰ·append-right (cond (isActive (f c) i) (update c r ∷ []) []) (sent-in f i r d cs h l))
     (List·Memᴰ·cases-cons m)
 

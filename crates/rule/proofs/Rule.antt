@@ -17,7 +17,8 @@ use Rattle.message.specs.Line.{Parts}
 use Rattle.message.specs.Request.{Request, change}
 use Rattle.message.specs.Reply.{valued, failed, Report, Reply, active, inactive, changed, error}
 use Rattle.outbox.specs.Outbox.{Record, final, update, orderChange, orderCommand}
-use Rattle.plain.specs.Node.{Client, closed, fresh, Value, Node, put, withValue, Setting, withSettings, isOpen, isActive, receive, emptied, activated, reportOf, clientNumbers, updatesTo, holding, showing}
+use Rattle.plain.specs.Node.{Setting, withSettings}
+use Rattle.plain.specs.Node.{Client, closed, fresh, Value, Node, put, withValue, isOpen, isActive, receive, emptied, activated, reportOf, clientNumbers, updatesTo, holding, showing}
 use Rattle.plain.specs.Answer.{Outcome, refused, carried, outcome, busy, statusOf, busySettings, busyUpdates, activates, deactivates, sets}
 use Rattle.plain.specs.Calls.{Event, Piece, Reading, Unreadable, Answer, beforeFeed}
 use Rattle.plain.specs.History.{step}
@@ -27,7 +28,8 @@ use Rattle.plain.proofs.Clients.{active-open, receive-active, emptied-open, emp
 use Rattle.plain.proofs.Outcomes.{nodeAfter, before, replyTo, Tells, by-identify, by-describe, by-ping, by-read, LetIn, outcome-holds}
 use Rattle.rule.specs.Records.{updatesFor, repliesFor, inScopeOf, reportsOf, activeBy, activeAfter}
 use Rattle.rule.specs.Theorems.{partsAt, requestOf, ToActive, UpdatesGoToActiveClients, Set, ReadingSets, ReadingsAreSentToAll, UnreadableSets, UnreadablesAreSentToAll, Changed, ChangeSets, OfPiece, of-piece, ChangesAreSentToAll, BySetting, by-reading, by-unreadable, by-change, ValuesAlterBySettings, InitialUpdates, ActivationsSendAll, ActivationsAreOnesOwn, AltersNothing, ErrorsAlterNothing}
-use Rattle.rule.proofs.Laws.{updates-append, replies-append, no-final-replies, updates-to-member, updates-of-member, updates-of-for, sent-once, sent-never, busy-once, busy-never}
+use Rattle.rule.proofs.Laws.{updates-append, replies-append, no-final-replies, updates-to-member, updates-of-member, updates-of-for, sent-once, sent-never}
+use Rattle.rule.proofs.Laws.{busy-once, busy-never}
 use Rattle.rule.proofs.Told.{kind, apart, told-kind, scope-is}
 use Rattle.rule.proofs.Calls.{quiet, idle, outcomeAt, Answered, Did, opened, shut, received, read, unread, line, every-call, accepted-call, Line-of, line-of, line-of-final, refusals-alter-nothing}
 

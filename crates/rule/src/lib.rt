@@ -1,6 +1,7 @@
 ghost use mathlib.Core.Bool.{true};
 ghost use mathlib.Core.Path.{_≡_};
-ghost use Rattle.rule.specs.Theorems.{UpdatesGoToActiveClients, ChangesAreSentToAll, GoodChangesAreMade, BusyBeforeChanged, OtherStatusStays, ReadingsAreSentToAll, UnreadablesAreSentToAll, ValuesAlterBySettings, SettingsAreAll, ActivationsSendAll, GoodActivationsAreMade, ActivationsAreOnesOwn, ParametersBelong, OneReplyForEachLine, PiecesAreUsed, ReadsAreTrue, GoodReadsAreAnswered, CommandsAreOrdered, GoodCommandsAreOrdered, ErrorsAlterNothing, RefusalsAlterNothing};
+ghost use Rattle.rule.specs.Theorems.{BusyBeforeChanged, OtherStatusStays};
+ghost use Rattle.rule.specs.Theorems.{UpdatesGoToActiveClients, ChangesAreSentToAll, GoodChangesAreMade, ReadingsAreSentToAll, UnreadablesAreSentToAll, ValuesAlterBySettings, SettingsAreAll, ActivationsSendAll, GoodActivationsAreMade, ActivationsAreOnesOwn, ParametersBelong, OneReplyForEachLine, PiecesAreUsed, ReadsAreTrue, GoodReadsAreAnswered, CommandsAreOrdered, GoodCommandsAreOrdered, ErrorsAlterNothing, RefusalsAlterNothing};
 
 // Each function here promises a theorem about the definitions. Nothing is run.
 

@@ -26,8 +26,10 @@ use Rattle.table.specs.Search.{Placed, parameters, commands}
 use Rattle.report.specs.Report.{report}
 use Rattle.report.specs.Judge.{lowest}
 use Rattle.report.proofs.Faults.{no-fault, lowest-none}
-use Rattle.plain.specs.Node.{closed, Value, Node, withClient, withValue, withValues, Setting, withSettings, fresh, lineOf, receive, emptied, reportOf, clientNumbers, updatesTo, holding, showing}
-use Rattle.plain.specs.Answer.{Outcome, refused, carried, argumentVerdict, argumentForm, busy, statusOf, busySettings, busyUpdates, activates, deactivates, sets, outcome, conclude, answerParts, answer}
+use Rattle.plain.specs.Node.{withValues, withSettings}
+use Rattle.plain.specs.Node.{closed, Value, Node, withClient, withValue, Setting, fresh, lineOf, receive, emptied, reportOf, clientNumbers, updatesTo, holding, showing}
+use Rattle.plain.specs.Answer.{busy, statusOf, busySettings, busyUpdates}
+use Rattle.plain.specs.Answer.{Outcome, refused, carried, argumentVerdict, argumentForm, activates, deactivates, sets, outcome, conclude, answerParts, answer}
 use Rattle.plain.specs.Calls.{Event, Open, Close, Piece, Reading, Unreadable, Call, readingVerdict, ownFaults, callNumber, beforeFeed, hasFeed, ended, Effect, pieceEffect, driverEffect, readingEffect, unreadableEffect, effect, settle, stepIf}
 use Rattle.plain.specs.History.{step}
 use Rattle.plain.proofs.Numbers.{accepted-call}

@@ -19,18 +19,23 @@ put-updates-to-requires c κs = (search needs, (search updates-room, search upda
 
 put-final-report-requires : tie.Need-put-final-report-requires
 put-final-report-requires c κs =
-    let start = c .before .before .before .before .before .before .before .before .before .before .before .before .before .before .before .before .before .before in
-    reply-room _ _ _ _ _ _ (start .pre .0) _ _ _ (start .pre .1 .0) _ _ (start .pre .1 .1) _ _ (c .before .before .before .before .before .before .before .before .before .before .before .put-order-change .ensures)
-    _ _ (c .before .before .before .before .before .before .before .put-status .ensures) _ _ (c .before .before .before .put-updates-to .ensures) _ (omega arith)
+    let first = c .before .before .before .before .before .before .before in
+    let order = first .before .before .before .before in
+    let start = order .before .before .before .before .before .before .before in
+    reply-room _ _ _ _ _ _ (start .pre .0) _ _ _ (start .pre .1 .0) _ _ (start .pre .1 .1) _ _ (order .put-order-change .ensures)
+    _ _ (first .put-status .ensures) _ _ (c .before .before .before .put-updates-to .ensures) _ (omega arith)
 
 same-length : tie.Need-same-length
 same-length c = search needs
 
 returns : tie.Need-returns
 returns c =
-    let start = c .before .before .before .before .before .before .before .before .before .before .before .before .before .before .before .before .before .before .before .before .before in
-    set-put _ _ _ _ _ _ (start .pre .0) _ _ _ (start .pre .1 .0) _ _ (start .pre .1 .1) _ _ (c .before .before .before .before .before .before .before .before .before .before .before .before .before .before .put-order-change .ensures)
-    _ _ (c .before .before .before .before .before .before .before .before .before .before .put-status .ensures) _ _ (c .before .before .before .before .before .before .put-updates-to .ensures) _ _ (c .before .before .put-final-report .ensures)
+    let told = c .before .before .before .before .before .before in
+    let first = told .before .before .before .before in
+    let order = first .before .before .before .before in
+    let start = order .before .before .before .before .before .before .before in
+    set-put _ _ _ _ _ _ (start .pre .0) _ _ _ (start .pre .1 .0) _ _ (start .pre .1 .1) _ _ (order .put-order-change .ensures)
+    _ _ (first .put-status .ensures) _ _ (told .put-updates-to .ensures) _ _ (c .before .before .put-final-report .ensures)
 
 pub put-set-spec : {M : Type 1} → statement M
 put-set-spec =

@@ -32,9 +32,12 @@ part-value-end c = search needs
 put-set-requires : tie.Need-put-set-requires
 unfolding busy bytes
 put-set-requires c κs =
-    let start = c .before .before .before .before .before .before .before .before .before .before .before .before .before .before .before .before .before .before .before .before .before .before in
-    value-settable _ _ _ _ _ _ (start .pre .0) _ _ _ _ (start .pre .1) _ (c .before .before .before .before .before .before .before .before .before .before .before .before .before .status-of .ensures) _ (c .before .before .before .before .before .before .before .before .before .before .store-status .ensures)
-    _ _ (c .before .before .before .before .before .before .put-form .ensures)
+    let form = c .before .before .before .before .before .before in
+    let store = form .before .before .before .before in
+    let status = store .before .before .before in
+    let start = status .before .before .before .before .before .before .before .before .before in
+    value-settable _ _ _ _ _ _ (start .pre .0) _ _ _ _ (start .pre .1) _ (status .status-of .ensures) _ (store .store-status .ensures)
+    _ _ (form .put-form .ensures)
 
 sub-t30 : tie.Need-sub-t30
 sub-t30 c = search needs
@@ -48,9 +51,12 @@ same-length-2 c = search needs
 returns : tie.Need-returns
 unfolding busy bytes
 returns c =
-    let start = c .before .before .before .before .before .before .before .before .before .before .before .before .before .before .before .before .before .before .before .before .before .before .before .before .before in
-    set-is _ _ _ _ _ _ (start .pre .0) _ _ _ _ (start .pre .1) _ (c .before .before .before .before .before .before .before .before .before .before .before .before .before .before .before .before .status-of .ensures) _ (c .before .before .before .before .before .before .before .before .before .before .before .before .before .store-status .ensures)
-    _ _ (c .before .before .before .before .before .before .before .before .before .put-form .ensures) _ _ _ _ (c .before .before .put-set .ensures)
+    let form = c .before .before .before .before .before .before .before .before .before in
+    let store = form .before .before .before .before in
+    let status = store .before .before .before in
+    let start = status .before .before .before .before .before .before .before .before .before in
+    set-is _ _ _ _ _ _ (start .pre .0) _ _ _ _ (start .pre .1) _ (status .status-of .ensures) _ (store .store-status .ensures)
+    _ _ (form .put-form .ensures) _ _ _ _ (c .before .before .put-set .ensures)
 
 pub set-spec : {M : Type 1} → statement M
 set-spec =

@@ -45,7 +45,8 @@ with-status-requires c κs =
 stored-requires : tie.Need-stored-requires
 stored-requires c κs =
     let at = c .before .before .before .before .before .before .before .before .before in
-    may-store (at .args .out .now) (at .args .action .now) (at .args .specifier .now) (at .args .came) _ _ _ _ (c .before .before .came5 .given .1) (at .pre .1) .1
+    may-store (at .args .out .now) (at .args .action .now) (at .args .specifier .now) (at .args .came) _ _ _ _ (c .before .before .came5 .given .1)
+    (at .pre .1) .1
 
 same-length : tie.Need-same-length
 same-length c = search needs
