@@ -85,27 +85,24 @@ module _ (w : Table) (n m : Node) (c k : ℕ) (p : Placed Parameter) (v : List �
               (List·Memᴰ·cases-cons (subst (List·Memᴰ (update d x)) records-are l));
         }
 
--- what is told is what was changed
-module _ {w : Table} {n m : Node} {c : ℕ} {rs : List Record} (s : ℕ × Placed Parameter) (r : Report) (target : r .accessible ≡ bytes "target")
-    (found : findParameter w (r .moduleName) (bytes "status") ≡ some s) where
-  line-busy : {e : Event} → OfPiece c (λ bs t. ChangeSets w n m c bs t r rs) e → isFit (verdict (s .1 .it .datainfo) busy) ≡ true → BusyFirst m c s r rs
-  line-busy (of-piece {t = t} g) a =
-      let z = g .tells in
-      subst (λ x. BusyFirst m c s x rs) (sym z)
-      (busy-first w n m c (g .k) (g .p) (storedForm (g .p .it .datainfo) (g .offered)) t rs (g .changed) s
-      (ap (λ (x : Report). x .accessible) (sym z) ∙ target)
-      (ap (λ (x : Report). findParameter w (x .moduleName) (bytes "status")) (sym z) ∙ found) a)
-
-  line-left : {e : Event} → OfPiece c (λ bs t. ChangeSets w n m c bs t r rs) e → isFit (verdict (s .1 .it .datainfo) busy) ≡ false → StatusLeft n m s r rs
-  line-left (of-piece {t = t} g) a =
-      let z = g .tells in
-      subst (λ x. StatusLeft n m s x rs) (sym z)
-      (status-left w n m c (g .k) (g .p) (storedForm (g .p .it .datainfo) (g .offered)) t rs (g .changed) s
-      (ap (λ (x : Report). x .accessible) (sym z) ∙ target)
-      (ap (λ (x : Report). findParameter w (x .moduleName) (bytes "status")) (sym z) ∙ found) a)
+-- what holds of the change that a line was replied to with, where it was one of a target and its module has a status, holds by what is told
+told-change : {w : Table} {n m : Node} {c : ℕ} {rs : List Record} (s : ℕ × Placed Parameter) (r : Report) → r .accessible ≡ bytes "target"
+    → findParameter w (r .moduleName) (bytes "status") ≡ some s → (P : Report → Type 0)
+    → ((k : ℕ) (p : Placed Parameter) (v : List ℕ) (t : ℕ) → Changed w n m c k p v t rs → p .it .name ≡ bytes "target"
+    → findParameter w (p .moduleName) (bytes "status") ≡ some s → P (reportOf p (showing v t)))
+    → {e : Event} → OfPiece c (λ bs t. ChangeSets w n m c bs t r rs) e → P r
+told-change {w} s r target found P f (of-piece {t = t} g) =
+    let z = g .tells in
+    subst P (sym z)
+    (f (g .k) (g .p) (storedForm (g .p .it .datainfo) (g .offered)) t (g .changed) (ap (λ (x : Report). x .accessible) (sym z) ∙ target)
+    (ap (λ (x : Report). findParameter w (x .moduleName) (bytes "status")) (sym z) ∙ found))
 
 pub busy-before-changed : BusyBeforeChanged
-busy-before-changed table n e c s r l target found a = line-busy s r target found (changes-are-sent-to-all table n e c r l) a
+busy-before-changed table n e c s r l target found a =
+    told-change s r target found (λ x. BusyFirst _ c s x _) (λ k p v t h i j. busy-first _ n _ c k p v t _ h s i j a)
+    (changes-are-sent-to-all table n e c r l)
 
 pub other-status-stays : OtherStatusStays
-other-status-stays table n e c s r l target found a = line-left s r target found (changes-are-sent-to-all table n e c r l) a
+other-status-stays table n e c s r l target found a =
+    told-change s r target found (λ x. StatusLeft n _ s x _) (λ k p v t h i j. status-left _ n _ c k p v t _ h s i j a)
+    (changes-are-sent-to-all table n e c r l)
