@@ -5,6 +5,7 @@ use native.Mathlib.Omega.{arith}
 use borrow.Author.Tests.{ne-eqb, not-true}
 use mathlib.Core.Bool.{Bool, true, false, cond, not, _&&_}
 use mathlib.Core.List.{List, [], _∷_, _++_}
+use mathlib.Core.Option.{Option, none, some}
 use mathlib.Core.Path.{_≡_, refl, sym, ap, ap₂, _∙_}
 use lib.Dec.{eqb}
 use Rattle.ascii.specs.Bytes.{all}
@@ -20,7 +21,7 @@ use Rattle.outbox.specs.Sent.{errorTo, updateTo, errorsSent, updatesSent}
 use Rattle.table.specs.Table.{Parameter, Table}
 use Rattle.table.specs.Search.{Placed, parameters}
 use Rattle.plain.specs.Node.{Client, Value, Node, isActive, reportOf, clientNumbers, updatesTo, updatesOf}
-use Rattle.plain.specs.Answer.{Outcome, outcome, activates, deactivates, sets, conclude, answerParts}
+use Rattle.plain.specs.Answer.{Outcome, outcome, statusOf, busyUpdates, activates, deactivates, sets, conclude, answerParts}
 use Rattle.plain.proofs.Outcomes.{nodeAfter, before, replyTo, concluded, outcome-holds}
 
 -- ## Counting twice
@@ -124,6 +125,12 @@ module _ (d : ℕ) (above : 8 ≤ d) where
   pub no-updates : (f : ℕ → Client) (i : ℕ) (r : Report) → NoneTo d (updatesTo f i r clientNumbers)
   no-updates f i r = none-to d f i r clientNumbers others
 
+  -- nor of a status that is set before it
+  no-busy : (f : ℕ → Client) (o : Option (ℕ × Placed Parameter)) (t : ℕ) → NoneTo d (busyUpdates f o t)
+  unfolding busyUpdates
+  no-busy f none t = none-none d
+  no-busy f (some s) t = no-updates f (s .1 .home) _
+
   -- nothing that answers a client's line
   module _ (c : ℕ) (low : c ≤ 7) where
     other : eqb c d ≡ false
@@ -139,7 +146,9 @@ module _ (d : ℕ) (above : 8 ≤ d) where
           telling = λ q f h. none-none d;
           activating = λ m f h. none-of d c other _ (n .values) 0 (parameters w);
           deactivating = λ m f h. none-none d;
-          setting = λ k v h. none-both d _ _ (none-change d c (k .0) (storedForm (k .1 .it .datainfo) v)) (no-updates (n .clients) (k .1 .home) _);
+          setting = λ k v h.
+              none-both d _ _ (none-change d c (k .0) (storedForm (k .1 .it .datainfo) v))
+              (none-both d _ _ (no-busy (n .clients) (statusOf w (k .1)) now) (no-updates (n .clients) (k .1 .home) _));
           doing = λ k v h. none-command d c (k .0) _;
         })
 
