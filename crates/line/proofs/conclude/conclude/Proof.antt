@@ -39,7 +39,7 @@ enum-known-came-5 c = search needs
 
 with-status-requires : tie.Need-with-status-requires
 with-status-requires c κs =
-    let at = c .before .before .before .before .before .before .before .before in
+    let at = c .before .before .before .before .before .before .before .before .before in
     may-store (at .args .out .now) (at .args .action .now) (at .args .specifier .now) (at .args .came) _ _ _ _ (c .before .came5 .given .1) (at .pre .1) .0
 
 stored-requires : tie.Need-stored-requires
