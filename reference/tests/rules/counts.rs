@@ -93,11 +93,12 @@ fn updates_are_counted_where_they_go_to() {
     assert_eq!(node.state().counts[7], counts(1, 0, 4));
     node.unreadable(0, VALUES, OUTBOX, 0, 2).unwrap();
     assert_eq!(node.state().counts[7], counts(1, 0, 5));
-    // An order to a driver is no update, nor is it counted for who asked.
+    // The status and the target. An order to a driver is no update, nor is it
+    // counted for who asked.
     send(&mut node, 0, 0, "change t1:target 4");
-    assert_eq!(node.state().counts[7], counts(1, 0, 6));
+    assert_eq!(node.state().counts[7], counts(1, 0, 7));
     assert_eq!(node.state().counts[0], counts(1, 0, 0));
-    assert_eq!(count(&mut node, 7), counted("2,0,6,1"));
+    assert_eq!(count(&mut node, 7), counted("2,0,7,1"));
 }
 
 #[test]
