@@ -76,7 +76,7 @@ module _ (table : List ℕ) (s : State) (values out : List ℕ) (c t : ℕ) (g :
       let P : Node → List ℕ → Type 0 =
       λ m l. Answers table (s .settings) values out a values′ out′ (answerParts (tableOf table) m c t (partsOf l)) (partsSet (tableOf table) m c t (partsOf l)) in
       let x = subst (λ (z : State). Answers table (z .settings) values out a values′ out′ (answerParts (tableOf table) (view table z values) c t (partsOf (content (whole line))))
-          (partsSet (tableOf table) (view table z values) c t (partsOf (content (whole line))))) (y .is) v in
+      (partsSet (tableOf table) (view table z values) c t (partsOf (content (whole line))))) (y .is) v in
       held-answer table s values out c t r P (g .isOpen) (overlong-empty table s values out c g) b (y .size) (g .lent .low)
       (subst (λ (l : List ℕ). P (view table (nextCounts (nextClients s r) (lineCounted (s .counts) c)) values) (content (whole l))) held-line x)
 

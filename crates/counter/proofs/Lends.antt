@@ -62,7 +62,7 @@ module _ {M : Type 1} (𝓤 : URA M) (H : Heap 𝓤) (A : Atoms 𝓤) (f : Count
     asks : n < 2 ^ 32 → (γ : GName) → ent 𝓤 (sep 𝓤 (A .lft (ν ∷ []) fullShare) (sem 𝓤 H A (ownRef b ν γ h))) (Lends 𝓤 f H A .pre (to ν γ))
     asks fits γ =
         qed W (‵ (flft (ν ∷ []) fullShare) ∷ ‵ (ownRef b ν γ h) ∷ []) ∵ nothing ! $ owned ! u32 (Is u32) (uint-makes 𝓤 H A W w32) n _ (refl, fits) $ join ! $
-            move ! (2 ∷ 0 ∷ []) $ join ! $
+        move ! (2 ∷ 0 ∷ []) $ join ! $
         nothing ! $ move ! (2 ∷ 0 ∷ []) $ join ! $ join ! $ frame ! $ done !
 
     pub lends-to : IsOne h → n < 2 ^ 32
@@ -71,13 +71,13 @@ module _ {M : Type 1} (𝓤 : URA M) (H : Heap 𝓤) (A : Atoms 𝓤) (f : Count
     unfolding partOf
     lends-to is fits =
         qed W (‵ (cell b h) ∷ ‵ (flft (ν ∷ []) fullShare) ∷ []) ∵ updating ! $
-            use1 W (‵ (cellAt fullShare (T.the-row .mir) (valOf h ∷ []) b 0)) (W .laws .at-raw fullShare T′.mir b 0 (valOf h)) $
+        use1 W (‵ (cellAt fullShare (T.the-row .mir) (valOf h ∷ []) b 0)) (W .laws .at-raw fullShare T′.mir b 0 (valOf h)) $
         owned ! T.the-row (Is T.the-row) (LL.makes T.the-type T′.the-plain 𝓤 H A) h (valOf h ∷ []) is $ move ! (1 ∷ 0 ∷ []) $ fjoin ! $
         fpack ! (List Val) (λ vs. fsep (cellAt fullShare (T.the-row .mir) vs b 0) (T.the-row .own h vs)) (valOf h ∷ []) $
         use1 W (later (some (λ (γ : GName). ‵ (ownRef b ν γ h) ⊛ ‵ (lender b ν γ)))) (lends-ref 𝓤 H A W T.the-row (named 0) (ν ∷ []) h b 0) $ await ! tt $
-            pick ! (λ γ. split ! $
+        pick ! (λ γ. split ! $
         move ! (2 ∷ 0 ∷ []) $ use2 W (raw (Lends 𝓤 f H A .pre (to ν γ))) (asks fits γ) $ at-once ! $
-            show ! (λ (δ : GName). sep 𝓤 (Lends 𝓤 f H A .pre (to ν δ)) (sem 𝓤 H A (lender b ν δ))) γ $ done !)
+        show ! (λ (δ : GName). sep 𝓤 (Lends 𝓤 f H A .pre (to ν δ)) (sem 𝓤 H A (lender b ν δ))) γ $ done !)
 
     pub back-from : (γ : GName) (v : Val)
         → ent 𝓤 (sep 𝓤 (Lends 𝓤 f H A .post (to ν γ) v) (sem 𝓤 H A (lender b ν γ))) (H .⇛ (guard 𝓤 ((v ≡ vunit) × IsOne (f h n)) (sem 𝓤 H A (cell b (f h n)))))
@@ -86,13 +86,13 @@ module _ {M : Type 1} (𝓤 : URA M) (H : Heap 𝓤) (A : Atoms 𝓤) (f : Count
         qed W (raw (Lends 𝓤 f H A .post (to ν γ) v) ∷ ‵ (lender b ν γ) ∷ []) ∵ updating ! $
         use1 W (later (some (λ (r : Unit {0}). ((‵ (flft (ν ∷ []) fullShare) ⊛ ‵ ftrue) ⊛ ‵ (unit .own r (v ∷ [])))
         ⊛ some (λ (ws : Lasts lent (ν ∷ [], tt) (refTo b γ h, (n, tt))). ‵ (lasts lent (ν ∷ [], tt) (refTo b γ h, (n, tt)) ws) ⊛ raw (fact 𝓤
-            (ws .0 ≡ f h n)))))) (id⊢ 𝓤 _) $ await ! tt $ pick ! (λ r.
+        (ws .0 ≡ f h n)))))) (id⊢ 𝓤 _) $ await ! tt $ pick ! (λ r.
         split ! $ move ! (1 ∷ []) $ pick ! (λ ws. split ! $ move ! (1 ∷ []) $ heard ! (ws .0 ≡ f h n) (λ e. fsplit ! $
-            rewrite ! 0 (λ (c : Counts). ‵ (fres γ (T.the-row .coded .code c))) e refl $
+        rewrite ! 0 (λ (c : Counts). ‵ (fres γ (T.the-row .coded .code c))) e refl $
         -- [the last value; …; the token, true and the result; the lender's part]
         move ! (2 ∷ []) $ split ! $ split ! $ move ! (2 ∷ []) $ feqL ! (λ u. lft-end ! tt $ move ! (0 ∷ 4 ∷ 2 ∷ []) $
         use3 W (later (‵ (partAt T.the-row fullShare (f h n) b 0))) (ref-back 𝓤 H A W T.the-row (ν ∷ []) γ (f h n) b 0) $ await ! tt $ fpick ! (λ vs. fsplit ! $
         spelt ! T.the-row (Is T.the-row) (shows 𝓤 H A T.the-row) (LL.vals T.the-type T′.the-laws) (LL.tells T.the-type T′.the-laws) fullShare (f h n) vs b 0 $
         move ! (1 ∷ []) $ peeks ! T.the-row (Is T.the-row) (shows 𝓤 H A T.the-row) (f h n) (valOf (f h n) ∷ []) (λ is. drop ! $
         use1 W (‵ (cell b (f h n))) (W .laws .raw-at fullShare T′.mir b 0 (valOf (f h n))) $ at-once ! $ check ! (ap only u, is) $ keep ! (0 ∷ []) $
-            done !))))))
+        done !))))))

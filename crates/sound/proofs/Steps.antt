@@ -147,7 +147,6 @@ module _ (w : Table) (a : Accepted w) (n : Node) (s : Sound w n) where
         let r = reportOf (k .1) (showing v u) in
         says-within (reply r) 415 32013 (omega arith)
         (says-reply r (fine (k .0) (k .1) e (showing v u) (subst (ValueHeld (k .1 .it)) i (s .values (k .0) (k .1) e))) tt)
-
     told-short _ _ by-count q =
         let m = activeCount w (n .clients c) in
         says-within (counted (n .counts c) m t) 79 32013 (omega arith)
@@ -243,7 +242,7 @@ module _ (w : Table) (a : Accepted w) (n : Node) (s : Sound w n) where
       let l = lineOf (n .clients c) in
       let m = with-client w n c (emptied (n .clients c)) low (emptied-held w (n .clients c) (s .clients c)) s in
       let k = answered-parts w a (lineTaken n c) (with-count w _ c (linesCounted (n .counts c) 1) (one-line w (n .counts c) (s .counts c)) m) c low t h
-          (partsOf (content l)) (parts-words (content l) (content-short l (line-held w (n .clients c) (s .clients c)))) in
+      (partsOf (content l)) (parts-words (content l) (content-short l (line-held w (n .clients c) (s .clients c)))) in
       record { sound = with-counting w _ _ (k .sound); written = k .written }
 
   -- what a driver tells is held

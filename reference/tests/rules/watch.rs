@@ -256,7 +256,10 @@ impl Watcher {
             ["_counted", ".", report] => {
                 assert!(before.is_empty());
                 let [lines, errors, updates] = self.counts[client as usize];
-                let active = self.active[client as usize].iter().filter(|&&is| is).count();
+                let active = self.active[client as usize]
+                    .iter()
+                    .filter(|&&is| is)
+                    .count();
                 let time = seconds(time);
                 let expected = format!("[[{lines},{errors},{updates},{active}],{{\"t\":{time}}}]");
                 assert_eq!(report, expected);

@@ -10,11 +10,14 @@ returns c = search counts-past
 cast-n : tie.Need-cast-n
 cast-n c = search needs
 
-element-write-counts : tie.Need-element-write-counts
-element-write-counts c = search needs
+mul-counts : tie.Need-mul-counts
+mul-counts c = search needs
+
+array-set-from-counts : tie.Need-array-set-from-counts
+array-set-from-counts c = search needs
 
 returns-2 : tie.Need-returns-2
 returns-2 c = search counts-set
 
 pub with-counts-spec : {M : Type 1} → statement M
-with-counts-spec = tie.close (tie.spec returns cast-n element-write-counts returns-2)
+with-counts-spec = tie.close (tie.spec returns cast-n mul-counts array-set-from-counts returns-2)
