@@ -3,3 +3,4 @@ pub mod Put
 pub mod Clients
 pub mod Outcomes
 pub mod Notes
+pub mod Editions
