@@ -5,4 +5,5 @@ pub mod Replies
 pub mod Rule
 pub mod Lines
 pub mod Good
+pub mod Checks
 pub mod Settings

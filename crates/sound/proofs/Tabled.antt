@@ -125,9 +125,13 @@ module _ (n : ℕ) where
   unfolding part
   part-left k xs h = of-cond (leb k (length xs)) (gave (rw length-take (omega arith), rw length-drop (omega arith))) failed
 
+  size-left : (xs : List ℕ) → length xs ≤ n → Of (λ p. Left n p) (unsigned 1 xs)
+  unfolding unsigned
+  size-left xs h = of-bind (part-left 1 xs h) λ p q. gave (q .1)
+
   counted-left : (xs : List ℕ) → length xs ≤ n → Of (λ p. (length (p .0) ≤ n) × Left n p) (counted xs)
-  unfolding counted unsigned
-  counted-left xs h = of-bind (of-bind (part-left 1 xs h) λ p q. gave {P = Left n} (q .1)) λ p q. part-left (p .0) (p .1) q
+  unfolding counted
+  counted-left xs h = of-bind (size-left xs h) λ p q. part-left (p .0) (p .1) q
 
   marked-left : (m xs : List ℕ) → length xs ≤ n → Of (λ p. Within n (p .0)) (markedAt m xs)
   unfolding markedAt
