@@ -1,9 +1,12 @@
 pub mod Nulls
 pub mod Arguments
+pub mod Taken
 pub mod Orders
 pub mod Finding
 pub mod Executed
 pub mod Showing
 pub mod Sets
+pub mod Judgements
 pub mod Changed
+pub mod Checked
 pub mod Judging

@@ -1,9 +1,10 @@
 -- Laws of requests that are carried out: replies of one record, data that is missing, and a client's active modules. Assumes nothing.
 use Prim.Native.Nat.{ℕ, _^_, _≤_, _<_}
 use native.Mathlib.Omega.{arith}
-use mathlib.Core.Path.{_≡_, refl, sym, _∙_}
+use mathlib.Core.Path.{_≡_, refl, sym, subst, _∙_}
 use mathlib.Core.Bool.{Bool, true, false}
 use mathlib.Core.List.{List, []}
+use mathlib.Core.Option.{Option, none, some}
 use lib.ListN.{length, getD, length-append, length-take}
 use Rattle.ascii.specs.Numbers.{twoBytes, latest}
 use Rattle.ascii.specs.Text.{bytes}
@@ -11,7 +12,7 @@ use Rattle.ascii.specs.Bytes.{all, isSpace}
 use Rattle.ascii.specs.Writer.{Puts}
 use Rattle.ascii.proofs.Decimal.{seconds-low, seconds-latest}
 use Rattle.message.specs.Error.{Class, Fault, Denial, class, fault}
-use Rattle.message.specs.Reply.{Reply, identification, pong, error, errorReport, replyLine}
+use Rattle.message.specs.Reply.{Reply, identification, pong, error, errorReport, identity, replyLine}
 use Rattle.message.specs.Request as R
 use Rattle.message.specs.Request.{orNull}
 use Rattle.message.specs.Parsed.{part, Within}
@@ -19,6 +20,10 @@ use Rattle.message.specs.declared.line.Part.{Part}
 use Rattle.message.proofs.Said.{data-length, pong-length, error-length, class-short, fault-short}
 use Rattle.table.specs.Table.{Table}
 use Rattle.table.specs.Layout.{tableOf}
+use Rattle.table.specs.At.{bytesOf, Given}
+use Rattle.table.specs.declared.layout.Part as TablePart
+use Rattle.report.specs.Judge.{tableNumber}
+use Rattle.sound.proofs.Accepted.{GoodEdition, accepted}
 use Rattle.outbox.specs.Outbox.{final, mark, client, body, encode}
 use Rattle.outbox.specs.Written.{RoomFor}
 use Rattle.plain.specs.Node.{Node}
@@ -41,9 +46,15 @@ module _ (d : List ℕ) (c : ℕ) (room : 32768 ≤ length d) where
   unfolding encode mark client body twoBytes bytes
   final-room r h = record { fits = simp length-append (omega arith); short = simp length-append (omega arith) }
 
-  pub identification-room : RoomFor d 0 (final c identification)
-  unfolding replyLine bytes
-  identification-room = final-room identification (omega arith)
+  pub identification-room : RoomFor d 0 (final c (identification none))
+  unfolding replyLine identity bytes
+  identification-room = final-room (identification none) (omega arith)
+
+  pub edition-room : (s : List ℕ) → tableNumber s ≡ 0 → (p : TablePart.Part) → Given s p → RoomFor d 0 (final c (identification (some (bytesOf s p))))
+  unfolding replyLine identity
+  edition-room s e p g =
+      let x = subst GoodEdition (g .is) (accepted s e .edition) .short in
+      final-room (identification (some (bytesOf s p))) (omega arith)
 
   pub pong-room : (t : ℕ) → t ≤ latest → (token : List ℕ) → length token ≤ 1024 → RoomFor d 0 (final c (pong token t))
   unfolding bytes
@@ -80,10 +91,11 @@ module _ {before after : List ℕ} {c written : ℕ} where
         unstored = refl;
       }
 
-  pub identified : Puts before 0 (encode (final c identification)) after written → (table : List ℕ) (t : ℕ)
-      → ComesAtAny table before c t (Sent written) after R.identify
+  -- by the edition of the table
+  pub identified : (table : List ℕ) (e : Option (List ℕ)) → tableOf table .edition ≡ e → Puts before 0 (encode (final c (identification e))) after written
+      → (t : ℕ) → ComesAtAny table before c t (Sent written) after R.identify
   unfolding outcome
-  identified x table t n values = sends (tableOf table) n t values _ identification refl x
+  identified table e i x t n values = sends (tableOf table) n t values _ (identification e) (rw i refl) x
 
   pub ponged : (token : List ℕ) (t : ℕ) → Puts before 0 (encode (final c (pong token t))) after written → (table : List ℕ)
       → ComesAtAny table before c t (Sent written) after (R.ping token)
