@@ -20,7 +20,8 @@ use Rattle.message.specs.declared.line.Part.{Part}
 use Rattle.message.proofs.Said.{data-length, pong-length, error-length, class-short, fault-short}
 use Rattle.table.specs.Table.{Table}
 use Rattle.table.specs.Layout.{tableOf}
-use Rattle.table.specs.At.{bytesOf, Given}
+use Rattle.table.specs.At.{bytesOf, Inside, EditionIs}
+use Rattle.table.specs.declared.edition.Edition as E
 use Rattle.table.specs.declared.layout.Part as TablePart
 use Rattle.report.specs.Judge.{tableNumber}
 use Rattle.sound.proofs.Accepted.{GoodEdition, accepted}
@@ -39,6 +40,18 @@ use Rattle.outcome.specs.Outcome.{Sends, ComesAtAny}
 use Rattle.outcome.specs.Ready.{Ready}
 use Rattle.outcome.specs.declared.Outcome.the-variants.{Sent}
 
+-- ## Where the text of an edition lies
+
+module _ (s : List ℕ) (r : E.Edition) (h : EditionIs s r) (p : TablePart.Part) (z : r ≡ E.the-variants.Given p) where
+  given-inside : Inside s p
+  given-inside = subst (EditionIs s) z h .inside
+
+  pub given-order : p .from ≤ p .to
+  given-order = given-inside .order
+
+  pub given-within : p .to ≤ length s
+  given-within = given-inside .within
+
 -- ## Room for one reply
 
 module _ (d : List ℕ) (c : ℕ) (room : 32768 ≤ length d) where
@@ -50,10 +63,11 @@ module _ (d : List ℕ) (c : ℕ) (room : 32768 ≤ length d) where
   unfolding replyLine identity bytes
   identification-room = final-room (identification none) (omega arith)
 
-  pub edition-room : (s : List ℕ) → tableNumber s ≡ 0 → (p : TablePart.Part) → Given s p → RoomFor d 0 (final c (identification (some (bytesOf s p))))
+  pub edition-room : (s : List ℕ) → tableNumber s ≡ 0 → (r : E.Edition) → EditionIs s r → (p : TablePart.Part) → r ≡ E.the-variants.Given p
+      → RoomFor d 0 (final c (identification (some (bytesOf s p))))
   unfolding replyLine identity
-  edition-room s e p g =
-      let x = subst GoodEdition (g .is) (accepted s e .edition) .short in
+  edition-room s e r h p z =
+      let x = subst GoodEdition (subst (EditionIs s) z h .is) (accepted s e .edition) .short in
       final-room (identification (some (bytesOf s p))) (omega arith)
 
   pub pong-room : (t : ℕ) → t ≤ latest → (token : List ℕ) → length token ≤ 1024 → RoomFor d 0 (final c (pong token t))
@@ -91,11 +105,21 @@ module _ {before after : List ℕ} {c written : ℕ} where
         unstored = refl;
       }
 
-  -- by the edition of the table
-  pub identified : (table : List ℕ) (e : Option (List ℕ)) → tableOf table .edition ≡ e → Puts before 0 (encode (final c (identification e))) after written
-      → (t : ℕ) → ComesAtAny table before c t (Sent written) after R.identify
-  unfolding outcome
-  identified table e i x t n values = sends (tableOf table) n t values _ (identification e) (rw i refl) x
+  -- by the edition that the code finds in the table
+  module _ (table : List ℕ) (r : E.Edition) (h : EditionIs table r) where
+    identified : (e : Option (List ℕ)) → tableOf table .edition ≡ e → Puts before 0 (encode (final c (identification e))) after written
+        → (t : ℕ) → ComesAtAny table before c t (Sent written) after R.identify
+    unfolding outcome
+    identified e i x t n values = sends (tableOf table) n t values _ (identification e) (rw i refl) x
+
+    pub identified-first : r ≡ E.the-variants.First → Puts before 0 (encode (final c (identification none))) after written → (t : ℕ)
+        → ComesAtAny table before c t (Sent written) after R.identify
+    identified-first z x = identified none (subst (EditionIs table) z h) x
+
+    pub identified-given : (p : TablePart.Part) → r ≡ E.the-variants.Given p
+        → Puts before 0 (encode (final c (identification (some (bytesOf table p))))) after written → (t : ℕ)
+        → ComesAtAny table before c t (Sent written) after R.identify
+    identified-given p z x = identified (some (bytesOf table p)) (subst (EditionIs table) z h .is) x
 
   pub ponged : (token : List ℕ) (t : ℕ) → Puts before 0 (encode (final c (pong token t))) after written → (table : List ℕ)
       → ComesAtAny table before c t (Sent written) after (R.ping token)

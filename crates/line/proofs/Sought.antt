@@ -1,16 +1,20 @@
 -- Laws of what a line's names find, and of the errors that come first. Assumes nothing.
 use Prim.Native.Nat.{ℕ}
 use mathlib.Core.Path.{_≡_, refl, sym, subst, _∙_}
-use mathlib.Core.Bool.{Bool, true, false, false≢true}
+use mathlib.Core.Bool.{Bool, true, false, not, false≢true}
 use mathlib.Core.List.{List}
 use mathlib.Core.Option.{Option, none, some}
 use lib.Dec.{eqb}
+use borrow.Author.Tests.{not-true, not-false}
 use lib.ListN.{length}
 use Rattle.ascii.specs.Bytes.{isSome}
 use Rattle.ascii.specs.Names.{isName}
 use Rattle.table.specs.Table.{Parameter, Command, Table}
 use Rattle.table.specs.Layout.{tableOf}
 use Rattle.table.specs.Search.{Placed, findModule, findParameter, findCommand}
+use Rattle.table.specs.At.{EditionIs}
+use Rattle.table.specs.declared.edition.Edition as E
+use Rattle.table.specs.declared.layout.Part.{Part}
 use Rattle.table.specs.declared.layout.ParameterAt.{ParameterAt}
 use Rattle.table.specs.declared.layout.CommandAt.{CommandAt}
 use Rattle.report.specs.Judge.{tableNumber}
@@ -78,10 +82,10 @@ module _ (s m a : List ℕ) where
     abbrev RefusedWith : Class → Type 0
     RefusedWith e = Refuses (tableOf s) n c t before before values values (outcome (tableOf s) n c t (verbRequest v xs m a)) (refused (Error.class (classOf e)))
 
-    -- first of all, that the edition doesn't have the verb
-    pub unbuilt : isBuilt (tableOf s) v ≡ false → RefusedWith K.ProtocolError
+    -- first of all, that the edition doesn't have the verb, by the answer r
+    pub unbuilt : (r : Bool) → r ≡ isBuilt (tableOf s) v → not r ≡ true → RefusedWith K.ProtocolError
     unfolding outcome
-    unbuilt b = record { is = go v b; quiet = refl; area = refl }
+    unbuilt r e z = record { is = go v (sym e ∙ not-true r z); quiet = refl; area = refl }
       where
         go : (v : Verb) → isBuilt (tableOf s) v ≡ false → outcome (tableOf s) n c t (verbRequest v xs m a) ≡ refused (Error.class Error.ProtocolError)
         go Verb.Read b = absurd (false≢true (sym b))
@@ -137,6 +141,22 @@ module _ (s m a : List ℕ) where
         subst (λ (x : Outcome). OutcomeIs (tableOf s) n c t before after values values o x)
         (sym (there Error.NoSuchCommand (findCommand (tableOf s) m a) (f (tableOf s) n c t) (l .home) _ (l .command .is)))
         (y n values _ (l .command .is))
+
+-- ## The edition
+
+module _ (s : List ℕ) (r : E.Edition) (h : EditionIs s r) where
+  pub edited : (p : Part) → r ≡ E.the-variants.Given p → true ≡ isSome (tableOf s .edition)
+  edited p z = rw (subst (EditionIs s) z h .is)
+
+  pub unedited : r ≡ E.the-variants.First → false ≡ isSome (tableOf s .edition)
+  unedited z = rw (subst (EditionIs s) z h)
+
+module _ (w : Table) (v : Verb) where
+  pub built-check : (r : Bool) → v ≡ Verb.Check → r ≡ isSome (w .edition) → r ≡ isBuilt w v
+  built-check r z e = rw z e
+
+  pub built : (r : Bool) → r ≡ isBuilt w v → not r ≡ false → isBuilt w v ≡ true
+  built r e z = sym e ∙ not-false r z
 
 -- ## Modules
 
