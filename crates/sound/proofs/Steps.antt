@@ -12,7 +12,7 @@ use Rattle.ascii.specs.Text.{bytes}
 use Rattle.ascii.specs.Bytes.{all}
 use Rattle.ascii.specs.Numbers.{latest}
 use Rattle.datainfo.specs.Datainfo.{Datainfo}
-use Rattle.fit.specs.Fit.{Verdict, fits, severity, verdict, storedForm, isFit}
+use Rattle.fit.specs.Fit.{Verdict, fits, severity, verdict, storedForm, isFit, isStored}
 use Rattle.form.proofs.Stored.{stored, stored-short, short-stored}
 use Rattle.message.specs.Line.{Parts, content, partsOf}
 use Rattle.message.specs.Request.{Request, request}
@@ -53,6 +53,13 @@ Comes w c (carried m ss rs r) = Kept w m (rs ++ (final c r ∷ []))
 fit-is : (v : Verdict) → v ≡ fits → isFit v ≡ true
 unfolding isFit severity
 fit-is v e = rw e refl
+
+-- what is let in, as it is stored
+pub let-in-stored : (w : Table) → Accepted w → (k : ℕ × Placed Parameter) (v : List ℕ) → LetIn w k v
+    → isStored (k .1 .it .datainfo) (storedForm (k .1 .it .datainfo) v) ≡ true
+let-in-stored w a k v l =
+    stored (k .1 .it .datainfo) v (each-at (λ (q : Placed Parameter). ParameterIn (q .it)) (parameters w) (a .parametersIn) (k .0) (k .1) (l .there))
+    (fit-is (verdict (k .1 .it .datainfo) v) (l .fitting))
 
 -- ## Lines, on an accepted table, at a sound node
 
@@ -126,9 +133,8 @@ module _ (w : Table) (a : Accepted w) (n : Node) (s : Sound w n) where
         says-within (reply r) 415 32013 (omega arith)
         (says-reply r (fine (k .0) (k .1) e (showing v u) (subst (ValueHeld (k .1 .it)) i (s .values (k .0) (k .1) e))) tt)
     told-short _ _ (by-check k v l e) q =
-        let f = fit-is (verdict (k .1 .it .datainfo) v) (l .fitting) in
         let x = showing (storedForm (k .1 .it .datainfo) v) t in
-        let i = stored (k .1 .it .datainfo) v (in-table (k .0) (k .1) (l .there)) f in
+        let i = let-in-stored w a k v l in
         says-within (checked (reportOf (k .1) x)) 415 32013 (omega arith)
         (says-checked (reportOf (k .1) x) (fine (k .0) (k .1) (l .there) x (i, h)) tt)
 
