@@ -37,6 +37,7 @@ fn rooms() -> Table {
     let mode = choice(&[("standby", 0), ("running", 1)]);
     let seconds = int(1, 600);
     Table::new("two_rooms", "two cold stages and their compressor")
+        .edition("ISSE,SECoP,V2021-02-17,v2.0")
         .module("t_east", "stage in the east room")
         .parameter(
             "value",
