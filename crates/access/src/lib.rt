@@ -125,9 +125,7 @@ pub fn check(
         Judged::Refused(class) => Outcome::Refused(class),
         Judged::LetIn => {
             let info = q.info;
-            Outcome::Sent(put_checked(
-                table, info, out, client, time, module, name, text,
-            ))
+            Outcome::Sent(put_checked(table, info, out, client, time, module, name, text))
         }
     }
 }

@@ -26,5 +26,14 @@ pub fn put_checked(
 {
     let mut form = [0u8; 256];
     let size = put_form(table, info, &mut form, 0, text);
-    put_final_report(out, 0, client, Told::Checked, module, name, &form[..size], time)
+    put_final_report(
+        out,
+        0,
+        client,
+        Told::Checked,
+        module,
+        name,
+        &form[..size],
+        time,
+    )
 }

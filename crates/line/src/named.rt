@@ -192,6 +192,15 @@ pub fn named(
         return Outcome::Refused(Class::ProtocolError);
     }
     located(
-        table, values, out, state, client, time, verb, module, name, text,
+        table,
+        values,
+        out,
+        state,
+        client,
+        time,
+        verb,
+        module,
+        name,
+        text,
     )
 }
