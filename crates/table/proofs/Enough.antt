@@ -141,7 +141,8 @@ w-module : (k : ℕ) {n : ℕ} (xs : List ℕ) → Short (suc n) xs → Within (
 unfolding moduleAt bytes
 w-module k xs h =
     r-then (r-mark 77 (79 ∷ []) h)
-    (λ a g. w-then (w-counted shorter g) (λ p i. w-then (w-counted shorter i) (λ q j. w-then (w-marked shorter (bytes "NO") j) (λ r l. w-then (w-accessibles k (length (r .1)) l) (λ d e. left e)))))
+    (λ a g. w-then (w-counted shorter g) (λ p i. w-then (w-counted shorter i) (λ q j. w-then (w-marked shorter (bytes "NO") j)
+    (λ r l. w-then (w-accessibles k (length (r .1)) l) (λ d e. left e)))))
 
 -- what a module has before its accessibles
 w-heading : {n : ℕ} (xs : List ℕ) → Short (suc n) xs → Within (Short n) (headingAt xs)

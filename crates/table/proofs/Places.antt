@@ -120,7 +120,8 @@ module _ {s : List ℕ} where
   unfolding moduleAt
   g-module h =
       g-rest (r-after ends (bytes "MO") h)
-      (λ a g. g-then (w-counted ends g) (λ p i. g-then (w-counted ends i) (λ q j. g-then (w-marked ends (bytes "NO") j) (λ r l. g-on (g-accessibles (length (r .1)) l) (λ d f e. gives f e)))))
+      (λ a g. g-then (w-counted ends g) (λ p i. g-then (w-counted ends i) (λ q j. g-then (w-marked ends (bytes "NO") j)
+      (λ r l. g-on (g-accessibles (length (r .1)) l) (λ d f e. gives f e)))))
 
   g-modules : (k : ℕ) {xs : List ℕ} → End s xs → Gives s (ModulesFine s) (modulesAt (length s) k xs)
   unfolding modulesAt

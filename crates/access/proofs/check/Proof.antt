@@ -19,7 +19,8 @@ enum-told c = search needs
 put-checked-requires : tie.Need-put-checked-requires
 put-checked-requires c κs =
     let start = c .before .before .before .before .before .before .before .before .before in
-    check-told _ _ _ _ (start .pre .0) _ _ _ _ _ _ (start .pre .1 .1) _ (c .before .before .before .judge-change .ensures) (c .before .enum-told .given .1) (start .pre .1 .0)
+    check-told _ _ _ _ (start .pre .0) _ _ _ _ _ _ (start .pre .1 .1) _
+    (c .before .before .before .judge-change .ensures) (c .before .enum-told .given .1) (start .pre .1 .0)
 
 returns : tie.Need-returns
 returns c =
@@ -32,7 +33,8 @@ same-length c = search needs
 returns-2 : tie.Need-returns-2
 returns-2 c =
     let start = c .before .before .before .before .before .before .before .before .before .before .before .before in
-    check-sent _ _ _ _ (start .pre .0) _ _ _ _ _ _ (start .pre .1 .1) _ (c .before .before .before .before .before .before .judge-change .ensures) (c .before .before .before .before .enum-told .given .1)
+    check-sent _ _ _ _ (start .pre .0) _ _ _ _ _ _ (start .pre .1 .1) _
+    (c .before .before .before .before .before .before .judge-change .ensures) (c .before .before .before .before .enum-told .given .1)
     _ _ (c .before .before .put-checked .ensures)
 
 pub check-spec : {M : Type 1} → statement M

@@ -43,13 +43,19 @@ returns-2 : tie.Need-returns-2
 returns-2 c =
     let start = c .before .before .before .before .before .before .before in
     let located = start .pre .1 .1 .0 in
-    λ n values. rw (c .enum-told2 .given .1) (lacks (start .args .table .now) (start .args .«module» .now) (start .args .name .now) Verb.Read (start .args .text .now) n _ _ _ values refl (located .home) (located .parameter))
+    λ n values.
+    rw (c .enum-told2 .given .1)
+    (lacks (start .args .table .now) (start .args .«module» .now) (start .args .name .now) Verb.Read (start .args .text .now) n _ _ _ values refl
+    (located .home) (located .parameter))
 
 returns-3 : tie.Need-returns-3
 returns-3 c =
     let start = c .before .before .before .before .before .before .before in
     let located = start .pre .1 .1 .0 in
-    λ n values. rw (c .enum-told3 .given .1) (lacks (start .args .table .now) (start .args .«module» .now) (start .args .name .now) Verb.Change (start .args .text .now) n _ _ _ values refl (located .home) (located .parameter))
+    λ n values.
+    rw (c .enum-told3 .given .1)
+    (lacks (start .args .table .now) (start .args .«module» .now) (start .args .name .now) Verb.Change (start .args .text .now) n _ _ _ values refl
+    (located .home) (located .parameter))
 
 returns-4 : tie.Need-returns-4
 returns-4 c =

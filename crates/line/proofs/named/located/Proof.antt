@@ -28,7 +28,11 @@ enum-known-k c = search needs
 at-parameter-requires : tie.Need-at-parameter-requires
 at-parameter-requires c κs =
     let start = c .before .before .before .before .before .before .before .before .before .before .before .before in
-    (start .pre .0, (start .pre .1 .0, (subst (Locates (start .args .table .now) (start .args .«module» .now) (start .args .name .now)) (c .before .before .before .k .given .1) (c .before .before .before .before .before .locate .ensures), start .pre .1 .1)))
+    (start .pre .0, (start .pre .1 .0, (
+      subst (Locates (start .args .table .now) (start .args .«module» .now) (start .args .name .now))
+      (c .before .before .before .k .given .1) (c .before .before .before .before .before .locate .ensures),
+      start .pre .1 .1,
+    )))
 
 enum-known-k-2 : tie.Need-enum-known-k-2
 enum-known-k-2 c = search needs
@@ -36,20 +40,28 @@ enum-known-k-2 c = search needs
 at-command-requires : tie.Need-at-command-requires
 at-command-requires c κs =
     let start = c .before .before .before .before .before .before .before .before .before .before .before in
-    (start .pre .0 .lent, (start .pre .1 .0, (subst (Locates (start .args .table .now) (start .args .«module» .now) (start .args .name .now)) (c .before .before .k2 .given .1) (c .before .before .before .before .locate .ensures), start .pre .1 .1)))
+    (start .pre .0 .lent, (start .pre .1 .0, (
+      subst (Locates (start .args .table .now) (start .args .«module» .now) (start .args .name .now))
+      (c .before .before .k2 .given .1) (c .before .before .before .before .locate .ensures),
+      start .pre .1 .1,
+    )))
 
 returns : tie.Need-returns
 returns c =
     let start = c .before .before .before .before .before .before .before .before .before in
-    homeless (start .args .table .now) (start .args .«module» .now) (start .args .name .now) (start .args .verb) (start .args .text .now) _ _ _ _ _ (start .pre .1 .1)
-    (subst (Locates (start .args .table .now) (start .args .«module» .now) (start .args .name .now)) (c .enum-told .given .1) (c .before .before .locate .ensures))
+    homeless (start .args .table .now) (start .args .«module» .now) (start .args .name .now) (start .args .verb) (start .args .text .now) _ _ _ _ _
+    (start .pre .1 .1)
+    (subst (Locates (start .args .table .now) (start .args .«module» .now) (start .args .name .now)) (c .enum-told .given .1)
+    (c .before .before .locate .ensures))
 
 returns-2 : tie.Need-returns-2
 returns-2 c =
     let start = c .before .before .before .before .before .before .before .before .before .before in
     rw (c .missing .ensures)
-    (nothing (start .args .table .now) (start .args .«module» .now) (start .args .name .now) (start .args .verb) (start .args .text .now) _ _ _ _ _ (start .pre .1 .1)
-    (subst (Locates (start .args .table .now) (start .args .«module» .now) (start .args .name .now)) (c .before .enum-told2 .given .1) (c .before .before .before .locate .ensures)))
+    (nothing (start .args .table .now) (start .args .«module» .now) (start .args .name .now) (start .args .verb) (start .args .text .now) _ _ _ _ _
+    (start .pre .1 .1)
+    (subst (Locates (start .args .table .now) (start .args .«module» .now) (start .args .name .now)) (c .before .enum-told2 .given .1)
+    (c .before .before .before .locate .ensures)))
 
 same-length : tie.Need-same-length
 same-length c = search needs

@@ -13,17 +13,22 @@ slice-aggregate-put-header c = search needs
 
 put-header-requires : tie.Need-put-header-requires
 unfolding replyLine identity bytes
-put-header-requires c κs = let room = c .before .before .before .pre in (final-1 _ _ _ (identification none) 36 refl room, final-0 _ _ _ (identification none) 36 refl room)
+put-header-requires c κs =
+    let room = c .before .before .before .pre in
+    (final-1 _ _ _ (identification none) 36 refl room, final-0 _ _ _ (identification none) 36 refl room)
 
 put-identification-requires : tie.Need-put-identification-requires
 unfolding replyLine identity bytes
-put-identification-requires c κs = final-2 _ _ _ (identification none) 36 refl (c .before .before .before .before .before .before .before .pre) _ _ (c .before .before .before .put-header .ensures)
+put-identification-requires c κs =
+    final-2 _ _ _ (identification none) 36 refl (c .before .before .before .before .before .before .before .pre) _ _
+    (c .before .before .before .put-header .ensures)
 
 put-byte-requires : tie.Need-put-byte-requires
 unfolding replyLine identity bytes
 put-byte-requires c κs =
     let header = c .before .before .before .before .before .before .before in
-    final-3 _ _ _ (identification none) 36 refl (header .before .before .before .before .pre) _ _ (header .put-header .ensures) _ _ (c .before .before .before .put-identification .ensures)
+    final-3 _ _ _ (identification none) 36 refl (header .before .before .before .before .pre) _ _ (header .put-header .ensures) _ _
+    (c .before .before .before .put-identification .ensures)
 
 same-length : tie.Need-same-length
 same-length c = search needs
@@ -32,7 +37,8 @@ returns : tie.Need-returns
 unfolding replyLine identity bytes
 returns c =
     let line = c .before .before .before .before .before .before in
-    final-all _ _ _ (identification none) 36 refl _ _ _ _ _ _ (line .before .before .before .before .put-header .ensures) (line .put-identification .ensures) (c .before .before .put-byte .ensures)
+    final-all _ _ _ (identification none) 36 refl _ _ _ _ _ _ (line .before .before .before .before .put-header .ensures) (line .put-identification .ensures)
+    (c .before .before .put-byte .ensures)
 
 pub put-final-identification-spec : {M : Type 1} → statement M
 put-final-identification-spec =

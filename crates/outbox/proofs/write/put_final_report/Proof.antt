@@ -58,7 +58,9 @@ slice-aggregate-put-named-record-8 c = search needs
 
 put-named-record-requires-4 : tie.Need-put-named-record-requires-4
 unfolding replyLine bytes
-put-named-record-requires-4 c κs = line-of _ _ _ _ (rw (c .before .before .before .enum-told4 .given .1) at (c .before .before .before .before .before .before .before .before .before .pre))
+put-named-record-requires-4 c κs =
+    line-of _ _ _ _
+    (rw (c .before .before .before .enum-told4 .given .1) at (c .before .before .before .before .before .before .before .before .before .pre))
 
 same-length : tie.Need-same-length
 same-length c = search needs
