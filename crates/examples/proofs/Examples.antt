@@ -1,17 +1,18 @@
 -- The examples, by computing. Assumes nothing.
 use mathlib.Core.Path.{_≡_, refl}
 use Rattle.report.specs.Notes.{noteMember, notedMembers, notedValue, notedReport}
-use Rattle.examples.specs.Demo.{demo, noted, stage, edited, around, oneModule, staged, reported, onOff, kelvin, initial, small, counted}
-use Rattle.examples.specs.Theorems.{examples, exchanges, changing, failing, visiting, pieceCalls, repliesOf, repliesTo, lastWritten, ExamplesAreRight, FiveMilliseconds, WholeReport, NotedReport, TablesAreGood, OutboxExample, BrokenSensor, NextEdition, ExchangesAreRight}
+use Rattle.examples.specs.Demo.{demo, noted, valueAndTarget, staged, stage, ramp, edited, around, oneModule, reported, onOff, kelvin, initial, small, counted}
+use Rattle.examples.specs.Theorems.{examples, exchanges, changing, failing, pieceCalls, repliesOf, repliesTo, lastWritten, ExamplesAreRight, FiveMilliseconds, WholeReport, NotedReport, TablesAreGood, OutboxExample, BrokenSensor, ExchangesAreRight}
+use Rattle.examples.specs.Theorems.{ramping, Ramps, visiting, NextEdition}
 use Rattle.examples.proofs.Computed.{computed}
 
 pub examples-are-right : ExamplesAreRight
-unfolding computed stage staged around oneModule kelvin initial small counted examples pieceCalls repliesOf repliesTo
+unfolding computed stage staged valueAndTarget around oneModule kelvin initial small counted examples pieceCalls repliesOf repliesTo
 examples-are-right =
     (refl, (refl, (refl, (refl, (refl, (refl, (refl, (refl, (refl, (refl, (refl, (refl, tt))))))))))))
 
 pub exchanges-are-right : ExchangesAreRight
-unfolding computed stage staged around oneModule kelvin initial small counted exchanges pieceCalls repliesOf repliesTo
+unfolding computed stage staged valueAndTarget around oneModule kelvin initial small counted exchanges pieceCalls repliesOf repliesTo
 exchanges-are-right = (refl, (refl, (refl, (refl, (refl, (refl, (refl, (refl, (refl, tt)))))))))
 
 pub five-milliseconds : FiveMilliseconds
@@ -27,17 +28,21 @@ unfolding computed noteMember notedMembers notedValue notedReport noted around o
 noted-report = (refl, refl)
 
 pub tables-are-good : TablesAreGood
-unfolding computed demo noted stage edited staged around oneModule reported onOff kelvin initial small counted
-tables-are-good = (refl, refl, refl, refl)
+unfolding computed demo noted stage staged ramp edited valueAndTarget around oneModule reported onOff kelvin initial small counted
+tables-are-good = (refl, refl, refl, refl, refl, refl)
 
 pub outbox-example : OutboxExample
-unfolding computed stage staged around oneModule kelvin initial small counted changing lastWritten
+unfolding computed stage staged valueAndTarget around oneModule kelvin initial small counted changing lastWritten
 outbox-example = refl
 
 pub broken-sensor : BrokenSensor
-unfolding computed stage staged around oneModule kelvin initial small counted failing lastWritten
+unfolding computed stage staged valueAndTarget around oneModule kelvin initial small counted failing lastWritten
 broken-sensor = refl
 
+pub ramps : Ramps
+unfolding computed stage staged ramp valueAndTarget around oneModule kelvin initial small counted changing ramping lastWritten
+ramps = (refl, refl)
+
 pub next-edition : NextEdition
-unfolding computed stage edited staged around oneModule kelvin initial small counted visiting pieceCalls repliesOf
+unfolding computed stage edited staged valueAndTarget around oneModule kelvin initial small counted visiting pieceCalls repliesOf
 next-edition = (refl, refl)

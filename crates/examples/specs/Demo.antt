@@ -62,9 +62,9 @@ demo = oneModule reported
 unfoldable pub noted : List ℕ
 noted = oneModule (bytes "NO" ++ counted "mind the gap" ++ reported)
 
--- the accessibles of the outbox example: target is parameter 1
-unfoldable pub staged : List ℕ
-staged =
+-- the parameters of the outbox example: target is parameter 1
+unfoldable pub valueAndTarget : List ℕ
+valueAndTarget =
     bytes "PA"
     ++ counted "value"
     ++ counted "reading"
@@ -77,15 +77,31 @@ staged =
     ++ (0 ∷ [])
     ++ kelvin
     ++ initial "0"
-    ++ bytes "CM"
-    ++ counted "stop"
-    ++ counted "stop"
-    ++ (0 ∷ [])
+
+-- and its command
+unfoldable pub staged : List ℕ
+staged = valueAndTarget ++ bytes "CM" ++ counted "stop" ++ counted "stop" ++ (0 ∷ [])
 
 -- the table of the outbox example
 unfoldable pub stage : List ℕ
 stage = oneModule staged
 
--- the same with an edition (M-107)
+-- the same with a readonly status, parameter 2: an enum's number and a string of as many characters as is said
+unfoldable pub ramp : ℕ → List ℕ
+ramp most =
+    oneModule
+    (valueAndTarget
+    ++ bytes "PA"
+    ++ counted "status"
+    ++ counted "state"
+    ++ (1 ∷ 7 ∷ 2 ∷ 4 ∷ 2 ∷ [])
+    ++ counted "idle"
+    ++ (0 ∷ 0 ∷ 0 ∷ 100 ∷ [])
+    ++ counted "busy"
+    ++ (0 ∷ 0 ∷ 1 ∷ 44 ∷ [])
+    ++ (5 ∷ 0 ∷ 0 ∷ 0 ∷ most ∷ [])
+    ++ initial "[100,\"\"]")
+
+-- the table of the outbox example with an edition (M-107)
 unfoldable pub edited : List ℕ
 edited = around (bytes "ED" ++ counted "ISSE,SECoP,V2021-02-17,v2.0") staged
