@@ -17,6 +17,7 @@ use Rattle.plain.specs.Answer.{busy, statusOf, busySettings, busyUpdates}
 use Rattle.plain.specs.Calls.{Event}
 use Rattle.plain.proofs.Put.{put-at, put-other}
 use Rattle.plain.proofs.Busy.{is-status, no-status, named-other}
+use Rattle.plain.specs.History.{step}
 use Rattle.rule.specs.Theorems.{Changed, ChangeSets, OfPiece, of-piece, BusyFirst, StatusLeft, BusyBeforeChanged, OtherStatusStays}
 use Rattle.rule.proofs.Laws.{sent-to, updates-to-member}
 use Rattle.rule.proofs.Rule.{not-update, changes-are-sent-to-all}
@@ -99,10 +100,12 @@ told-change {w} s r target found P f (of-piece {t = t} g) =
 
 pub busy-before-changed : BusyBeforeChanged
 busy-before-changed table n e c s r l target found a =
-    told-change s r target found (λ x. BusyFirst _ c s x _) (λ k p v t h i j. busy-first _ n _ c k p v t _ h s i j a)
+    told-change s r target found (λ x. BusyFirst (step table n e .0) c s x (step table n e .1 .records))
+    (λ k p v t h i j. busy-first _ n _ c k p v t _ h s i j a)
     (changes-are-sent-to-all table n e c r l)
 
 pub other-status-stays : OtherStatusStays
 other-status-stays table n e c s r l target found a =
-    told-change s r target found (λ x. StatusLeft n _ s x _) (λ k p v t h i j. status-left _ n _ c k p v t _ h s i j a)
+    told-change s r target found (λ x. StatusLeft n (step table n e .0) s x (step table n e .1 .records))
+    (λ k p v t h i j. status-left _ n _ c k p v t _ h s i j a)
     (changes-are-sent-to-all table n e c r l)
