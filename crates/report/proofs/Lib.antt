@@ -6,3 +6,4 @@ pub mod Plain
 pub mod Told
 pub mod Alike
 pub mod Notes
+pub mod Printed
