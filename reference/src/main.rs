@@ -3,6 +3,7 @@
 
 use reference::definitions;
 use reference::error::ErrorClass;
+use reference::generate::nights::Night;
 use reference::generate::vectors::{self, ValueCase};
 use reference::generate::{borders, calls, directed, encode, histories, nights, second, small};
 use reference::history::History;
@@ -52,6 +53,10 @@ usage: reference COMMAND ...
   replay TABLE TIME TRACE
                         replays the events in the file TRACE on a node over
                         the table in the file TABLE, started at TIME
+  night PART            table, time or trace of the night that the program
+                        `night` is tested with, or what is told of it
+  night long EVENTS PART
+                        the same of a night of so many events
   nights SEED COUNT FOLDER
                         writes tables, times and traces for that, and what is
                         told of each, into FOLDER
@@ -104,6 +109,8 @@ fn command(arguments: &[&str]) -> Result<Vec<u8>, String> {
         ["nights", seed, count, folder] => {
             write_nights(number(seed)?, number(count)?, Path::new(folder)).map(|()| Vec::new())
         }
+        ["night", part] => night_part(&nights::directed(), part),
+        ["night", "long", events, part] => night_part(&nights::long(number(events)?), part),
         ["replay", table, time, trace] => Ok(replay::told(
             &content(table)?,
             number(time)?,
@@ -113,22 +120,28 @@ fn command(arguments: &[&str]) -> Result<Vec<u8>, String> {
     }
 }
 
+/// A part of a night, or what is told of it.
+fn night_part(night: &Night, part: &str) -> Result<Vec<u8>, String> {
+    let Night { table, time, trace } = night;
+    match part {
+        "table" => Ok(table.clone()),
+        "time" => Ok(time.to_string().into_bytes()),
+        "trace" => Ok(trace.clone()),
+        "told" => Ok(replay::told(table, *time, trace)),
+        _ => Err(format!("a night has no {part}")),
+    }
+}
+
 /// Writes nights into a folder: `SEED.table`, `SEED.time`, `SEED.trace`, and in
 /// `SEED.told` what is told of the replay.
 fn write_nights(seed: u64, count: u64, folder: &Path) -> Result<(), String> {
     for seed in seed..seed + count {
         let night = nights::night(seed);
-        let write = |name: &str, bytes: &[u8]| {
-            let path = folder.join(format!("{seed}.{name}"));
-            std::fs::write(&path, bytes).map_err(|error| format!("{}: {error}", path.display()))
-        };
-        write("table", &night.table)?;
-        write("time", night.time.to_string().as_bytes())?;
-        write("trace", &night.trace)?;
-        write(
-            "told",
-            &replay::told(&night.table, night.time, &night.trace),
-        )?;
+        for part in ["table", "time", "trace", "told"] {
+            let path = folder.join(format!("{seed}.{part}"));
+            std::fs::write(&path, night_part(&night, part)?)
+                .map_err(|error| format!("{}: {error}", path.display()))?;
+        }
     }
     Ok(())
 }

@@ -46,19 +46,19 @@ pub(crate) fn feed_all(
     requires { ⌜ Running (now table) (length (now outbox)) replay (now values) ⌝ }
     ensures { λ r. ⌜ Running (now (table .entry)) (length (now (outbox .entry))) (r .replay) (now (values .exit)) ⌝ }
 {
-    let mut turn = Turn {
-        more: true,
-        failed: false,
-        replay,
-    };
+    let mut next = replay;
     let mut turns: u64 = 18446744073709551615;
     while turns > 0 {
-        let next = turn.replay;
-        turn = feed_some(table, values, outbox, next, fd);
+        let turn = feed_some(table, values, outbox, next, fd);
+        next = turn.replay;
         if !turn.more {
             return turn;
         }
         turns -= 1;
     }
-    turn
+    Turn {
+        more: true,
+        failed: false,
+        replay: next,
+    }
 }

@@ -1,7 +1,9 @@
 //! Nights for a replay: a table, the start's time and a trace, which is a
 //! history's events as a host might have recorded them, whole or damaged.
 
-use super::{histories, tables};
+use super::parts::{command, double, enumeration, module, parameter, readonly, string};
+use super::{encode, histories, parts, tables};
+use crate::datainfo::Datainfo;
 use crate::history::Call;
 use crate::random::Random;
 use crate::replay::{Event, Kind};
@@ -10,6 +12,139 @@ pub struct Night {
     pub table: Vec<u8>,
     pub time: u64,
     pub trace: Vec<u8>,
+}
+
+/// Two modules. Parameters: 0 t1:value (readonly), 1 t1:target, 2 mf:field
+/// (readonly), 3 mf:mode, 4 mf:label.
+fn laboratory() -> Vec<u8> {
+    let kelvin = || double((0, 0), (300, 0));
+    let tesla = Datainfo::Int { min: -9, max: 9 };
+    let mode = enumeration(&[("off", 0), ("on", 1)]);
+    encode::table(&parts::table(vec![
+        module(
+            "t1",
+            vec![
+                readonly("value", kelvin(), "295.13"),
+                parameter("target", kelvin(), "4"),
+                command("stop", None),
+            ],
+        ),
+        module(
+            "mf",
+            vec![
+                readonly("field", tesla, "-0"),
+                parameter("mode", mode, "0"),
+                parameter("label", string(0, 80), "\"\""),
+            ],
+        ),
+    ]))
+}
+
+fn event(kind: Kind, number: u8, time: u64, bytes: &[u8]) -> Event {
+    let bytes = bytes.to_vec();
+    Event {
+        kind,
+        number,
+        time,
+        bytes,
+    }
+}
+
+/// The night that the program `night` is tested with: every kind of record,
+/// pieces with several lines, half a line and nothing, and events that are
+/// refused by each number that a replay meets. The last record is wrong; what
+/// follows it is not looked at.
+pub fn directed() -> Night {
+    let late = 10_000_000_000_000;
+    let events = [
+        event(Kind::Open, 0, 2_000, b""),
+        event(Kind::Open, 5, 2_000, b""),
+        event(Kind::Piece, 5, 2_001, b"activate\n"),
+        event(
+            Kind::Piece,
+            0,
+            2_002,
+            b"change t1:target 11\nchange mf:mode \"on\"\nchange t1:ta",
+        ),
+        event(Kind::Piece, 0, 2_003, b""),
+        event(
+            Kind::Piece,
+            0,
+            2_004,
+            b"rget 12\r\ndo t1:stop\nread mf:mode",
+        ),
+        event(Kind::Reading, 0, 2_005, b" 4.2 "),
+        event(Kind::Unreadable, 0, 2_006, &[3]),
+        event(Kind::Unreadable, 2, 2_006, &[2]),
+        event(Kind::Reading, 2, 2_007, b"-3"),
+        event(Kind::Reading, 0, late, b"5"),
+        event(Kind::Open, 8, 2_008, b""),
+        event(
+            Kind::Piece,
+            7,
+            2_008,
+            b"change t1:target 1\nchange t1:target 2\n",
+        ),
+        event(Kind::Piece, 7, 2_008, b""),
+        event(Kind::Close, 7, 2_008, b""),
+        event(Kind::Open, 5, 2_009, b""),
+        event(Kind::Reading, 5, 2_010, b"1"),
+        event(Kind::Unreadable, 255, 2_010, &[1]),
+        event(Kind::Reading, 0, 2_011, b"\"hot\""),
+        event(Kind::Unreadable, 1, 2_012, &[0]),
+        event(Kind::Unreadable, 1, 2_012, &[5]),
+        event(Kind::Close, 0, 2_013, b""),
+        event(Kind::Open, 0, 2_013, b""),
+        event(Kind::Piece, 0, 2_014, b"\n"),
+        event(Kind::Close, 5, 2_015, b"x"),
+        event(Kind::Reading, 1, 2_016, b"99"),
+    ];
+    Night {
+        table: laboratory(),
+        time: 1_000,
+        trace: events.iter().flat_map(Event::to_bytes).collect(),
+    }
+}
+
+/// A night of so many events, all accepted: two clients, one of which is sent
+/// every update, and drivers that read, and now and then can't. A piece in four
+/// has two lines.
+pub fn long(events: usize) -> Night {
+    let mut random = Random::new(events as u64);
+    let opens = [
+        event(Kind::Open, 0, 1_000, b""),
+        event(Kind::Open, 1, 1_000, b""),
+        event(Kind::Piece, 0, 1_000, b"activate\n"),
+    ];
+    let any = (opens.len() as u64..).map(|at| some_event(&mut random, 1_000 + 20 * at));
+    let events = opens.into_iter().chain(any).take(events);
+    Night {
+        table: laboratory(),
+        time: 1_000,
+        trace: events.flat_map(|event| event.to_bytes()).collect(),
+    }
+}
+
+fn some_event(random: &mut Random, time: u64) -> Event {
+    let kelvin = format!("{}.{}", random.below(300), random.below(100));
+    match random.below(10) {
+        0..=4 => event(Kind::Reading, 0, time, kelvin.as_bytes()),
+        5 => event(
+            Kind::Reading,
+            2,
+            time,
+            random.below(10).to_string().as_bytes(),
+        ),
+        6 => event(Kind::Unreadable, 2, time, &[random.between(1, 4) as u8]),
+        7 => event(
+            Kind::Piece,
+            1,
+            time,
+            format!("change t1:target {kelvin}\n").as_bytes(),
+        ),
+        8 => event(Kind::Piece, 1, time, b"read t1:value\n"),
+        _ => event(Kind::Piece, 1, time, b"ping\nread mf:field\n"),
+    }
 }
 
 /// The most bytes that a record has.
@@ -52,14 +187,8 @@ fn start_time(random: &mut Random, calls: &[Call]) -> u64 {
 /// The records of a history's calls after a start. Numbers have a byte there.
 fn events(calls: &[Call]) -> Vec<Event> {
     let event = |kind, number: u64, time: u64, bytes: &[u8]| {
-        let bytes = bytes[..bytes.len().min(MAX_BYTES)].to_vec();
-        let number = number.min(255) as u8;
-        Some(Event {
-            kind,
-            number,
-            time,
-            bytes,
-        })
+        let bytes = &bytes[..bytes.len().min(MAX_BYTES)];
+        Some(event(kind, number.min(255) as u8, time, bytes))
     };
     let record = |call: &Call| match call {
         Call::Start { .. } => None,

@@ -276,6 +276,35 @@ fn generated_nights_reach_all_that_may_be_told() {
 }
 
 #[test]
+fn the_directed_night_is_told_as_worked_out() {
+    let Night { table, time, trace } = nights::directed();
+    let values = "t1:value ReadFailed\nt1:target 12\nmf:field -3\nmf:mode 1\nmf:label \"\"\n";
+    let refused = "refused 10 1\nrefused 11 1\nrefused 12 3\nrefused 13 1\nrefused 14 2\nrefused 15 1\nrefused 16 2\n";
+    let text = String::from_utf8(told(&table, time, &trace)).expect("text");
+    // 24 records of 13 bytes and their own bytes, then the wrong one.
+    let own = 9 + 52 + 0 + 32 + 5 + 1 + 1 + 2 + 1 + 38 + 1 + 1 + 5 + 1 + 1 + 1;
+    let end = format!("wrong {}\n", 24 * 13 + own);
+    assert_eq!(text, [values, refused, &end].concat());
+    assert_eq!(printed_bytes(&["night", "told"], ""), text.as_bytes());
+}
+
+#[test]
+fn long_nights_have_as_many_events_and_none_is_refused() {
+    for events in [0, 1, 2, 3, 4, 1_000] {
+        let Night { table, time, trace } = nights::long(events);
+        let text = String::from_utf8(told(&table, time, &trace)).expect("text");
+        assert_eq!(text.lines().count(), 5);
+        assert!(text.lines().all(|line| line.contains(':')));
+        let mut rest = trace.as_slice();
+        for _ in 0..events {
+            let length = usize::from(u16::from_be_bytes([rest[11], rest[12]]));
+            rest = &rest[13 + length..];
+        }
+        assert_eq!(rest, b"");
+    }
+}
+
+#[test]
 fn the_program_replays_files_and_writes_nights() {
     let folder = std::env::temp_dir().join(format!("nights-{}", std::process::id()));
     fs::create_dir_all(&folder).expect("a folder");
