@@ -251,7 +251,7 @@ impl Evening {
     }
 
     fn send(&mut self, time: u64, client: usize, bytes: &[u8]) {
-        let Evening { node, log } = self;
+        let Evening { node, log, .. } = self;
         let result = node.feed(client as u64, time, bytes, |record| log.record(record));
         if let Err(refusal) = result {
             log.refusal(refusal);
