@@ -93,14 +93,22 @@ module _ (xs : List ℕ) {t : Bool} (e : t ≡ same xs (bytes "*IDN?")) where
                 unfolding actionOf
                 is-do h = simp (sym e ∙ n, sym e2 ∙ n2, sym e3 ∙ n3, sym e4 ∙ n4, sym e5 ∙ n5, sym e6 ∙ n6, sym e7 ∙ n7, sym e8 ∙ h)
 
-                module _ (n8 : t8 ≡ false) {t9 : Bool} (e9 : t9 ≡ same xs (bytes "_count")) where
-                  pub is-count : t9 ≡ true → Count ≡ actionOf xs
+                module _ (n8 : t8 ≡ false) {t9 : Bool} (e9 : t9 ≡ same xs (bytes "check")) where
+                  pub is-check : t9 ≡ true → Named Verb.Check ≡ actionOf xs
                   unfolding actionOf
-                  is-count h = simp (sym e ∙ n, sym e2 ∙ n2, sym e3 ∙ n3, sym e4 ∙ n4, sym e5 ∙ n5, sym e6 ∙ n6, sym e7 ∙ n7, sym e8 ∙ n8, sym e9 ∙ h)
+                  is-check h =
+                      simp (sym e ∙ n, sym e2 ∙ n2, sym e3 ∙ n3, sym e4 ∙ n4, sym e5 ∙ n5, sym e6 ∙ n6, sym e7 ∙ n7, sym e8 ∙ n8, sym e9 ∙ h)
 
-                  pub is-unknown : t9 ≡ false → Unknown ≡ actionOf xs
-                  unfolding actionOf
-                  is-unknown h = simp (sym e ∙ n, sym e2 ∙ n2, sym e3 ∙ n3, sym e4 ∙ n4, sym e5 ∙ n5, sym e6 ∙ n6, sym e7 ∙ n7, sym e8 ∙ n8, sym e9 ∙ h)
+                  module _ (n9 : t9 ≡ false) {t10 : Bool} (e10 : t10 ≡ same xs (bytes "_count")) where
+                    pub is-count : t10 ≡ true → Count ≡ actionOf xs
+                    unfolding actionOf
+                    is-count h =
+                        simp (sym e ∙ n, sym e2 ∙ n2, sym e3 ∙ n3, sym e4 ∙ n4, sym e5 ∙ n5, sym e6 ∙ n6, sym e7 ∙ n7, sym e8 ∙ n8, sym e9 ∙ n9, sym e10 ∙ h)
+
+                    pub is-unknown : t10 ≡ false → Unknown ≡ actionOf xs
+                    unfolding actionOf
+                    is-unknown h =
+                        simp (sym e ∙ n, sym e2 ∙ n2, sym e3 ∙ n3, sym e4 ∙ n4, sym e5 ∙ n5, sym e6 ∙ n6, sym e7 ∙ n7, sym e8 ∙ n8, sym e9 ∙ n9, sym e10 ∙ h)
 
 -- what a word asks for
 pub asked : Action → Parts → R.Request

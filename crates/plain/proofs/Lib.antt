@@ -5,3 +5,4 @@ pub mod Outcomes
 pub mod Busy
 pub mod Notes
 pub mod Counts
+pub mod Editions
