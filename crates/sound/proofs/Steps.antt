@@ -160,7 +160,6 @@ module _ (w : Table) (a : Accepted w) (n : Node) (s : Sound w n) where
         let i = let-in-stored w a k v l in
         says-within (checked (reportOf (k .1) x)) 415 32013 (omega arith)
         (says-checked (reportOf (k .1) x) (fine (k .0) (k .1) (l .there) x (i, h)) tt)
-
     told-short _ _ by-count q =
         let m = activeCount w (n .clients c) in
         says-within (counted (n .counts c) m t) 79 32013 (omega arith)
