@@ -47,5 +47,5 @@ unfolding computed stage edited staged valueAndTarget around oneModule kelvin in
 next-edition = (refl, refl)
 
 pub who-talks : WhoTalks
-unfolding computed stage valueAndTarget oneModule kelvin initial small counted talking lastWritten
+unfolding computed stage staged valueAndTarget around oneModule kelvin initial small counted talking lastWritten
 who-talks = refl
