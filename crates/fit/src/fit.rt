@@ -32,6 +32,7 @@ use ascii::numbers::signed;
 use ascii::numbers::unsigned;
 use base64::Size;
 use base64::blob_size;
+use datainfo::layout::counted_end;
 use datainfo::layout::datainfo_end;
 use datainfo::layout::named_end;
 use datainfo::layout::part_end;

@@ -2,6 +2,7 @@ pub mod Verdicts
 pub mod Trees
 pub mod Short
 pub mod Exchange
+pub mod Ordered
 pub mod Stored
 pub mod Scalars
 pub mod Fields
