@@ -3,19 +3,22 @@ use Prim.Native.Nat.{ℕ, zero, suc, _-_, _≤_, _<_}
 use native.Mathlib.Numerals.{sub-one}
 use native.Mathlib.Omega.{arith}
 use mathlib.Core.Path.{_≡_, refl, sym, ap, _∙_}
-use mathlib.Core.Bool.{Bool}
-use mathlib.Core.List.{List, []}
+use mathlib.Core.Bool.{Bool, true, false, cond, _&&_}
+use mathlib.Core.List.{List, [], _∷_}
 use mathlib.Core.Option.{Option, none, some, Option·some-injective}
 use lib.ListN.{length, drop}
+use lib.Dec.{leb, eqb}
 use Rattle.ascii.specs.declared.Next.{Next}
 use Rattle.ascii.specs.declared.Next.the-variants.{At, Bad}
-use Rattle.ascii.specs.Bytes.{_>>=_}
+use Rattle.ascii.specs.Bytes.{_>>=_, head, all}
 use Rattle.ascii.specs.Numbers.{unsigned}
 use Rattle.ascii.specs.Reader.{Ends, rest}
-use Rattle.datainfo.specs.Datainfo.{Datainfo, struct, partial, no-fields, Parts}
-use Rattle.datainfo.specs.Layout.{entry, joined, fields, structAt, partialAt, datainfoIn}
+use Rattle.ascii.proofs.Lists.{both}
+use Rattle.datainfo.specs.Datainfo.{Datainfo, struct, partial, no-fields, Parts, fieldNames}
+use Rattle.datainfo.specs.Layout.{counted, flag, flagged, entry, joined, fields, structAt, partialAt, datainfoIn}
 use Rattle.datainfo.specs.Members.{afterField, membersAt}
 use Rattle.datainfo.specs.Kept.{nameIn}
+use Rattle.datainfo.proofs.Ends.{one-byte, no-byte}
 
 nothing-read : {A S : Type 0} {a : A} → none ≡ some a → S
 nothing-read e = absurd (let z : _≡_ {A = ℕ} 0 1 = cc in omega arith)
@@ -105,3 +108,39 @@ module _ (s : List ℕ) (at l k : ℕ) (q : Next) (h : Ends s q (rest (entry k (
   pub field-past : (i : ℕ) (r : Next) → q ≡ At i → Ends s r (rest (datainfoIn l (drop i s))) → Ends s r (afterField (datainfoIn l) k (drop at s))
   unfolding afterField
   field-past i r e g = simp ((rw e at h) .0) g
+
+-- the flag of a member of type 11 is the byte in front of it
+flag-first : (xs : List ℕ) (p : Bool × List ℕ) → flag xs ≡ some p → p .0 ≡ eqb (head xs) 1
+unfolding flag head
+flag-first [] p e = nothing-read (sym (rw (no-byte [] 0 (omega arith))) ∙ e)
+flag-first (x ∷ xs) p e = go (leb x 1) (rw (one-byte (x ∷ xs) 0 (omega arith)) at e)
+  where
+    go : (b : Bool) → cond {A = Option (Bool × List ℕ)} b (some (eqb x 1, xs)) none ≡ some p → p .0 ≡ eqb x 1
+    go true e = sym (ap (λ (w : Bool × List ℕ). w .0) (Option·some-injective _ _ e))
+    go false e = nothing-read e
+
+pub entry-flag : (xs : List ℕ) {a : Bool × List ℕ} {y : List ℕ} → entry 11 xs ≡ some (a, y) → a .0 ≡ eqb (head xs) 1
+unfolding entry flagged
+entry-flag xs {a} {y} e = go (flag xs) refl e
+  where
+    inner : (o : Bool) (w : Option (List ℕ × List ℕ)) → _>>=_ {B = (Bool × List ℕ) × List ℕ} w (λ q. some ((o, q .0), q .1)) ≡ some (a, y) → a .0 ≡ o
+    inner o none e = nothing-read e
+    inner o (some q) e = sym (ap (λ (w : (Bool × List ℕ) × List ℕ). w .0 .0) (Option·some-injective _ _ e))
+
+    go : (w : Option (Bool × List ℕ)) → flag xs ≡ w
+        → _>>=_ {B = (Bool × List ℕ) × List ℕ} w (λ p. counted (p .1) >>= λ q. some ((p .0, q .0), q .1)) ≡ some (a, y) → a .0 ≡ eqb (head xs) 1
+    go none f e = nothing-read e
+    go (some p) f e = inner (p .0) (counted (p .1)) e ∙ flag-first xs p f
+
+-- what holds of all names holds of the optional ones
+pub optional-all : (f : List ℕ → Option (Datainfo × List ℕ)) (k : ℕ) (p : List ℕ → Bool) (n : ℕ) (xs : List ℕ) (m : Parts) (x : List ℕ)
+    → fields f k n xs ≡ some (m, x) → all p (fieldNames (m .1)) ≡ true → all p (m .0) ≡ true
+unfolding all fieldNames joined
+optional-all f k p zero xs m x e h = rw (fields-none f k zero xs (omega arith) e)
+optional-all f k p (suc n) xs m x e h = fields-some f k (suc n) xs (omega arith) e λ a r d y gs i j o w.
+    let b = both (p (a .1)) (all p (fieldNames (gs .1))) (rw w at h) in
+    rw w (go (a .0) gs (a .1) (b .0) (optional-all f k p n y gs x (rw (sub-one (suc n)) at o) (b .1)))
+  where
+    go : (o : Bool) (gs : Parts) (name : List ℕ) → p name ≡ true → all p (gs .0) ≡ true → all p (cond o (name ∷ gs .0) (gs .0)) ≡ true
+    go true gs name h g = rw (h, g)
+    go false gs name h g = g

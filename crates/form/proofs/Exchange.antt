@@ -308,8 +308,8 @@ mutual
   fits-numbered (scaled x lo hi) s g v e = (e, refl)
   fits-numbered (blob lo hi) s g v e = (e, refl)
   fits-numbered (partial ns fs) s g v e =
-      let p = both (goodNames (fieldNames fs)) (fieldsNamesGood fs) g in
-      struct-numbered fs (p .0) (λ f h n ms e. fields-numbered fs s (p .1) f h n ms e) v e
+      let p = both (goodNames (fieldNames fs) && all isName ns) (fieldsNamesGood fs) g in
+      struct-numbered fs (both (goodNames (fieldNames fs)) (all isName ns) (p .0) .0) (λ f h n ms e. fields-numbered fs s (p .1) f h n ms e) v e
 
   elements-numbered : (ds : Elements) → ShortElements ds → elementsNamesGood ds ≡ true → (is : Items) → elementsFit ds is ≡ fits
       → (elementsFit ds (numberedElements ds is) ≡ fits) × (elementsNumbersOnly ds (numberedElements ds is) ≡ true)

@@ -9,4 +9,5 @@ pub mod Fields
 pub mod Rows
 pub mod Members
 pub mod Typed
+pub mod Listed
 pub mod Texts

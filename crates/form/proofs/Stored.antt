@@ -8,7 +8,8 @@ use mathlib.Core.Path.{_≡_, refl, sym, ap, ap₂, _∙_}
 use lib.Dec.{leb}
 use lib.ListN.{length}
 use borrow.Author.Tests.{leb-true}
-use Rattle.ascii.specs.Bytes.{isSome, any, same, head, dropWhile, isIn}
+use Rattle.ascii.specs.Bytes.{isSome, all, any, same, head, dropWhile, isIn}
+use Rattle.ascii.specs.Names.{isName}
 use Rattle.ascii.proofs.Lists.{both, same-self, same-is}
 use Rattle.decimal.specs.Token.{digits, minus, int, number}
 use Rattle.json.specs.Json as Json
@@ -130,7 +131,7 @@ unfolding namesGood numbered
 stored-numbered d v = by-top (λ d. Short d → namesGood d ≡ true → fit d v ≡ fits → FitsByNumbers d (Fit.stored d v))
     (λ d e s g f. rw (stored-other d v e) (fits-numbered d s g v f))
     (λ ns fs s g f. rw (stored-part ns fs v)
-    (order-numbered ns fs (both (goodNames (fieldNames fs)) (fieldsNamesGood fs) g .0) _ (fits-numbered (partial ns fs) s g v f)))
+    (order-numbered ns fs (both (goodNames (fieldNames fs)) (all isName ns) (both (goodNames (fieldNames fs) && all isName ns) (fieldsNamesGood fs) g .0) .0) _ (fits-numbered (partial ns fs) s g v f)))
     d
 
 -- ## Verdicts
@@ -269,7 +270,7 @@ shown-readable (some (Json.array is)) r = tt
 shown-readable (some (Json.object ms)) r = r
 
 pub completed-readable : (shown : Option Json) (d : Datainfo) (v : Json) → ReadableShown shown → Readable 8 v → Readable 8 (completed shown d v)
-unfolding completed
+unfolding completed atTop within asObject
 completed-readable shown d v p r = go (asPartial d) v r
   where
     go : (o : Option Parts) (v : Json) → Readable 8 v
