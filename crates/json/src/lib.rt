@@ -1,7 +1,7 @@
 // JSON texts over the bytes 32 to 126.
 ghost use mathlib.Core.Path.{_≡_};
 ghost use mathlib.Core.Bool.{true};
-ghost use Rattle.json.specs.Theorems.{CompactIsReadBack, CountsNeverCut, ReadableTrees};
+ghost use Rattle.json.specs.Theorems.{CompactIsReadBack, CountsNeverCut, ReadableTrees, TextsArePrintable};
 
 pub mod characters;
 pub mod read;
@@ -23,6 +23,13 @@ pub fn readable_trees() -> bool
 // The counts by which the definitions read strings, items and members never cut a text short.
 pub fn counts_never_cut() -> bool
     ensures { λ r. ⌜ (r ≡ true) × CountsNeverCut ⌝ }
+{
+    true
+}
+
+// A text that is JSON has no byte outside 32 to 126.
+pub fn texts_are_printable() -> bool
+    ensures { λ r. ⌜ (r ≡ true) × TextsArePrintable ⌝ }
 {
     true
 }

@@ -7,3 +7,4 @@ pub mod Kept
 pub mod Told
 pub mod Alike
 pub mod Notes
+pub mod Printed

@@ -8,7 +8,8 @@ use lib.Dec.{eqb}
 use lib.ListN.{drop}
 use Rattle.ascii.specs.Text.{bytes}
 use Rattle.ascii.specs.Bytes.{all, takeWhile, dropWhile, head, tail, isIn}
-use Rattle.ascii.proofs.Lists.{taken, dropped, taken-at, dropped-at, differs, Lacks, before, beyond, before-at, beyond-at}
+use Rattle.ascii.specs.Names.{isTextByte, isText}
+use Rattle.ascii.proofs.Lists.{taken, dropped, taken-at, dropped-at, differs, Lacks, lacks, before, beyond, before-at, beyond-at}
 use Rattle.json.specs.Json.{Json, null, boolean, number, string, array, object, Items, no-items, item, Members, no-members, member}
 use Rattle.json.specs.Json.{quoted, compact, compactItems, moreItems, compactMembers, moreMembers}
 use Rattle.report.proofs.Numbers.{isNumeric, Numeric}
@@ -74,13 +75,13 @@ unfoldable mutual
 
 -- ## What is read back
 
--- strings and keys without a quote, numbers of a number's bytes, and no null
+-- strings and keys as texts are, numbers of a number's bytes, and no null
 abbrev mutual
   pub Plain : Json → Type 0
   Plain null = ⊥
   Plain (boolean b) = Unit {0}
   Plain (number t) = Numeric t
-  Plain (string s) = Lacks 34 s
+  Plain (string s) = isText s ≡ true
   Plain (array is) = PlainItems is
   Plain (object ms) = PlainMembers ms
 
@@ -90,7 +91,7 @@ abbrev mutual
 
   pub PlainMembers : Members → Type 0
   PlainMembers no-members = Unit {0}
-  PlainMembers (member k v ms) = Lacks 34 k × Plain v × PlainMembers ms
+  PlainMembers (member k v ms) = (isText k ≡ true) × Plain v × PlainMembers ms
 
 -- how many parts are read at most
 unfoldable mutual
@@ -128,9 +129,14 @@ quoted-is : (s rest : List ℕ) → quoted s ++ rest ≡ 34 ∷ s ++ 34 ∷ rest
 unfolding quoted
 quoted-is s rest = rw append-assoc
 
-string-back : (s : List ℕ) → Lacks 34 s → (n : ℕ) (rest : List ℕ) → readValue (suc n) (34 ∷ s ++ 34 ∷ rest) ≡ (string s, rest)
+-- a text has no quote
+text-lacks : (xs : List ℕ) → isText xs ≡ true → Lacks 34 xs
+unfolding isText isTextByte isIn
+text-lacks xs h = lacks isTextByte 34 refl xs h
+
+string-back : (s : List ℕ) → isText s ≡ true → (n : ℕ) (rest : List ℕ) → readValue (suc n) (34 ∷ s ++ 34 ∷ rest) ≡ (string s, rest)
 unfolding readValue head tail
-string-back s p n rest = rw (before-at 34 s p rest, beyond-at 34 s p rest)
+string-back s p n rest = let l = text-lacks s p in rw (before-at 34 s l rest, beyond-at 34 s l rest)
 
 number-part : (t : List ℕ) → all isNumeric t ≡ true → (rest : List ℕ) → Stop rest
     → (takeWhile isNumeric (t ++ rest) ≡ t) × (dropWhile isNumeric (t ++ rest) ≡ rest)
@@ -162,14 +168,14 @@ starts b n q a o t f (array is) p rest = a
 starts b n q a o t f (object ms) p rest = o
 
 -- a key's text, its colon and what follows are parted
-module _ (k : List ℕ) (p : Lacks 34 k) (rest : List ℕ) where
+module _ (k : List ℕ) (p : isText k ≡ true) (rest : List ℕ) where
   key-is : keyOf (34 ∷ k ++ 34 ∷ 58 ∷ rest) ≡ k
   unfolding tail
-  key-is = before-at 34 k p (58 ∷ rest)
+  key-is = before-at 34 k (text-lacks k p) (58 ∷ rest)
 
   past-key : pastKey (34 ∷ k ++ 34 ∷ 58 ∷ rest) ≡ rest
   unfolding tail
-  past-key = rw (beyond-at 34 k p (58 ∷ rest))
+  past-key = rw (beyond-at 34 k (text-lacks k p) (58 ∷ rest))
 
 -- one item, one member, from how its value and the rest are read
 module _ (n : ℕ) where
@@ -178,7 +184,7 @@ module _ (n : ℕ) where
   unfolding readItem
   item-back v is xs ys rest e f = rw (e, f)
 
-  member-back : (k : List ℕ) (v : Json) (ms : Members) (xs ys rest : List ℕ) → Lacks 34 k → readValue n xs ≡ (v, ys)
+  member-back : (k : List ℕ) (v : Json) (ms : Members) (xs ys rest : List ℕ) → isText k ≡ true → readValue n xs ≡ (v, ys)
       → readRest n ys ≡ (ms, rest) → readMember (suc n) (34 ∷ k ++ 34 ∷ 58 ∷ xs) ≡ (member k v ms, rest)
   unfolding readMember
   member-back k v ms xs ys rest p e f = rw (key-is k p xs, past-key k p xs, e, f)
