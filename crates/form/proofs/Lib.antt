@@ -11,3 +11,4 @@ pub mod Members
 pub mod Typed
 pub mod Listed
 pub mod Texts
+pub mod Merged

@@ -70,7 +70,7 @@ module _ (o : Option (Parts × List ℕ)) (s : List ℕ) (levels : ℕ) (v : Lis
 -- ## All members, in table order
 
 -- a name of the table is a key
-among-any : (fs : Fields) (ks : List (List ℕ)) (k : List ℕ) → Among fs ks → any (same k) (fieldNames fs) ≡ true → any (same k) ks ≡ true
+pub among-any : (fs : Fields) (ks : List (List ℕ)) (k : List ℕ) → Among fs ks → any (same k) (fieldNames fs) ≡ true → any (same k) ks ≡ true
 unfolding any fieldNames
 among-any no-fields ks k h e = absurd (false≢true e)
 among-any (field j d fs) ks k h e = go (same k j) refl e (among-any fs ks k (h .1))
@@ -121,7 +121,7 @@ first-of : (gs hs : Parts) (a : Bool × List ℕ) (d : Datainfo) (ks : List (Lis
 unfolding joined ordered
 first-of gs hs a d ks ms w h = let z = rw w at h in (z .0, z .1, rw w)
 
-stored-at : (fs : Fields) (ms : Members) (k : List ℕ) (d : Datainfo) → fieldOf k fs ≡ some d → valueAt k (exchanged fs ms) ≡ numbered d (valueAt k ms)
+pub stored-at : (fs : Fields) (ms : Members) (k : List ℕ) (d : Datainfo) → fieldOf k fs ≡ some d → valueAt k (exchanged fs ms) ≡ numbered d (valueAt k ms)
 stored-at fs ms k d e = map-value (λ k w. numberedAt k fs w) (λ k. at-null fs k) k ms ∙ numbered-field fs k (valueAt k ms) d e
 
 none-of : (gs : Parts) (ms : Members) → gs ≡ ([], no-fields) → ordered (gs .1) ms ≡ no-members

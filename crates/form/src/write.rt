@@ -353,7 +353,7 @@ fn put_value(
 }
 
 // The member of a name of a struct of type 11, from the object past the '{' at p.
-fn put_field(
+pub(crate) fn put_field(
     out: &mut [u8],
     at: usize,
     s: &[u8],

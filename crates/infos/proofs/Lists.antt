@@ -91,6 +91,9 @@ module _ (inner : List ℕ → Option (Datainfo × List ℕ)) where
   closed : (x : List ℕ) (a b : ℕ) → x ++ (a ∷ []) ++ [] ++ (b ∷ []) ≡ x ++ (a ∷ b ∷ [])
   closed x a b = simp append-assoc
 
+  closed-with : (x q : List ℕ) → x ++ (125 ∷ []) ++ q ++ (125 ∷ []) ≡ x ++ (125 ∷ (q ++ (125 ∷ [])))
+  closed-with x q = simp append-assoc
+
   enum-is : (vs : List Variant) → datainfoText (Datainfo.enum vs) ≡ opening 4 ++ listed true (variantValues vs) ++ closing 4
   unfolding datainfoText datainfoValue compact compactMembers moreMembers quoted bytes opening closing
   enum-is vs = rw (listed-first (variantValues vs)) (ap (λ (l : List ℕ). bytes "{\"type\":\"enum\",\"members\":{" ++ l) (closed (compactMembers (variantValues vs)) 125 125))
@@ -105,7 +108,7 @@ module _ (inner : List ℕ → Option (Datainfo × List ℕ)) where
 
   partial-is : (ns : List (List ℕ)) (fs : Fields) → datainfoText (Datainfo.partial ns fs) ≡ opening 11 ++ listed true (fieldValues fs) ++ closing 11
   unfolding datainfoText datainfoValue compact compactMembers moreMembers compactItems quoted bytes opening closing
-  partial-is ns fs = rw (listed-first (fieldValues fs)) (ap (λ (l : List ℕ). bytes "{\"type\":\"struct\",\"members\":{" ++ l) (simp append-assoc))
+  partial-is ns fs = rw (listed-first (fieldValues fs)) (ap (λ (l : List ℕ). bytes "{\"type\":\"struct\",\"members\":{" ++ l) (closed-with (compactMembers (fieldValues fs)) (bytes ",\"optional\":[]")))
 
   -- members of the kind k, which f reads and g tells, made into a datainfo
   module _ {A : Type 0} (k : ℕ) (f : ℕ → List ℕ → Option (A × List ℕ)) (g : A → List ℕ) (m : A → Datainfo) (are : (n : ℕ) (xs : List ℕ) → membersText inner k true n xs ≡ told g (f n xs)) (same : (a : A) → datainfoText (m a) ≡ opening k ++ g a ++ closing k) where

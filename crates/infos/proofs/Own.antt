@@ -141,10 +141,13 @@ module _ (s : List ℕ) (i place left : ℕ) (first : Bool) (before : List ℕ) 
 
 -- ## Type 11 as a parameter's own
 
+named-with : (x q i : List ℕ) → x ++ (125 ∷ []) ++ (q ++ (i ++ (93 ∷ []) ++ [])) ++ (125 ∷ []) ≡ x ++ (125 ∷ q) ++ i ++ (93 ∷ 125 ∷ [])
+named-with x q i = simp append-assoc
+
 own-is : (ns : List (List ℕ)) (fs : Fields)
     → ownText (partial ns fs) ≡ opening 11 ++ listed true (fieldValues fs) ++ bytes "},\"optional\":[" ++ compactItems (nameItems ns) ++ bytes "]}"
 unfolding ownText datainfoValue compact compactMembers moreMembers quoted bytes opening
-own-is ns fs = rw (listed-first (fieldValues fs)) (ap (λ (l : List ℕ). bytes "{\"type\":\"struct\",\"members\":{" ++ l) (simp append-assoc))
+own-is ns fs = rw (listed-first (fieldValues fs)) (ap (λ (l : List ℕ). bytes "{\"type\":\"struct\",\"members\":{" ++ l) (named-with (compactMembers (fieldValues fs)) (bytes ",\"optional\":[") (compactItems (nameItems ns))))
 
 partial-there : (f : List ℕ → Option (Datainfo × List ℕ)) (xs : List ℕ)
     → partialAt f xs ≡ (membersAt f 11 xs >>= λ q. some (partial (q .0 .0) (q .0 .1), q .1))
