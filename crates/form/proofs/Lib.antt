@@ -12,3 +12,4 @@ pub mod Typed
 pub mod Listed
 pub mod Texts
 pub mod Merged
+pub mod Whole

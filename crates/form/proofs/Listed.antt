@@ -192,7 +192,7 @@ module _ (s : List ℕ) (i : ℕ) (v : List ℕ) (p : ℕ) {before after : List 
 -- ## A whole text
 
 -- a value that is an object
-object-is : (j : Json) (ms : Members) → asObject j ≡ some ms → j ≡ Json.object ms
+pub object-is : (j : Json) (ms : Members) → asObject j ≡ some ms → j ≡ Json.object ms
 unfolding asObject
 object-is null ms e = absurd (nothing e)
 object-is (boolean b) ms e = absurd (nothing e)
@@ -206,7 +206,7 @@ by-one : (a : Datainfo) (x : List ℕ) (d : Datainfo) (y : List ℕ) → _≡_ {
 by-one a x d y e h = let z : a ≡ d = ap (λ (p : Datainfo × List ℕ). p .0) (just e) in rw (← z) h
 
 -- no other type byte is read as type 11
-other-type : (f : List ℕ → Option (Datainfo × List ℕ)) (k : ℕ) (xs : List ℕ) → eqb k 11 ≡ false → (d : Datainfo) (x : List ℕ) → typed f k xs ≡ some (d, x) → asPartial d ≡ none
+pub other-type : (f : List ℕ → Option (Datainfo × List ℕ)) (k : ℕ) (xs : List ℕ) → eqb k 11 ≡ false → (d : Datainfo) (x : List ℕ) → typed f k xs ≡ some (d, x) → asPartial d ≡ none
 unfolding typed asPartial
 other-type f k xs h = rw h
     (when-cond P (eqb k 1) _ _ (when-double P z (λ lo hi x d y e. by-one (Datainfo.double lo hi) x d y e refl) xs)

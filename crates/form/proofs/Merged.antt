@@ -7,7 +7,8 @@ use mathlib.Core.Bool.{Bool, true, false, cond, not, _&&_, _||_, false≢true}
 use mathlib.Core.List.{List, [], _∷_, _++_, append-assoc, append-nil}
 use mathlib.Core.Option.{Option, none, some}
 use lib.Dec.{eqb}
-use lib.ListN.{length, take, drop, length-append}
+use lib.ListN.{length, take, drop, length-append, length-drop}
+use lib.Seq.{take-at}
 use borrow.Author.Tests.{eqb-true, eqb-false, eq-eqb, ne-eqb}
 use Rattle.ascii.specs.declared.Next.{Next}
 use Rattle.ascii.specs.declared.Next.the-variants.{At, Bad}
@@ -18,6 +19,7 @@ use Rattle.ascii.specs.Bytes.{_>>=_, isSome, all, any, count, same, head, tail,
 use Rattle.ascii.specs.Numbers.{unsigned}
 use Rattle.ascii.specs.Read.{ReadsUnsigned}
 use Rattle.ascii.specs.Reader.{ByteAt, Left, Ends}
+use Rattle.ascii.proofs.Lists as Lists
 use Rattle.json.specs.Json as Json
 use Rattle.json.specs.Json.{Json, null, boolean, Members, no-members, member, skip, key, members, bare, value, spaced, objectEnd, text, quoted, compact, compactMembers, moreMembers}
 use Rattle.json.specs.Readable.{Readable, ReadableMembers}
@@ -125,7 +127,8 @@ none-of f gs xs e = rw e
 
 kept-step : (b : Bool) (done : List ℕ) (start : Bool) (k : List ℕ) (v : Json) (ks : Members)
     → done ++ listed start (cond b (member k v ks) ks) ≡ (done ++ cond b (comma start ++ (quoted k ++ bytes ":" ++ compact v)) []) ++ listed (cond b false start) ks
-kept-step true done start k v ks = listed-step done start k v ks ∙ rw append-assoc
+kept-step true done start k v ks =
+    listed-step done start k v ks ∙ ap (λ (l : List ℕ). l ++ listed false ks) (append-assoc done (comma start) (quoted k ++ bytes ":" ++ compact v))
 kept-step false done start k v ks = rw append-nil
 
 module _ (s : List ℕ) (i : ℕ) (q p : Option (Json × List ℕ)) (place left : ℕ) (start : Bool) (before : List ℕ) (at : ℕ) (out : List ℕ) (a : ℕ)
@@ -185,30 +188,73 @@ some-long (member k v ks) n = refl
 
 module _ (o : Option (Parts × List ℕ)) (xs : List ℕ) (p : Option (Json × List ℕ)) {d0 d1 d2 : List ℕ} {a1 a2 : ℕ} (x : Emits d0 0 (123 ∷ []) d1 a1)
     (y : KeepsAll o (objectEnd (value 7) xs) p d1 a1 d2 a2) where
-  pub merged-alone : (r : Next) {v : List ℕ} → Ends v r (first 125 xs) → r ≡ Bad → {d3 : List ℕ} {a3 : ℕ} → Emits d2 a2 (125 ∷ []) d3 a3 → Merges o xs p d0 d3 a3
+  pub merged-alone : (r : Next) (v : List ℕ) → Ends v r (first 125 xs) → r ≡ Bad → {d3 : List ℕ} {a3 : ℕ} → Emits d2 a2 (125 ∷ []) d3 a3 → Merges o xs p d0 d3 a3
   unfolding mergedBytes first bytes
-  merged-alone r f z w = record { is = λ e g h i j. rw (alone (eqb (head (skip xs)) 125) (rw z at f)) (both (both x (y .is e g h i j)) w) }
+  merged-alone r v f z w = record { is = λ e g h i j. rw (alone (eqb (head (skip xs)) 125) (rw z at f)) (both (both x (y .is e g h i j)) w) }
     where
       alone : (b : Bool) → cond {A = Option (List ℕ)} b none (some xs) ≡ none → b ≡ true
       alone true e = refl
       alone false e = absurd (nothing (sym e))
 
-  pub merged-both : (r : Next) {v : List ℕ} → Ends v r (first 125 xs) → (n : ℕ) → r ≡ At n → (t : Bool) → t ≡ eqb a2 a1 → {d3 d4 : List ℕ} {a3 a4 : ℕ}
-      → Emits d2 a2 (comma t) d3 a3 → Emits d3 a3 xs d4 a4 → Merges o xs p d0 d4 a4
+  merged-both : (r : Next) (v : List ℕ) → Ends v r (first 125 xs) → (n : ℕ) → r ≡ At n → {d3 d4 : List ℕ} {a3 a4 : ℕ}
+      → Emits d2 a2 (comma (eqb a2 a1)) d3 a3 → Emits d3 a3 xs d4 a4 → Merges o xs p d0 d4 a4
   unfolding mergedBytes first bytes
-  merged-both r f n z t g w u = record {
+  merged-both r v f n z w u = record {
     is = λ {m = m} {ms = ms} {js = js} e i h j l.
         let k = y .is e i h j l in
-        rw (open (eqb (head (skip xs)) 125) ((rw z at f) .0), ← (same-flag (kept m ms (m .1) js) k)) (rw append-assoc at (both (both (both x k) w) u));
+        rw (opened (eqb (head (skip xs)) 125) ((rw z at f) .0), ← (same-flag (kept m ms (m .1) js) k)) (rw append-assoc at (both (both (both x k) w) u));
   }
     where
-      open : (b : Bool) {zs : List ℕ} → cond {A = Option (List ℕ)} b none (some xs) ≡ some zs → b ≡ false
-      open true e = absurd (nothing e)
-      open false e = refl
+      opened : (b : Bool) {zs : List ℕ} → cond {A = Option (List ℕ)} b none (some xs) ≡ some zs → b ≡ false
+      opened true e = absurd (nothing e)
+      opened false e = refl
 
-      same-flag : (ks : Members) → Emits d1 a1 (compactMembers ks) d2 a2 → t ≡ isNone ks
-      same-flag ks k = g ∙ go (eqb a2 a1) refl
+      same-flag : (ks : Members) → Emits d1 a1 (compactMembers ks) d2 a2 → eqb a2 a1 ≡ isNone ks
+      same-flag ks k = go (eqb a2 a1) refl
         where
           go : (b : Bool) → eqb a2 a1 ≡ b → b ≡ isNone ks
           go true e = sym (none-long ks (let q = eqb-true a2 a1 e in let l = k .ends in let l1 = x .ends in omega arith))
           go false e = sym (some-long ks (λ n. eqb-false a2 a1 e (let l = k .ends in let l1 = x .ends in omega arith)))
+
+all-of : (n : ℕ) (xs : List ℕ) → n ≡ length xs → take n xs ≡ xs
+all-of n xs h = rw append-nil at (take-at xs [] n (sym h))
+
+-- the rest of v is a part of it
+pub merged-rest : (o : Option (Parts × List ℕ)) (v : List ℕ) (from : ℕ) (p : Option (Json × List ℕ)) {d0 d1 d2 : List ℕ} {a1 a2 : ℕ} → Emits d0 0 (123 ∷ []) d1 a1
+    → KeepsAll o (objectEnd (value 7) (drop from v)) p d1 a1 d2 a2 → (r : Next) → Ends v r (first 125 (drop from v)) → (n : ℕ) → r ≡ At n → {d3 d4 : List ℕ} {a3 a4 : ℕ}
+    → Emits d2 a2 (comma (eqb a2 a1)) d3 a3 → Emits d3 a3 (take (length v - from) (drop from v)) d4 a4 → Merges o (drop from v) p d0 d4 a4
+merged-rest o v from p x y r f n z w u =
+    merged-both o (drop from v) p x y r v f n z w (rw (all-of (length v - from) (drop from v) (sym (length-drop from v))) at u)
+
+-- ## Whether members may be left out
+
+module _ (shown v : List ℕ) (p : ℕ) where
+  pub part-hidden : (b : ℕ) → ByteAt shown 0 b → (b ≡ 123 → ⊥) → false ≡ (eqb (head shown) 123 && (eqb (head (drop p v)) 123 && isSome (text v)))
+  part-hidden b h n = rw (← (h .is), ne-eqb b 123 n)
+
+  module _ (b : ℕ) (h : ByteAt shown 0 b) (z : b ≡ 123) (c : ℕ) (g : ByteAt v p c) where
+    pub part-other : (c ≡ 123 → ⊥) → false ≡ (eqb (head shown) 123 && (eqb (head (drop p v)) 123 && isSome (text v)))
+    part-other n = rw (← (h .is), z, ← (g .is), ne-eqb c 123 n)
+
+    pub part-text : c ≡ 123 → (t : Bool) → t ≡ isSome (text v) → t ≡ (eqb (head shown) 123 && (eqb (head (drop p v)) 123 && isSome (text v)))
+    part-text w t f = f ∙ rw (← (h .is), z, ← (g .is), w)
+
+  module _ (t : Bool) (f : t ≡ (eqb (head shown) 123 && (eqb (head (drop p v)) 123 && isSome (text v)))) (z : t ≡ true) where
+    pub part-shown : 0 < length shown
+    unfolding head
+    part-shown = go shown (eqb-true _ 123 (Lists.both (eqb (head shown) 123) (eqb (head (drop p v)) 123 && isSome (text v)) (sym f ∙ z) .0))
+      where
+        go : (xs : List ℕ) → head xs ≡ 123 → 0 < length xs
+        go [] e = absurd (omega arith)
+        go (x ∷ xs) e = omega arith
+
+    pub part-within : p < length v
+    unfolding head
+    part-within =
+        let c = Lists.both (eqb (head shown) 123) (eqb (head (drop p v)) 123 && isSome (text v)) (sym f ∙ z) in
+        let c' = Lists.both (eqb (head (drop p v)) 123) (isSome (text v)) (c .1) in
+        go (drop p v) (eqb-true _ 123 (c' .0)) (length-drop p v)
+      where
+        go : (xs : List ℕ) → head xs ≡ 123 → length xs ≡ length v - p → p < length v
+        go [] e h = absurd (omega arith)
+        go (x ∷ xs) e h = omega arith

@@ -222,7 +222,7 @@ module _ (d : Datainfo) (xs : List ℕ) where
       unfolding verdict verdictOf
       own-verdict = fit-is (valueVerdict d v) (rw q at stored-fits)
 
-      own-value : v ≡ Fit.stored d v
+      pub own-value : v ≡ Fit.stored d v
       unfolding storedForm formOf
       own-value =
           let f : compact (Fit.stored d v) ≡ xs = rw q at stored-own in
@@ -245,7 +245,7 @@ some-stored d (x ∷ xs) e = omega arith
 
 -- ## Changes: what is filled in can be read
 
-kept-readable : (n : ℕ) (p : List ℕ → Bool) (ms : Members) → ReadableMembers n ms → ReadableMembers n (keepMembers p ms)
+pub kept-readable : (n : ℕ) (p : List ℕ → Bool) (ms : Members) → ReadableMembers n ms → ReadableMembers n (keepMembers p ms)
 unfolding keepMembers
 kept-readable n p no-members r = tt
 kept-readable n p (member k v ms) r = go (p k) (kept-readable n p ms (r .2))

@@ -117,14 +117,11 @@ fn put_merged(out: &mut [u8], s: &[u8], i: usize, shown: &[u8], v: &[u8], p: usi
     emit(out, c, &v[from..])
 }
 
-// Whether something may be left out: type 11, a value that is shown, and a change that is an object too.
-fn is_part(s: &[u8], i: usize, shown: &[u8], v: &[u8], p: usize) -> bool
-    requires { ⌜ (i ≤ length (now s)) × (p ≤ length (now v)) ⌝ }
-    ensures { λ r. ⌜ r ≡ (eqb (head (drop i (now (s .entry)))) 11 && (eqb (head (now (shown .entry))) 123 && (eqb (head (drop p (now (v .entry)))) 123 && isSome (text (now (v .entry)))))) ⌝ }
+// Whether members may be left out: an object is shown, and the change is one.
+fn is_part(shown: &[u8], v: &[u8], p: usize) -> bool
+    requires { ⌜ p ≤ length (now v) ⌝ }
+    ensures { λ r. ⌜ r ≡ (eqb (head (now (shown .entry))) 123 && (eqb (head (drop p (now (v .entry)))) 123 && isSome (text (now (v .entry))))) ⌝ }
 {
-    if byte(s, i) != 11 {
-        return false;
-    }
     if byte(shown, 0) != b'{' {
         return false;
     }
@@ -141,8 +138,14 @@ pub fn complete(s: &[u8], i: usize, shown: &[u8], v: &[u8], out: &mut [u8]) -> u
     ensures { λ r. ⌜ Completes (datainfoIn 4 (drop i (now (s .entry)))) (now (shown .entry)) (now (v .entry)) (now (out .entry)) (now (out .exit)) r ⌝ }
 {
     let p = spaces_end(v, 0);
-    if is_part(s, i, shown, v, p) {
-        return put_merged(out, s, i + 1, shown, v, p);
+    let Unsigned::Read(k, inner) = unsigned(s, i, 1) else {
+        return emit(out, 0, v);
+    };
+    if k != 11 {
+        return emit(out, 0, v);
+    }
+    if is_part(shown, v, p) {
+        return put_merged(out, s, inner, shown, v, p);
     }
     emit(out, 0, v)
 }
