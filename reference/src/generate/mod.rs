@@ -10,6 +10,7 @@ pub mod histories;
 pub mod lines;
 pub mod names;
 mod parts;
+mod ramps;
 mod script;
 pub mod searches;
 pub mod second;
