@@ -8,6 +8,7 @@ mod examples;
 mod generated;
 mod kept;
 mod lines;
+mod partial;
 mod program;
 mod reports;
 mod tables;
