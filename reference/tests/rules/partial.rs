@@ -15,7 +15,7 @@ fn heater(optional: [u8; 5]) -> Vec<u8> {
         int(0, 100),
         double((0, 0), (100, 0)),
         int(0, 100),
-        string(0, 200),
+        string(0, 250),
         enumeration(&[("off", 0), ("on", 1)]),
     ];
     let all = optional.into_iter().zip(NAMES).zip(members);
