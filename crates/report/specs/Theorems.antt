@@ -68,12 +68,12 @@ enforcedModule m = record {
   accessibles = map enforcedAccessible (m .accessibles);
 }
 
--- all of a table but notes, initial values and their places, and those flags
+-- all of a table but its edition, notes, initial values and their places, and those flags
 unfoldable pub enforced : Table → Table
-enforced t = record { equipmentId = t .equipmentId; description = t .description; modules = map enforcedModule (t .modules) }
+enforced t = record { equipmentId = t .equipmentId; description = t .description; edition = none; modules = map enforcedModule (t .modules) }
 
--- Two accepted tables with the same structure report are the same table, but for notes, initial values and their places, and flags that enforce
--- nothing: `ReportsTellVerdicts` says that they make no difference.
+-- Two accepted tables with the same structure report are the same table, but for editions, notes, initial values and their places, and flags that
+-- enforce nothing: `ReportsTellVerdicts` says that they make no difference.
 abbrev pub ReportsTell : Type 0
 ReportsTell = (t u : Table) → treeNumber t ≡ 0 → treeNumber u ≡ 0 → report t ≡ report u → enforced t ≡ enforced u
 
