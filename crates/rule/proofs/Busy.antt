@@ -7,13 +7,14 @@ use mathlib.Core.Logic.{⊎-elim}
 use mathlib.Core.Option.{none, some}
 use mathlib.Core.Path.{_≡_, refl, sym, _∙_, ap, subst}
 use Rattle.ascii.specs.Text.{bytes}
-use Rattle.fit.specs.Fit.{verdict, isFit, storedForm}
+use Rattle.fit.specs.Fit.{verdict, isFit}
 use Rattle.table.specs.Table.{Parameter, Table}
 use Rattle.table.specs.Search.{Placed, findParameter}
 use Rattle.message.specs.Reply.{Report, changed}
 use Rattle.outbox.specs.Outbox.{Record, final, update, orderChange}
 use Rattle.plain.specs.Node.{Node, Value, reportOf, clientNumbers, updatesTo, showing}
-use Rattle.plain.specs.Answer.{busy, statusOf, busySettings, busyUpdates}
+use Rattle.plain.specs.History.{step}
+use Rattle.plain.specs.Answer.{storedAt, busy, statusOf, busySettings, busyUpdates}
 use Rattle.plain.specs.Calls.{Event}
 use Rattle.plain.proofs.Put.{put-at, put-other}
 use Rattle.plain.proofs.Busy.{is-status, no-status, named-other}
@@ -91,18 +92,20 @@ told-change : {w : Table} {n m : Node} {c : ℕ} {rs : List Record} (s : ℕ × 
     → ((k : ℕ) (p : Placed Parameter) (v : List ℕ) (t : ℕ) → Changed w n m c k p v t rs → p .it .name ≡ bytes "target"
     → findParameter w (p .moduleName) (bytes "status") ≡ some s → P (reportOf p (showing v t)))
     → {e : Event} → OfPiece c (λ bs t. ChangeSets w n m c bs t r rs) e → P r
-told-change {w} s r target found P f (of-piece {t = t} g) =
+told-change {w} {n} s r target found P f (of-piece {t = t} g) =
     let z = g .tells in
     subst P (sym z)
-    (f (g .k) (g .p) (storedForm (g .p .it .datainfo) (g .offered)) t (g .changed) (ap (λ (x : Report). x .accessible) (sym z) ∙ target)
+    (f (g .k) (g .p) (storedAt (n .values) (g .k, g .p) (g .offered)) t (g .changed) (ap (λ (x : Report). x .accessible) (sym z) ∙ target)
     (ap (λ (x : Report). findParameter w (x .moduleName) (bytes "status")) (sym z) ∙ found))
 
 pub busy-before-changed : BusyBeforeChanged
 busy-before-changed table n e c s r l target found a =
-    told-change s r target found (λ x. BusyFirst _ c s x _) (λ k p v t h i j. busy-first _ n _ c k p v t _ h s i j a)
+    told-change s r target found (λ x. BusyFirst (step table n e .0) c s x (step table n e .1 .records))
+    (λ k p v t h i j. busy-first _ n _ c k p v t _ h s i j a)
     (changes-are-sent-to-all table n e c r l)
 
 pub other-status-stays : OtherStatusStays
 other-status-stays table n e c s r l target found a =
-    told-change s r target found (λ x. StatusLeft n _ s x _) (λ k p v t h i j. status-left _ n _ c k p v t _ h s i j a)
+    told-change s r target found (λ x. StatusLeft n (step table n e .0) s x (step table n e .1 .records))
+    (λ k p v t h i j. status-left _ n _ c k p v t _ h s i j a)
     (changes-are-sent-to-all table n e c r l)

@@ -22,7 +22,7 @@ use Rattle.message.specs.Error.{Fault, faultOf}
 use Rattle.message.specs.Reply.{failed, Reply}
 use Rattle.outbox.specs.Outbox.{Record, final}
 use Rattle.plain.specs.Node.{Client, closed, fresh, Node, put, withClient, withValue, isOpen, lineOf, receive, emptied, reportOf, clientNumbers, updatesTo, holding, showing, withClients}
-use Rattle.plain.specs.Answer.{Outcome, outcome, statusOf, activates, deactivates, sets, answerParts, answer}
+use Rattle.plain.specs.Answer.{Outcome, outcome, storedAt, statusOf, activates, deactivates, sets, answerParts, answer}
 use Rattle.plain.specs.Calls.{Event, Open, Close, Piece, Reading, Unreadable, Call, ownFaults, callNumber, readingVerdict, beforeFeed, hasFeed, ended, pieceEffect, driverEffect, readingEffect, unreadableEffect, effect, settle, stepIf}
 use Rattle.plain.specs.History.{step}
 use Rattle.plain.proofs.Numbers as Numbers
@@ -46,7 +46,7 @@ quiet w n c now =
       activating = λ m f h. updates-of-no-final c _ (n .values) 0 (parameters w);
       deactivating = λ m f h. tt;
       setting = λ k v h.
-          (tt, busy-no-final (n .clients) (statusOf w (k .1)) now (k .1 .home) (reportOf (k .1) (showing (storedForm (k .1 .it .datainfo) v) now)));
+          (tt, busy-no-final (n .clients) (statusOf w (k .1)) now (k .1 .home) (reportOf (k .1) (showing (storedAt (n .values) k v) now)));
       doing = λ k v h. (tt, tt);
     })
 

@@ -1,9 +1,9 @@
--- `access::check` meets its contract. Assumes nothing.
+-- `access::whole::check_whole` meets its contract. Assumes nothing.
 use Rattle.access.proofs.Finding.{info-known, parameter-known}
 use Rattle.access.proofs.Checked.{check-refused, check-told, check-sent}
 use borrow.Author.Needs.{needs}
-use Rattle.access.proofs.check.Statement.{statement}
-use Rattle.access.proofs.check.Tie as tie
+use Rattle.access.proofs.whole.check_whole.Statement.{statement}
+use Rattle.access.proofs.whole.check_whole.Tie as tie
 
 judge-change-requires : tie.Need-judge-change-requires
 judge-change-requires c κs =
@@ -37,8 +37,8 @@ returns-2 c =
     (c .before .before .before .before .before .before .judge-change .ensures) (c .before .before .before .before .enum-told .given .1)
     _ _ (c .before .before .put-checked .ensures)
 
-pub check-spec : {M : Type 1} → statement M
-check-spec =
+pub check-whole-spec : {M : Type 1} → statement M
+check-whole-spec =
     tie.close
     (tie.spec
     judge-change-requires

@@ -1,9 +1,9 @@
--- `access::change` meets its contract. Assumes nothing.
+-- `access::whole::change_whole` meets its contract. Assumes nothing.
 use Rattle.access.proofs.Finding.{info-known, parameter-known}
 use Rattle.access.proofs.Changed.{change-refused, change-settable, change-set}
 use borrow.Author.Needs.{needs}
-use Rattle.access.proofs.change.Statement.{statement}
-use Rattle.access.proofs.change.Tie as tie
+use Rattle.access.proofs.whole.change_whole.Statement.{statement}
+use Rattle.access.proofs.whole.change_whole.Tie as tie
 
 judge-change-requires : tie.Need-judge-change-requires
 judge-change-requires c κs =
@@ -38,8 +38,8 @@ returns-2 c =
     change-set _ (start .args .state) _ _ _ _ (start .pre .0) _ _ _ _ _ _ (start .pre .1 .1) _ (c .before .before .before .before .before .before .before .before .before .before .judge-change .ensures) (c .before .before .before .before .before .before .before .before .enum-told .given .1)
     _ _ _ (c .before .before .before .before .set .ensures)
 
-pub change-spec : {M : Type 1} → statement M
-change-spec =
+pub change-whole-spec : {M : Type 1} → statement M
+change-whole-spec =
     tie.close
     (tie.spec
     judge-change-requires
