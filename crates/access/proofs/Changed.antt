@@ -54,7 +54,7 @@ module _ (s : List ℕ) (st : State) (values out : List ℕ) (c t : ℕ) (g : Re
 
   module _ (z : v ≡ J.LetIn) where
     is-set : change (k, p .it) ≡ setting
-      is-set = judged-let-in s m a xs k h q p v j (sets (tableOf s) (view s st values) c t) z
+    is-set = judged-let-in s m a xs k h q p v j (sets (tableOf s) (view s st values) c t) z
 
     pub change-settable : t ≤ latest → Settable out k h m a t × Accepts s (q .info) values xs
     change-settable l = (

@@ -6,6 +6,7 @@ use mathlib.Core.Path.{_≡_, refl, sym, ap, subst, _∙_}
 use mathlib.Core.List.{List, []}
 use mathlib.Core.Option.{Option, none, some}
 use lib.ListN.{length, getD, take, drop}
+use lib.Seq.{length-take-le}
 use Rattle.ascii.specs.Bytes.{head, dropWhile, isIn}
 use Rattle.decimal.specs.Token as Token
 use Rattle.json.specs.Json as Json
@@ -30,8 +31,10 @@ use Rattle.plain.specs.Node as Node
 use Rattle.plain.specs.Answer as Plain
 use Rattle.plain.specs.Answer.{shownValue, sets, shows, judging, changes, checks}
 use Rattle.sound.specs.Theorems.{ValueHeld}
+use Rattle.search.specs.Found.{ParameterFound}
 use Rattle.state.specs.declared.State.{State}
 use Rattle.state.specs.View.{shownBytes, view}
+use Rattle.outcome.specs.Ready.{Ready}
 use Rattle.outcome.specs.Outcome.{OutcomeIs, OfParameter}
 use Rattle.outcome.specs.declared.Outcome.{Outcome}
 use Rattle.access.specs.Whole.{judgingWhole, changesWhole, checksWhole, Fillable, Fills}
@@ -45,7 +48,7 @@ text-none = refl
 -- ## Filling in
 
 module _ (s : List ℕ) (st : State) (values m a : List ℕ) (k h : ℕ) (q : ParameterAt) (xs whole : List ℕ) (g : Fillable s st values m a k h q xs whole) where
-  p : ParameterKnown s m a k h q
+  abbrev p : ParameterKnown s m a k h q
   p = parameter-known s (g .ready .lent .accepted) m a k h q (g .found)
 
   pub fill-low : k < 64
@@ -69,7 +72,7 @@ module _ (s : List ℕ) (st : State) (values m a : List ℕ) (k h : ℕ) (q : Pa
 
   -- nothing is shown where it is in error
   pub none-given : ShownAt s (q .info) [] × (length xs + length {A = ℕ} [] + 2 ≤ length whole)
-  none-given = (record { reads = info-known p; shown = Merged.nothing refl }, omega (g .short, g .room))
+  none-given = (record { reads = info-known p; shown = Merged.nothing refl }, omega (arith, g .short, g .room))
 
   module _ (r : Sensor) (hr : sensorFault r ≡ faultOf (getD (st .settings .error) k 0)) where
     pub none-filled : (e : Fault) → r ≡ Fails e → (after : List ℕ) (end : ℕ) → Completes (datainfoAt (drop (q .info) s)) [] xs whole after end
@@ -89,12 +92,25 @@ module _ (s : List ℕ) (st : State) (values m a : List ℕ) (k h : ℕ) (q : Pa
       pub shown-given : ShownAt s (q .info) v × (length xs + length v + 2 ≤ length whole)
       shown-given =
           let short = short-stored (p .it .it .datainfo) v (fits .0) in
-          (record { reads = info-known p; shown = Merged.stored (fits .0) }, omega (short, g .short, g .room))
+          (record { reads = record { within = p .within; datainfo = p .it .it .datainfo; left = p .left; is = p .info }; shown = Merged.stored (fits .0) },
+          omega (arith, short, g .short, g .room))
 
       pub shown-filled : (after : List ℕ) (end : ℕ) → Completes (datainfoAt (drop (q .info) s)) v xs whole after end
           → Fills s st values m a xs whole after end
       unfolding shownValue
       shown-filled after end c = filled v after end c (rw is-shown refl)
+
+pub fill-given : (s : List ℕ) (st : State) (values out : List ℕ) (c : ℕ) (m a : List ℕ) (k h : ℕ) (q : ParameterAt) (xs whole : List ℕ) → Ready s st values out c
+    → ParameterFound s m a k h q → length xs ≤ 1024 → length whole ≡ 1282 → Fillable s st values m a k h q xs whole
+fill-given s st values out c m a k h q xs whole g f l i =
+    record { out = out; client = c; ready = g; found = f; short = l; room = omega (arith, i) }
+
+module _ (s : List ℕ) (st : State) (values m a xs before after : List ℕ) (r : ℕ) (g : Fills s st values m a xs before after r) where
+  pub filled-within : r ≤ length after
+  filled-within = g .within
+
+  pub filled-length : r ≡ length (take r after)
+  filled-length = sym (length-take-le r after (g .within))
 
 -- ## What it comes to
 

@@ -37,7 +37,7 @@ use Rattle.search.specs.Found.{ParameterFound}
 use Rattle.access.proofs.Finding.{ParameterKnown, parameter-known, the-parameter}
 
 module _ (s : List ℕ) (st : State) (values out : List ℕ) (c : ℕ) (g : Ready s st values out c) (m a : List ℕ) (k h : ℕ) (q : ParameterAt) (f : ParameterFound s m a k h q) where
-  p : ParameterKnown s m a k h q
+  abbrev p : ParameterKnown s m a k h q
   p = parameter-known s (g .lent .accepted) m a k h q f
 
   pub read-low : k < 64

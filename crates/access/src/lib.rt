@@ -103,9 +103,9 @@ pub fn change(
 }
 
 // What a change would store is told, and nothing is stored; or the error that a change would be refused with, and the outbox is as it was.
-pub fn check(
-    table: &[u8],
-    values: &[u8],
+pub fn check<'a>(
+    table: &'a [u8],
+    values: &'a [u8],
     out: &mut [u8],
     state: State,
     client: u8,
