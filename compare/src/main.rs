@@ -5,6 +5,7 @@ mod cost;
 mod difference;
 mod histories;
 mod library;
+mod night;
 mod operations;
 mod seen;
 mod stack;
@@ -27,6 +28,9 @@ usage: compare [COMMAND ...]
   (nothing)    the same with the seeds of ./test
   cost         what a line costs, beside the reference program
   stack        how deep the stack of a call is, over the same histories
+  night TABLE TIME TRACE
+               a night by single calls: what the program `night` is to write,
+               of a trace without wrong and half records
   --help       this text
 
 A difference is printed with the history's name and seed and the first call at
@@ -51,6 +55,7 @@ fn main() -> ExitCode {
         [] => compare(SEED, COUNT),
         ["cost"] => cost::print(),
         ["stack"] => stack::print(),
+        ["night", table, time, trace] => night::print(table, time, trace),
         ["--help"] => {
             print!("{HELP}");
             ExitCode::SUCCESS

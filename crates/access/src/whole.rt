@@ -19,8 +19,8 @@ use state::setting::sensor_at;
 use state::setting::shown;
 use table::layout::ParameterAt;
 
-// "The node replaces only the members given and keeps the others from the value it shows now": the text that comes of it is written to bytes of
-// its own, since what is shown may lie where the new value is stored. "If the parameter is in error now", nothing is shown.
+// "they keep what is shown now, or, where the parameter is in error, such a change is WrongType": the text that comes of it is written to bytes of its
+// own, since what is shown may lie where the new value is stored. In error nothing is shown.
 pub fn fill<'a>(
     table: &'a [u8],
     values: &'a [u8],

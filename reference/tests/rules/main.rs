@@ -3,6 +3,7 @@
 
 mod build;
 mod calls;
+mod counts;
 mod directed;
 mod examples;
 mod generated;
@@ -10,6 +11,7 @@ mod kept;
 mod lines;
 mod partial;
 mod program;
+mod replay;
 mod reports;
 mod tables;
 mod values;
