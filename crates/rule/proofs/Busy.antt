@@ -17,7 +17,6 @@ use Rattle.plain.specs.Node.{Node, Value, reportOf, clientNumbers, updatesTo, s
 use Rattle.plain.specs.History.{step}
 use Rattle.plain.specs.Answer.{storedAt, busy, statusOf, busySettings, busyUpdates}
 use Rattle.plain.specs.Calls.{Event}
-use Rattle.plain.specs.History.{step}
 use Rattle.plain.proofs.Put.{put-at, put-other}
 use Rattle.plain.proofs.Busy.{is-status, no-status, named-other}
 use Rattle.rule.specs.Theorems.{Changed, ChangeSets, OfPiece, of-piece, BusyFirst, StatusLeft, BusyBeforeChanged, OtherStatusStays}
