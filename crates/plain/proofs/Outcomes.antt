@@ -10,7 +10,7 @@ use lib.Dec.{eqb}
 use lib.ListN.{getElem?}
 use Rattle.ascii.specs.Text.{bytes}
 use Rattle.ascii.specs.Bytes.{isSome}
-use Rattle.fit.specs.Fit.{Verdict, fits, rangeError, wrongType, badJSON, verdict, storedForm}
+use Rattle.fit.specs.Fit.{Verdict, fits, rangeError, wrongType, badJSON}
 use Rattle.table.specs.Table.{Parameter, Command, Module, Table}
 use Rattle.table.specs.Search.{Placed, parameters, commands, findModule, findParameter, findCommand}
 use Rattle.table.proofs.Search.{parameter-there, parameter-named, command-there, command-named}
@@ -21,7 +21,7 @@ use Rattle.message.specs.Error.{Fault, class, fault, Class, ProtocolError, NoSu
 use Rattle.message.specs.Reply.{Held, valued, failed, Report, Reply, identification, describing, pong, reply, done, counted, error, checked}
 use Rattle.outbox.specs.Outbox.{Record, final, orderCommand}
 use Rattle.plain.specs.Node.{Value, holding, showing, Node, activeCount, reportOf}
-use Rattle.plain.specs.Answer.{Outcome, refused, carried, found, letIn, argumentVerdict, argumentForm, activates, deactivates, inScope, tells, reads, sets, changes, does, outcome, conclude, shows, judging, checks}
+use Rattle.plain.specs.Answer.{Outcome, refused, carried, found, letIn, argumentVerdict, argumentForm, judgedAt, storedAt, activates, deactivates, inScope, tells, reads, sets, changes, does, outcome, conclude, shows, judging, checks}
 
 -- ## What an outcome leaves and sends
 
@@ -46,11 +46,11 @@ concluded w n c now p (carried m ss rs r) = refl
 
 -- ## Kinds of outcome
 
--- a change that is let in, or a check: of parameter k, to the text v
-pub record LetIn (w : Table) (k : ℕ × Placed Parameter) (v : List ℕ) : Type 0 where
+-- a change that is let in, or a check: of parameter k, to the text v, where these values are held
+pub record LetIn (w : Table) (values : ℕ → Value) (k : ℕ × Placed Parameter) (v : List ℕ) : Type 0 where
   pub there : getElem? (parameters w) (k .0) ≡ some (k .1)
   pub writable : k .1 .it .readonly ≡ false
-  pub fitting : verdict (k .1 .it .datainfo) v ≡ fits
+  pub fitting : judgedAt values k v ≡ fits
 
 -- requests of client c that are answered by a reply alone, with the reply, at a node
 pub data Tells (w : Table) (n : Node) (c now : ℕ) : Request → Reply → Type 0 where
@@ -59,8 +59,8 @@ pub data Tells (w : Table) (n : Node) (c now : ℕ) : Request → Reply → Type
   by-ping : {token : List ℕ} → Tells w n c now (ping token) (pong token now)
   by-read : (k : ℕ × Placed Parameter) → getElem? (parameters w) (k .0) ≡ some (k .1) → (v : List ℕ) (t : ℕ) → n .values (k .0) ≡ showing v t
       → Tells w n c now (read (k .1 .moduleName) (k .1 .it .name)) (reply (reportOf (k .1) (showing v t)))
-  by-check : (k : ℕ × Placed Parameter) (v : List ℕ) → LetIn w k v → isSome (w .edition) ≡ true
-      → Tells w n c now (check (k .1 .moduleName) (k .1 .it .name) v) (checked (reportOf (k .1) (showing (storedForm (k .1 .it .datainfo) v) now)))
+  by-check : (k : ℕ × Placed Parameter) (v : List ℕ) → LetIn w (n .values) k v → isSome (w .edition) ≡ true
+      → Tells w n c now (check (k .1 .moduleName) (k .1 .it .name) v) (checked (reportOf (k .1) (showing (storedAt (n .values) k v) now)))
   by-count : Tells w n c now count (counted (n .counts c) (activeCount w (n .clients c)) now)
 
 -- two nodes tell client c the same of itself
@@ -95,8 +95,8 @@ pub record Kinds (w : Table) (m n : Node) (c now : ℕ) (Q : Request → Outcome
       → Q (activate s) (activates w m c now wanted s) (activates w n c now wanted s)
   pub deactivating : (s : Option (List ℕ)) (wanted : ℕ → Bool) → Scope w s wanted
       → Q (deactivate s) (deactivates w m c now wanted s) (deactivates w n c now wanted s)
-  pub setting : (k : ℕ × Placed Parameter) (v : List ℕ) → LetIn w k v
-      → Q (change (k .1 .moduleName) (k .1 .it .name) v) (sets w m c now k (storedForm (k .1 .it .datainfo) v)) (sets w n c now k (storedForm (k .1 .it .datainfo) v))
+  pub setting : (k : ℕ × Placed Parameter) (v : List ℕ) → LetIn w (n .values) k v
+      → Q (change (k .1 .moduleName) (k .1 .it .name) v) (sets w m c now k (storedAt (n .values) k v)) (sets w n c now k (storedAt (n .values) k v))
   pub doing : (k : ℕ × Placed Command) (v : List ℕ) → Allowed w k v
       → Q (execute (k .1 .moduleName) (k .1 .it .name) v) (ordering m c now k v) (ordering n c now k v)
 
@@ -159,12 +159,14 @@ module _ (w : Table) (m n : Node) (same : m .values ≡ n .values) (c now : ℕ)
   -- what is let in, by what f and g make of its stored form
   judged-hold : (f g : ℕ × Placed Parameter → List ℕ → Outcome) (q : Request) (v : List ℕ) (k : ℕ × Placed Parameter)
       → getElem? (parameters w) (k .0) ≡ some (k .1)
-      → (LetIn w k v → Q q (f k (storedForm (k .1 .it .datainfo) v)) (g k (storedForm (k .1 .it .datainfo) v)))
+      → (LetIn w (n .values) k v → Q q (f k (storedAt (n .values) k v)) (g k (storedAt (n .values) k v)))
       → Q q (judging w m c now f v k) (judging w n c now g v k)
   unfolding judging
   judged-hold f g q v k t i =
-      writable-hold q (k .1 .it .readonly) _ _ (λ o.
-      let-in-hold q (verdict (k .1 .it .datainfo) v) _ _ (λ e. i (record { there = t; writable = o; fitting = e })))
+      subst (λ x. Q q (cond (k .1 .it .readonly) (refused (class ReadOnly)) (letIn (judgedAt x k v) (f k (storedAt x k v)))) (judging w n c now g v k))
+      (sym same)
+      (writable-hold q (k .1 .it .readonly) _ _ (λ o.
+      let-in-hold q (judgedAt (n .values) k v) _ _ (λ e. i (record { there = t; writable = o; fitting = e }))))
 
   change-hold : (v : List ℕ) (k : ℕ × Placed Parameter) → getElem? (parameters w) (k .0) ≡ some (k .1)
       → Q (change (k .1 .moduleName) (k .1 .it .name) v) (changes w m c now v k) (changes w n c now v k)

@@ -208,7 +208,8 @@ fn any_values_get_every_judgement() {
         match judge(&datainfo, &value) {
             Ok(stored) => {
                 if stored != without_spaces(&value) {
-                    assert!(has_enum(&datainfo), "{datainfo:?}");
+                    let ordered = matches!(datainfo, Datainfo::Partial { .. });
+                    assert!(ordered || has_enum(&datainfo), "{datainfo:?}");
                     exchanged += 1;
                 }
                 assert_eq!(judge(&datainfo, &stored), Ok(stored));

@@ -9,6 +9,7 @@ mod examples;
 mod generated;
 mod kept;
 mod lines;
+mod partial;
 mod program;
 mod replay;
 mod reports;
