@@ -10,6 +10,7 @@ pub mod histories;
 pub mod lines;
 pub mod names;
 mod parts;
+pub mod quieter;
 mod script;
 pub mod searches;
 pub mod second;

@@ -9,6 +9,7 @@ mod generated;
 mod kept;
 mod lines;
 mod program;
+mod quieter;
 mod reports;
 mod tables;
 mod values;
