@@ -4,9 +4,11 @@ use mathlib.Core.Bool.{Bool, true, false, not, _&&_, So, and-eq-true-iff}
 use mathlib.Core.List.{List, [], _∷_}
 use mathlib.Core.Path.{_≡_, refl, sym, _∙_, ap, ap₂}
 use Rattle.ascii.specs.Bytes.{all}
-use Rattle.plain.specs.History.{Mark, feeds, opens, closes, reads, fails, Item, byte, mark, itemOf, consIf, own, marks, standing}
+use Rattle.plain.specs.Node.{put}
+use Rattle.plain.specs.History.{Mark, feeds, opens, closes, reads, fails, Item, byte, mark, markOf, itemOf, consIf, own, marks, standing}
 use Rattle.second.proofs.Items.{due, inOrder}
-use Rattle.chatter.specs.Without.{Choice, oneMore, isEnded, without}
+use Rattle.chatter.specs.Without.{Choice, oneMore, isEnded, without, ordersLess}
+use Rattle.chatter.specs.Theorems.{Worked}
 
 -- What holds of no items, and with each item that is kept, and with each byte and line feed that is left out, holds of all the items and those
 -- that stay.
@@ -86,3 +88,9 @@ readable f p =
     without-holds f (Readable p) (λ s. s) (readable-kept p)
     (λ d b x y h. h)
     (λ d t x y h s. h (and-eq-true-iff (p (feeds d t)) (all p (marks x)) .0 s .1))
+
+-- ## Worked out
+
+pub worked : Worked
+unfolding without isEnded own itemOf markOf consIf put ordersLess
+worked = record { first = refl; second = refl; commands = refl }

@@ -1,17 +1,18 @@
 -- Request M-112, "Chatter doesn't reach me", of the plain node. What stands in quotation marks is the request's own. Assumes nothing.
 use Prim.Native.Nat.{ℕ}
-use mathlib.Core.Bool.{false}
-use mathlib.Core.List.{List}
+use mathlib.Core.Bool.{false, _&&_}
+use mathlib.Core.List.{List, [], _∷_}
 use mathlib.Core.Logic.{_↔_}
 use mathlib.Core.Option.{some}
 use mathlib.Core.Path.{_≡_}
+use lib.Dec.{eqb}
 use lib.ListN.{getElem?}
 use Rattle.table.specs.Layout.{tableOf}
-use Rattle.message.specs.Reply.{Report, changed}
-use Rattle.outbox.specs.Outbox.{Record}
+use Rattle.message.specs.Reply.{Report, identification, changed}
+use Rattle.outbox.specs.Outbox.{Record, final, orderChange, orderCommand}
 use Rattle.plain.specs.Node.{Node, begin, isOpen, lineOf}
 use Rattle.plain.specs.Calls.{Call, startNumber}
-use Rattle.plain.specs.History.{answers, finish, sent, AllAccepted, taken, IsSecond}
+use Rattle.plain.specs.History.{answers, finish, sent, AllAccepted, byte, mark, feeds, opens, closes, taken, IsSecond}
 use Rattle.rule.specs.Records.{repliesFor}
 use Rattle.chatter.specs.Without.{Choice, without, lessLines, sentTo, orders, ordersLess}
 
@@ -42,6 +43,26 @@ abbrev pub ChatterDoesNotReach : Type 0
 ChatterDoesNotReach = (table : List ℕ) (area time : ℕ) → startNumber table area time ≡ 0 → (h k : List Call) (c : ℕ) (f : Choice)
     → let n = begin (tableOf table) time in
     MayGo c f (sent (answers table n h)) → IsSecond table n (lessLines table n f h) k → Unreached table n c f h k
+
+-- ## Worked out
+
+-- the first line of client 3, and the second
+abbrev pub firstOf3 : Choice
+firstOf3 d i = eqb d 3 && eqb i 0
+
+abbrev pub secondOf3 : Choice
+secondOf3 d i = eqb d 3 && eqb i 1
+
+-- Client 3's `pq` is mingled with client 2's `a`, and `r` is not ended; 3 closes and opens, and sends `s`. Then of two commands of client 3, the
+-- first before its first reply and the second after it, one is left out with its line.
+pub record Worked : Type 0 where
+  pub first : without firstOf3 (λ d. 0) (byte 3 112 ∷ byte 2 97 ∷ byte 3 113 ∷ mark (feeds 3 7) ∷ mark (feeds 2 8) ∷ byte 3 114 ∷ mark (closes 3 9) ∷ [])
+      ≡ byte 2 97 ∷ mark (feeds 2 8) ∷ byte 3 114 ∷ mark (closes 3 9) ∷ []
+  pub second : without secondOf3 (λ d. 0) (byte 3 112 ∷ mark (feeds 3 7) ∷ byte 3 114 ∷ mark (closes 3 8) ∷ mark (opens 3 9) ∷ byte 3 115 ∷ mark (feeds 3 9) ∷ [])
+      ≡ byte 3 112 ∷ mark (feeds 3 7) ∷ byte 3 114 ∷ mark (closes 3 8) ∷ mark (opens 3 9) ∷ []
+  pub commands : ordersLess secondOf3 (λ d. 0)
+      (orderCommand 3 0 [] ∷ final 3 identification ∷ final 2 identification ∷ orderCommand 3 1 [] ∷ orderChange 2 4 [] ∷ orderCommand 2 0 [] ∷ [])
+      ≡ orderCommand 3 0 [] ∷ orderChange 2 4 [] ∷ orderCommand 2 0 [] ∷ []
 
 -- ## The history without the chosen lines
 
