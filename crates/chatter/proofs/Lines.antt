@@ -9,14 +9,14 @@ use Rattle.table.specs.Table.{Parameter, Command, Table}
 use Rattle.table.specs.Search.{Placed, parameters}
 use Rattle.message.specs.Line.{Parts}
 use Rattle.message.specs.Request.{Request}
-use Rattle.message.specs.Reply.{Report, Reply, active, inactive, changed}
+use Rattle.message.specs.Reply.{valued, Report, Reply, active, inactive, changed}
 use Rattle.outbox.specs.Outbox.{Record, orderChange, orderCommand}
-use Rattle.plain.specs.Node.{Value, Node, withClient, showing, isActive, activated, reportOf, clientNumbers, updatesOf}
+use Rattle.plain.specs.Node.{Value, Node, withClient, Setting, settingValue, isActive, activated, reportOf, clientNumbers, updatesOf}
 use Rattle.plain.specs.Answer.{Outcome, carried, argumentForm, activates, deactivates, sets, outcome}
 use Rattle.plain.proofs.Outcomes.{nodeAfter, before, replyTo, ordering, outcomes-hold, outcome-holds}
 use Rattle.chatter.specs.Without.{Choice, sentTo, orders, ordersLess}
 use Rattle.chatter.proofs.Records.{Updates, updates-orders, updates-less, of-updates, to-orders, sent-to, sent-of}
-use Rattle.chatter.proofs.Near.{beside-activated-left, beside-activated, Near, near-value, near-by, near-left, Told}
+use Rattle.chatter.proofs.Near.{beside-activated-left, beside-activated, Near, near-settings, near-by, near-left, Told}
 
 -- what a line comes to at the nodes m and n
 pub record Same (c : ℕ) (f : Choice) (out : ℕ → Bool) (k : ℕ → ℕ) (p : Parts) (m n : Node) (o q : Outcome) : Type 0 where
@@ -55,12 +55,13 @@ module _ (c : ℕ) (f : Choice) (out : ℕ → Bool) (k : ℕ → ℕ) (w : Tabl
   agree-sets : (j : ℕ × Placed Parameter) (v : List ℕ) → Agree (sets w m d now j v) (sets w n d now j v)
   unfolding sets sentTo orders ordersLess
   agree-sets j v =
+      let s : Setting = record { parameter = j .0; held = valued v; time = now } in
       let i = j .1 .home in
-      let r = reportOf (j .1) (showing v now) in
+      let r = reportOf (j .1) (settingValue s) in
       record {
         told =
             record {
-              nodes = near-value c out m n (j .0) (showing v now) h;
+              nodes = near-settings c out m n (s ∷ []) h;
               sends = sent-to c (m .clients) (n .clients) (h .client) i r clientNumbers;
               ordered = ap (orderChange d (j .0) v ∷_) (to-orders f k (m .clients) (n .clients) i r clientNumbers);
             };

@@ -8,7 +8,7 @@ use borrow.Author.Tests.{eqb-true}
 use Rattle.message.specs.Line.{whole, with-byte}
 use Rattle.message.specs.Reply.{Reply}
 use Rattle.outbox.specs.Outbox.{Record, final}
-use Rattle.plain.specs.Node.{Client, closed, connected, Value, Node, put, withClients, withClient, withValue, isOpen, lineOf, receive, emptied, activated}
+use Rattle.plain.specs.Node.{Client, closed, connected, Node, put, withClients, withClient, Setting, setValues, withSettings, isOpen, lineOf, receive, emptied, activated}
 use Rattle.plain.proofs.Put.{put-same}
 use Rattle.plain.proofs.Clients.{emptied-open, emptied-line, activated-open, activated-line}
 use Rattle.rule.proofs.Laws.{NoFinal}
@@ -76,8 +76,8 @@ near-out c o out m n s h =
       each = λ d. subst (λ q. Beside q (m .clients d) (n .clients d)) (s d) (h .each d);
     }
 
-pub near-value : (c : ℕ) (out : ℕ → Bool) (m n : Node) (p : ℕ) (v : Value) → Near c out m n → Near c out (withValue m p v) (withValue n p v)
-near-value c out m n p v h = record { values = ap (λ g. put g p v) (h .values); client = h .client; each = h .each }
+pub near-settings : (c : ℕ) (out : ℕ → Bool) (m n : Node) (ss : List Setting) → Near c out m n → Near c out (withSettings m ss) (withSettings n ss)
+near-settings c out m n ss h = record { values = ap (λ g. setValues g ss) (h .values); client = h .client; each = h .each }
 
 module _ (c : ℕ) (o out : ℕ → Bool) (m n : Node) (d : ℕ) (h : Near c o m n) (s : (e : ℕ) → eqb e d ≡ false → o e ≡ out e) where
   -- client d alters, at both

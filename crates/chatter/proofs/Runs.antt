@@ -16,7 +16,7 @@ use Rattle.message.specs.Line.{Line, Parts, whole, content, partsOf}
 use Rattle.message.specs.Request.{request}
 use Rattle.message.specs.Reply.{Held, valued, failed, Report, Reply, changed}
 use Rattle.outbox.specs.Outbox.{Record, final}
-use Rattle.plain.specs.Node.{Client, closed, Node, put, withClient, holding, fresh, lineOf, receive, emptied, reportOf, clientNumbers, updatesTo}
+use Rattle.plain.specs.Node.{Client, closed, Node, put, withClient, Setting, settingValue, fresh, lineOf, receive, emptied, reportOf, clientNumbers, updatesTo}
 use Rattle.plain.specs.Answer.{Outcome, outcome, answerParts, answer}
 use Rattle.plain.specs.Calls.{Effect, driverEffect, readingEffect, unreadableEffect}
 use Rattle.plain.specs.History.{Mark, feeds, opens, closes, reads, fails, Item, byte, mark, markOf, itemOf, consIf, own, after, runNode, runSent, joined}
@@ -27,7 +27,7 @@ use Rattle.rule.proofs.Calls.{quiet, idle}
 use Rattle.second.proofs.Runs.{outOf, run}
 use Rattle.chatter.specs.Without.{Choice, oneMore, isEnded, without, sentTo, orders, ordersLess}
 use Rattle.chatter.proofs.Records.{to-orders, sent-to}
-use Rattle.chatter.proofs.Near.{Beside, beside-emptied, beside-left, beside-byte, beside-byte-left, Near, near-out, near-value, near-put, near-by, near-left, Told, told-append, told-final, told-final-left}
+use Rattle.chatter.proofs.Near.{Beside, beside-emptied, beside-left, beside-byte, beside-byte-left, Near, near-out, near-settings, near-put, near-by, near-left, Told, told-append, told-final, told-final-left}
 use Rattle.chatter.proofs.Lines.{agree, aside}
 
 -- ## Replies that are still to come
@@ -148,9 +148,10 @@ module _ (w : Table) (c : ℕ) (f : Choice) (mine : (i : ℕ) → f c i ≡ fals
       → ClaimEffect k x (λ m. driverEffect m p y z t)
   unfolding driverEffect
   claim-driver p y z t k x claim m n h g =
-      let r = reportOf y (holding z t) in
+      let s : Setting = record { parameter = p; held = z; time = t } in
+      let r = reportOf y (settingValue s) in
       let q = updates-to-no-final (m .clients) (y .home) r clientNumbers in
-      let a = near-value c _ m n p (holding z t) h in
+      let a = near-settings c _ m n (s ∷ []) h in
       told-append c f (λ d. false) (going f k x) k _ _ _ _ q
       (record {
         nodes = a;

@@ -8,7 +8,7 @@ use mathlib.Core.Path.{_≡_}
 use lib.Dec.{eqb}
 use lib.ListN.{getElem?}
 use Rattle.table.specs.Layout.{tableOf}
-use Rattle.message.specs.Reply.{Report, identification, changed}
+use Rattle.message.specs.Reply.{Report, pong, changed}
 use Rattle.outbox.specs.Outbox.{Record, final, orderChange, orderCommand}
 use Rattle.plain.specs.Node.{Node, begin, isOpen, lineOf}
 use Rattle.plain.specs.Calls.{Call, startNumber}
@@ -58,10 +58,11 @@ secondOf3 d i = eqb d 3 && eqb i 1
 pub record Worked : Type 0 where
   pub first : without firstOf3 (λ d. 0) (byte 3 112 ∷ byte 2 97 ∷ byte 3 113 ∷ mark (feeds 3 7) ∷ mark (feeds 2 8) ∷ byte 3 114 ∷ mark (closes 3 9) ∷ [])
       ≡ byte 2 97 ∷ mark (feeds 2 8) ∷ byte 3 114 ∷ mark (closes 3 9) ∷ []
-  pub second : without secondOf3 (λ d. 0) (byte 3 112 ∷ mark (feeds 3 7) ∷ byte 3 114 ∷ mark (closes 3 8) ∷ mark (opens 3 9) ∷ byte 3 115 ∷ mark (feeds 3 9) ∷ [])
+  pub second : without secondOf3 (λ d. 0)
+      (byte 3 112 ∷ mark (feeds 3 7) ∷ byte 3 114 ∷ mark (closes 3 8) ∷ mark (opens 3 9) ∷ byte 3 115 ∷ mark (feeds 3 9) ∷ [])
       ≡ byte 3 112 ∷ mark (feeds 3 7) ∷ byte 3 114 ∷ mark (closes 3 8) ∷ mark (opens 3 9) ∷ []
   pub commands : ordersLess secondOf3 (λ d. 0)
-      (orderCommand 3 0 [] ∷ final 3 identification ∷ final 2 identification ∷ orderCommand 3 1 [] ∷ orderChange 2 4 [] ∷ orderCommand 2 0 [] ∷ [])
+      (orderCommand 3 0 [] ∷ final 3 (pong [] 0) ∷ final 2 (pong [] 0) ∷ orderCommand 3 1 [] ∷ orderChange 2 4 [] ∷ orderCommand 2 0 [] ∷ [])
       ≡ orderCommand 3 0 [] ∷ orderChange 2 4 [] ∷ orderCommand 2 0 [] ∷ []
 
 -- ## The history without the chosen lines
