@@ -2,8 +2,8 @@
 use Prim.Native.Nat.{ℕ, _≤_}
 use mathlib.Core.Path.{_≡_, refl, sym, subst, _∙_}
 use mathlib.Core.Bool.{true, false}
-use mathlib.Core.List.{List, _∷_}
-use lib.ListN.{drop}
+use mathlib.Core.List.{List, _∷_, _++_}
+use lib.ListN.{length, drop}
 use Rattle.ascii.specs.Numbers.{latest}
 use Rattle.datainfo.specs.Layout.{datainfoAt}
 use Rattle.fit.specs.Fit.{isFit, severity, storedForm}
@@ -21,18 +21,20 @@ use Rattle.message.specs.declared.say.Class.{Class}
 use Rattle.outbox.specs.Outbox.{orderChange}
 use Rattle.plain.specs.Node.{clientNumbers, updatesTo}
 use Rattle.plain.specs.Answer as Plain
-use Rattle.plain.specs.Answer.{refused, letIn, sets, changes}
+use Rattle.plain.specs.Answer.{refused, letIn, busy, sets, changes}
 use Rattle.state.specs.declared.State.{State}
 use Rattle.state.specs.View.{clientAt, view}
 use Rattle.outcome.specs.Ready.{Ready}
-use Rattle.outcome.specs.Outcome.{Refuses, OutcomeIs, OfParameter}
+use Rattle.outcome.specs.Outcome.{Refuses, Stores, OutcomeIs, OfParameter}
 use Rattle.outcome.specs.declared.Outcome.{Outcome}
 use Rattle.outcome.specs.declared.Outcome.the-variants.{Refused}
-use Rattle.access.specs.Set.{setRecords, Settable, Accepts, IsSetBy}
+use Rattle.access.specs.Busy.{statusUpdates}
+use Rattle.access.specs.Set.{setRecords, Settable, Accepts, IsSet, IsSetBy}
 use Rattle.access.specs.Judged.{Lets, JudgesChange}
 use Rattle.access.specs.declared.judge.Judged.{Judged}
 use Rattle.access.specs.declared.judge.Judged.the-variants as J
 use Rattle.access.proofs.Finding.{ParameterKnown, parameter-known, the-parameter}
+use Rattle.access.proofs.Statuses.{settings-stand, updates-stand, status-holds, area-stands}
 
 module _ (s : List ℕ) (st : State) (values out : List ℕ) (c t : ℕ) (g : Ready s st values out c) (m a xs : List ℕ)
     (k h : ℕ) (q : ParameterAt) (f : ParameterFound s m a k h q) (v : Judged) (j : JudgesChange (datainfoAt (drop (q .info) s)) (q .readonly) xs v) where
@@ -77,6 +79,7 @@ module _ (s : List ℕ) (st : State) (values out : List ℕ) (c t : ℕ) (g : Re
         room = g .lent .room;
       },
       record {
+        accepted = g .lent .accepted;
         fitting =
             record {
               reads = record { within = p .within; datainfo = p .it .it .datainfo; left = p .left; is = p .info };
@@ -86,26 +89,37 @@ module _ (s : List ℕ) (st : State) (values out : List ℕ) (c t : ℕ) (g : Re
       },
     )
 
-    pub change-set : (o : Outcome) (stored-values after : List ℕ)
-        → IsSetBy (datainfoAt (drop (q .info) s)) (st .clients) c k h m a xs t values out o stored-values after
-        → OfParameter s st values out c t o stored-values after m a (λ w n c t. changes w n c t xs)
+    abbrev value : List ℕ
+    value = storedForm (p .it .it .datainfo) xs
+
+    was-set : (stored-values after : List ℕ) (o : Outcome) → (i : IsSet s (p .it .it .datainfo) (st .clients) c k h m a xs t values out o stored-values after)
+        → Stores (tableOf s) (view s st values) c t out after values stored-values (change (k, p .it)) (i .first) k (length value) (i .written)
     unfolding sets setRecords view
+    was-set stored-values after o i =
+        let set = settings-stand s m a (g .lent .accepted) (i .first) (i .finds) (p .it) (p .moduleNamed) (p .named) t in
+        let told = updates-stand s m a (g .lent .accepted) (i .first) (i .finds) (p .it) (p .moduleNamed) (p .named) (st .clients) t in
+        record {
+          text = value;
+          status = status-holds s m a (g .lent .accepted) (i .first) (i .finds) (p .it) (p .moduleNamed) (p .named);
+          holds = record { parameter = p .it; there = p .there; fits = stored (p .it .it .datainfo) xs (p .inTable) fits-it };
+          long = refl;
+          carries =
+              record {
+                records =
+                    orderChange c k value
+                    ∷ (statusUpdates (st .clients) (i .first) m busy t ++ updatesTo (clientAt (st .clients)) h (reportOf m a (valued value) t) clientNumbers);
+                reply = changed (reportOf m a (valued value) t);
+                is = is-set ∙ rw (set, told, p .home, p .moduleNamed, p .named);
+                puts = i .puts;
+              };
+          area = i .area ∙ area-stands values (i .first) k value t;
+        }
+
+    pub change-set : (o : Outcome) (stored-values after : List ℕ)
+        → IsSetBy s (datainfoAt (drop (q .info) s)) (st .clients) c k h m a xs t values out o stored-values after
+        → OfParameter s st values out c t o stored-values after m a (λ w n c t. changes w n c t xs)
     change-set o stored-values after by =
         let i = by .is (p .info) in
         the-parameter p (λ x. OutcomeIs (tableOf s) (view s st values) c t out after values stored-values o (change x))
         (subst (λ (r : Outcome). OutcomeIs (tableOf s) (view s st values) c t out after values stored-values r (change (k, p .it))) (sym (i .is))
-        (record {
-          text = storedForm (p .it .it .datainfo) xs;
-          parameter = p .it;
-          there = p .there;
-          fits = stored (p .it .it .datainfo) xs (p .inTable) fits-it;
-          long = refl;
-          carries =
-              record {
-                records = orderChange c k (storedForm (p .it .it .datainfo) xs) ∷ updatesTo (clientAt (st .clients)) h (reportOf m a (valued (storedForm (p .it .it .datainfo) xs)) t) clientNumbers;
-                reply = changed (reportOf m a (valued (storedForm (p .it .it .datainfo) xs)) t);
-                is = is-set ∙ rw (p .home, p .moduleNamed, p .named);
-                puts = i .puts;
-              };
-          area = i .area;
-        }))
+        (was-set stored-values after o i))

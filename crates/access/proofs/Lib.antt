@@ -4,6 +4,7 @@ pub mod Orders
 pub mod Finding
 pub mod Executed
 pub mod Showing
+pub mod Statuses
 pub mod Sets
 pub mod Changed
 pub mod Judging

@@ -1,3 +1,4 @@
 pub mod Argument
+pub mod Busy
 pub mod Set
 pub mod Judged

@@ -1,4 +1,5 @@
 // `read`, `change` and `do`: what is asked of one accessible of a module.
+mod busy;
 mod command;
 mod judge;
 mod setting;

@@ -58,11 +58,10 @@ demo = oneModule reported
 unfoldable pub noted : List ℕ
 noted = oneModule (bytes "NO" ++ counted "mind the gap" ++ reported)
 
--- the table of the outbox example: target is parameter 1
-unfoldable pub stage : List ℕ
-stage =
-    oneModule
-    (bytes "PA"
+-- the parameters of the outbox example: target is parameter 1
+unfoldable pub valueAndTarget : List ℕ
+valueAndTarget =
+    bytes "PA"
     ++ counted "value"
     ++ counted "reading"
     ++ (1 ∷ [])
@@ -74,7 +73,23 @@ stage =
     ++ (0 ∷ [])
     ++ kelvin
     ++ initial "0"
-    ++ bytes "CM"
-    ++ counted "stop"
-    ++ counted "stop"
-    ++ (0 ∷ []))
+
+-- the table of the outbox example
+unfoldable pub stage : List ℕ
+stage = oneModule (valueAndTarget ++ bytes "CM" ++ counted "stop" ++ counted "stop" ++ (0 ∷ []))
+
+-- the same with a readonly status, parameter 2: an enum's number and a string of as many characters as is said
+unfoldable pub ramp : ℕ → List ℕ
+ramp most =
+    oneModule
+    (valueAndTarget
+    ++ bytes "PA"
+    ++ counted "status"
+    ++ counted "state"
+    ++ (1 ∷ 7 ∷ 2 ∷ 4 ∷ 2 ∷ [])
+    ++ counted "idle"
+    ++ (0 ∷ 0 ∷ 0 ∷ 100 ∷ [])
+    ++ counted "busy"
+    ++ (0 ∷ 0 ∷ 1 ∷ 44 ∷ [])
+    ++ (5 ∷ 0 ∷ 0 ∷ 0 ∷ most ∷ [])
+    ++ initial "[100,\"\"]")

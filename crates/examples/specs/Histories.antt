@@ -1132,6 +1132,149 @@ history-45 =
 unfoldable pub history-46 : History
 history-46 =
     record {
+      table = bytes "ND\u{1}s\0MO\u{2}t1\0PA\u{6}target\0\0\u{2}\0\0\0\0\0\0\0\0\0\0\0\0\0\0\0\t\0\u{1}0PA\u{6}status\0\u{1}\u{7}\u{2}\u{4}\u{2}\u{4}idle\0\0\0d\u{4}busy\0\0\u{1},\u{5}\0\0\0\u{e}\0\u{8}[100,\"\"]EN";
+      area = 16384;
+      time = 1000;
+      start = 0;
+      calls =
+          withArea (Open 1 2000) 16384
+          ∷ withArea (Open 4 3000) 16384
+          ∷ withOutbox (Piece 4 (bytes "activate t1\n") 4000) 16384 32768
+          ∷ withOutbox (Piece 1 (bytes "change t1:target 5\n") 5000) 16384 32768
+          ∷ withOutbox (Piece 1 (bytes "activate t1\n") 6000) 16384 32768
+          ∷ withOutbox (Piece 4 (bytes "change t1:target 5\n") 7000) 16384 32768
+          ∷ withOutbox (Piece 4 (bytes "change t1:target 10\n") 8000) 16384 32768
+          ∷ withOutbox (Reading 1 (bytes "[100,\"there\"]") 9000) 16384 32768
+          ∷ withOutbox (Reading 0 (bytes "5") 10000) 16384 32768
+          ∷ withOutbox (Piece 1 (bytes "read t1:status\n") 11000) 16384 32768
+          ∷ [];
+      due =
+          record { number = 0; used = 0; written = bytes "" }
+          ∷ record { number = 0; used = 0; written = bytes "" }
+          ∷ record { number = 0; used = 12; written = bytes "UP\u{4}\0!update t1:target [0,{\"t\":1.000}]\nUP\u{4}\0(update t1:status [[100,\"\"],{\"t\":1.000}]\nRP\u{4}\0\nactive t1\n" }
+          ∷ record { number = 0; used = 19; written = bytes "DR\u{1}\0\u{2}\05UP\u{4}\06update t1:status [[300,\"target changed\"],{\"t\":5.000}]\nUP\u{4}\0!update t1:target [5,{\"t\":5.000}]\nRP\u{1}\0\"changed t1:target [5,{\"t\":5.000}]\n" }
+          ∷ record { number = 0; used = 12; written = bytes "UP\u{1}\0!update t1:target [5,{\"t\":5.000}]\nUP\u{1}\06update t1:status [[300,\"target changed\"],{\"t\":5.000}]\nRP\u{1}\0\nactive t1\n" }
+          ∷ record { number = 0; used = 19; written = bytes "DR\u{4}\0\u{2}\05UP\u{1}\06update t1:status [[300,\"target changed\"],{\"t\":7.000}]\nUP\u{4}\06update t1:status [[300,\"target changed\"],{\"t\":7.000}]\nUP\u{1}\0!update t1:target [5,{\"t\":7.000}]\nUP\u{4}\0!update t1:target [5,{\"t\":7.000}]\nRP\u{4}\0\"changed t1:target [5,{\"t\":7.000}]\n" }
+          ∷ record { number = 0; used = 20; written = bytes "RP\u{4}\0Aerror_change t1:target [\"RangeError\",\"value is out of range\",{}]\n" }
+          ∷ record { number = 0; used = 0; written = bytes "UP\u{1}\0-update t1:status [[100,\"there\"],{\"t\":9.000}]\nUP\u{4}\0-update t1:status [[100,\"there\"],{\"t\":9.000}]\n" }
+          ∷ record { number = 0; used = 0; written = bytes "UP\u{1}\0\"update t1:target [5,{\"t\":10.000}]\nUP\u{4}\0\"update t1:target [5,{\"t\":10.000}]\n" }
+          ∷ record { number = 0; used = 15; written = bytes "RP\u{1}\0,reply t1:status [[100,\"there\"],{\"t\":9.000}]\n" }
+          ∷ [];
+    }
+
+unfoldable pub history-47 : History
+history-47 =
+    record {
+      table = bytes "ND\u{1}s\0MO\u{1}a\0PA\u{6}target\0\0\u{2}\0\0\0\0\0\0\0\0\0\0\0\0\0\0\0\t\0\u{1}0PA\u{6}status\0\u{1}\u{7}\u{2}\u{4}\u{2}\u{4}idle\0\0\0d\u{4}busy\0\0\u{1},\u{5}\0\0\0\r\0\u{8}[100,\"\"]MO\u{1}b\0PA\u{6}status\0\u{1}\u{7}\u{2}\u{4}\u{1}\u{4}idle\0\0\0d\u{5}\0\0\0\u{14}\0\u{8}[100,\"\"]PA\u{6}target\0\0\u{2}\0\0\0\0\0\0\0\0\0\0\0\0\0\0\0\t\0\u{1}0MO\u{1}c\0PA\u{6}target\0\0\u{2}\0\0\0\0\0\0\0\0\0\0\0\0\0\0\0\t\0\u{1}0PA\u{6}status\0\u{1}\u{8}\u{2}\u{4}code\u{4}\u{2}\u{4}idle\0\0\0d\u{4}busy\0\0\u{1},\u{4}text\u{5}\0\0\0\u{14}\0\u{16}{\"code\":100,\"text\":\"\"}EN";
+      area = 16384;
+      time = 1000;
+      start = 0;
+      calls =
+          withArea (Open 0 2000) 16384
+          ∷ withOutbox (Piece 0 (bytes "activate\n") 3000) 16384 32768
+          ∷ withOutbox (Piece 0 (bytes "change a:target 1\n") 4000) 16384 32768
+          ∷ withOutbox (Piece 0 (bytes "change b:target 1\n") 5000) 16384 32768
+          ∷ withOutbox (Piece 0 (bytes "change c:target 1\n") 6000) 16384 32768
+          ∷ withOutbox (Piece 0 (bytes "read a:status\n") 7000) 16384 32768
+          ∷ withOutbox (Piece 0 (bytes "read b:status\n") 8000) 16384 32768
+          ∷ withOutbox (Piece 0 (bytes "read c:status\n") 9000) 16384 32768
+          ∷ [];
+      due =
+          record { number = 0; used = 0; written = bytes "" }
+          ∷ record { number = 0; used = 9; written = bytes "UP\0\0 update a:target [0,{\"t\":1.000}]\nUP\0\0'update a:status [[100,\"\"],{\"t\":1.000}]\nUP\0\0'update b:status [[100,\"\"],{\"t\":1.000}]\nUP\0\0 update b:target [0,{\"t\":1.000}]\nUP\0\0 update c:target [0,{\"t\":1.000}]\nUP\0\05update c:status [{\"code\":100,\"text\":\"\"},{\"t\":1.000}]\nRP\0\0\u{7}active\n" }
+          ∷ record { number = 0; used = 18; written = bytes "DR\0\0\u{2}\01UP\0\0 update a:target [1,{\"t\":4.000}]\nRP\0\0!changed a:target [1,{\"t\":4.000}]\n" }
+          ∷ record { number = 0; used = 18; written = bytes "DR\0\0\u{2}\u{3}1UP\0\0 update b:target [1,{\"t\":5.000}]\nRP\0\0!changed b:target [1,{\"t\":5.000}]\n" }
+          ∷ record { number = 0; used = 18; written = bytes "DR\0\0\u{2}\u{4}1UP\0\0 update c:target [1,{\"t\":6.000}]\nRP\0\0!changed c:target [1,{\"t\":6.000}]\n" }
+          ∷ record { number = 0; used = 14; written = bytes "RP\0\0&reply a:status [[100,\"\"],{\"t\":1.000}]\n" }
+          ∷ record { number = 0; used = 14; written = bytes "RP\0\0&reply b:status [[100,\"\"],{\"t\":1.000}]\n" }
+          ∷ record { number = 0; used = 14; written = bytes "RP\0\04reply c:status [{\"code\":100,\"text\":\"\"},{\"t\":1.000}]\n" }
+          ∷ [];
+    }
+
+unfoldable pub history-48 : History
+history-48 =
+    record {
+      table = bytes "ND\u{1}s\0MO\u{1}a\0PA\u{6}target\0\0\u{2}\0\0\0\0\0\0\0\0\0\0\0\0\0\0\0\t\0\u{1}0PA\u{6}status\0\0\u{7}\u{2}\u{2}\0\0\0\0\0\0\u{1},\0\0\0\0\0\0\u{1},\u{5}\0\u{e}\0\u{e}\0\u{16}[300,\"aaaaaaaaaaaaaa\"]MO\u{1}b\0PA\u{6}target\0\0\u{2}\0\0\0\0\0\0\0\0\0\0\0\0\0\0\0\t\0\u{1}0PA\u{6}status\0\0\u{7}\u{2}\u{2}\0\0\0\0\0\0\0\0\0\0\0\0\0\0\u{1}+\u{5}\0\0\0\u{14}\0\u{6}[0,\"\"]MO\u{1}c\0PA\u{6}target\0\0\u{2}\0\0\0\0\0\0\0\0\0\0\0\0\0\0\0\t\0\u{1}0PA\u{6}status\0\0\u{7}\u{2}\u{4}\u{2}\u{4}idle\0\0\0d\u{4}busy\0\0\u{1},\u{4}\u{2}\u{6}target\0\0\0\u{1}\u{7}changed\0\0\0\u{2}\0\u{7}[100,1]EN";
+      area = 16384;
+      time = 1000;
+      start = 0;
+      calls =
+          withArea (Open 0 2000) 16384
+          ∷ withOutbox (Piece 0 (bytes "activate\n") 3000) 16384 32768
+          ∷ withOutbox (Piece 0 (bytes "change a:target 1\n") 4000) 16384 32768
+          ∷ withOutbox (Piece 0 (bytes "change b:target 1\n") 5000) 16384 32768
+          ∷ withOutbox (Piece 0 (bytes "change c:target 1\n") 6000) 16384 32768
+          ∷ withOutbox (Piece 0 (bytes "change a:status [300,\"bbbbbbbbbbbbbb\"]\n") 7000) 16384 32768
+          ∷ [];
+      due =
+          record { number = 0; used = 0; written = bytes "" }
+          ∷ record { number = 0; used = 9; written = bytes "UP\0\0 update a:target [0,{\"t\":1.000}]\nUP\0\05update a:status [[300,\"aaaaaaaaaaaaaa\"],{\"t\":1.000}]\nUP\0\0 update b:target [0,{\"t\":1.000}]\nUP\0\0%update b:status [[0,\"\"],{\"t\":1.000}]\nUP\0\0 update c:target [0,{\"t\":1.000}]\nUP\0\0&update c:status [[100,1],{\"t\":1.000}]\nRP\0\0\u{7}active\n" }
+          ∷ record { number = 0; used = 18; written = bytes "DR\0\0\u{2}\01UP\0\05update a:status [[300,\"target changed\"],{\"t\":4.000}]\nUP\0\0 update a:target [1,{\"t\":4.000}]\nRP\0\0!changed a:target [1,{\"t\":4.000}]\n" }
+          ∷ record { number = 0; used = 18; written = bytes "DR\0\0\u{2}\u{2}1UP\0\0 update b:target [1,{\"t\":5.000}]\nRP\0\0!changed b:target [1,{\"t\":5.000}]\n" }
+          ∷ record { number = 0; used = 18; written = bytes "DR\0\0\u{2}\u{4}1UP\0\0 update c:target [1,{\"t\":6.000}]\nRP\0\0!changed c:target [1,{\"t\":6.000}]\n" }
+          ∷ record { number = 0; used = 39; written = bytes "DR\0\0\u{17}\u{1}[300,\"bbbbbbbbbbbbbb\"]UP\0\05update a:status [[300,\"bbbbbbbbbbbbbb\"],{\"t\":7.000}]\nRP\0\06changed a:status [[300,\"bbbbbbbbbbbbbb\"],{\"t\":7.000}]\n" }
+          ∷ [];
+    }
+
+unfoldable pub history-49 : History
+history-49 =
+    record {
+      table = bytes "ND\u{1}s\0MO\u{1}a\0PA\u{6}Target\0\0\u{2}\0\0\0\0\0\0\0\0\0\0\0\0\0\0\0\t\0\u{1}0PA\u{6}status\0\0\u{7}\u{2}\u{4}\u{2}\u{4}idle\0\0\0d\u{4}busy\0\0\u{1},\u{5}\0\0\0\u{e}\0\u{8}[100,\"\"]MO\u{1}b\0PA\u{6}target\0\0\u{2}\0\0\0\0\0\0\0\0\0\0\0\0\0\0\0\t\0\u{1}0PA\u{6}Status\0\0\u{7}\u{2}\u{4}\u{2}\u{4}idle\0\0\0d\u{4}busy\0\0\u{1},\u{5}\0\0\0\u{e}\0\u{8}[100,\"\"]MO\u{1}c\0PA\u{6}target\0\0\u{2}\0\0\0\0\0\0\0\0\0\0\0\0\0\0\0\t\0\u{1}0CM\u{6}status\0\0MO\u{1}d\0PA\u{6}target\0\0\u{2}\0\0\0\0\0\0\0\0\0\0\0\0\0\0\0\t\0\u{1}0EN";
+      area = 16384;
+      time = 1000;
+      start = 0;
+      calls =
+          withArea (Open 0 2000) 16384
+          ∷ withOutbox (Piece 0 (bytes "activate\n") 3000) 16384 32768
+          ∷ withOutbox (Piece 0 (bytes "change a:Target 1\n") 4000) 16384 32768
+          ∷ withOutbox (Piece 0 (bytes "change b:target 1\n") 5000) 16384 32768
+          ∷ withOutbox (Piece 0 (bytes "change c:target 1\n") 6000) 16384 32768
+          ∷ withOutbox (Piece 0 (bytes "change d:target 1\n") 7000) 16384 32768
+          ∷ withOutbox (Piece 0 (bytes "change a:status [\"busy\",\"\"]\n") 8000) 16384 32768
+          ∷ [];
+      due =
+          record { number = 0; used = 0; written = bytes "" }
+          ∷ record { number = 0; used = 9; written = bytes "UP\0\0 update a:Target [0,{\"t\":1.000}]\nUP\0\0'update a:status [[100,\"\"],{\"t\":1.000}]\nUP\0\0 update b:target [0,{\"t\":1.000}]\nUP\0\0'update b:Status [[100,\"\"],{\"t\":1.000}]\nUP\0\0 update c:target [0,{\"t\":1.000}]\nUP\0\0 update d:target [0,{\"t\":1.000}]\nRP\0\0\u{7}active\n" }
+          ∷ record { number = 0; used = 18; written = bytes "DR\0\0\u{2}\01UP\0\0 update a:Target [1,{\"t\":4.000}]\nRP\0\0!changed a:Target [1,{\"t\":4.000}]\n" }
+          ∷ record { number = 0; used = 18; written = bytes "DR\0\0\u{2}\u{2}1UP\0\0 update b:target [1,{\"t\":5.000}]\nRP\0\0!changed b:target [1,{\"t\":5.000}]\n" }
+          ∷ record { number = 0; used = 18; written = bytes "DR\0\0\u{2}\u{4}1UP\0\0 update c:target [1,{\"t\":6.000}]\nRP\0\0!changed c:target [1,{\"t\":6.000}]\n" }
+          ∷ record { number = 0; used = 18; written = bytes "DR\0\0\u{2}\u{5}1UP\0\0 update d:target [1,{\"t\":7.000}]\nRP\0\0!changed d:target [1,{\"t\":7.000}]\n" }
+          ∷ record { number = 0; used = 28; written = bytes "DR\0\0\t\u{1}[300,\"\"]UP\0\0'update a:status [[300,\"\"],{\"t\":8.000}]\nRP\0\0(changed a:status [[300,\"\"],{\"t\":8.000}]\n" }
+          ∷ [];
+    }
+
+unfoldable pub history-50 : History
+history-50 =
+    record {
+      table = bytes "ND\u{1}s\0MO\u{1}a\0PA\u{6}target\0\0\u{2}\0\0\0\0\0\0\0\0\0\0\0\0\0\0\0\t\0\u{1}0PA\u{6}status\0\u{1}\u{7}\u{2}\u{4}\u{2}\u{4}idle\0\0\0d\u{4}busy\0\0\u{1},\u{5}\0\0\0\u{e}\0\u{8}[100,\"\"]MO\u{1}b\0PA\u{6}target\0\0\u{2}\0\0\0\0\0\0\0\0\0\0\0\0\0\0\0\t\0\u{1}0PA\u{6}status\0\u{1}\u{7}\u{2}\u{4}\u{2}\u{4}idle\0\0\0d\u{4}busy\0\0\u{1},\u{5}\0\0\0\r\0\u{8}[100,\"\"]EN";
+      area = 16384;
+      time = 1000;
+      start = 0;
+      calls =
+          withArea (Open 0 2000) 16384
+          ∷ withOutbox (Piece 0 (bytes "activate\n") 3000) 16384 32768
+          ∷ withOutbox (Unreadable 1 1 4000) 16384 32768
+          ∷ withOutbox (Unreadable 3 2 5000) 16384 32768
+          ∷ withOutbox (Piece 0 (bytes "change a:target 1\n") 6000) 16384 32768
+          ∷ withOutbox (Piece 0 (bytes "change b:target 1\n") 7000) 16384 32768
+          ∷ withOutbox (Piece 0 (bytes "read a:status\n") 8000) 16384 32768
+          ∷ withOutbox (Piece 0 (bytes "read b:status\n") 9000) 16384 32768
+          ∷ [];
+      due =
+          record { number = 0; used = 0; written = bytes "" }
+          ∷ record { number = 0; used = 9; written = bytes "UP\0\0 update a:target [0,{\"t\":1.000}]\nUP\0\0'update a:status [[100,\"\"],{\"t\":1.000}]\nUP\0\0 update b:target [0,{\"t\":1.000}]\nUP\0\0'update b:status [[100,\"\"],{\"t\":1.000}]\nRP\0\0\u{7}active\n" }
+          ∷ record { number = 0; used = 0; written = bytes "UP\0\0Derror_update a:status [\"HardwareError\",\"HardwareError\",{\"t\":4.000}]\n" }
+          ∷ record { number = 0; used = 0; written = bytes "UP\0\0Perror_update b:status [\"CommunicationFailed\",\"CommunicationFailed\",{\"t\":5.000}]\n" }
+          ∷ record { number = 0; used = 18; written = bytes "DR\0\0\u{2}\01UP\0\05update a:status [[300,\"target changed\"],{\"t\":6.000}]\nUP\0\0 update a:target [1,{\"t\":6.000}]\nRP\0\0!changed a:target [1,{\"t\":6.000}]\n" }
+          ∷ record { number = 0; used = 18; written = bytes "DR\0\0\u{2}\u{2}1UP\0\0 update b:target [1,{\"t\":7.000}]\nRP\0\0!changed b:target [1,{\"t\":7.000}]\n" }
+          ∷ record { number = 0; used = 14; written = bytes "RP\0\04reply a:status [[300,\"target changed\"],{\"t\":6.000}]\n" }
+          ∷ record { number = 0; used = 14; written = bytes "RP\0\0Nerror_read b:status [\"CommunicationFailed\",\"CommunicationFailed\",{\"t\":5.000}]\n" }
+          ∷ [];
+    }
+
+unfoldable pub history-51 : History
+history-51 =
+    record {
       table = bytes "ND\u{1}s\0MO\u{2}t1\0PA\u{1}p\0\0\u{2}\0\0\0\0\0\0\0\0\0\0\0\0\0\0\0\t\0\u{1}3EN";
       area = 16384;
       time = 1000;
@@ -1158,8 +1301,8 @@ history-46 =
           ∷ [];
     }
 
-unfoldable pub history-47 : History
-history-47 =
+unfoldable pub history-52 : History
+history-52 =
     record {
       table = bytes "ND\u{1}s\0MO\u{2}t1\0PA\u{1}p\0\0\u{2}\0\0\0\0\0\0\0\0\0\0\0\0\0\0\0\t\0\u{1}3EN";
       area = 16384;
@@ -1177,8 +1320,8 @@ history-47 =
           ∷ [];
     }
 
-unfoldable pub history-48 : History
-history-48 =
+unfoldable pub history-53 : History
+history-53 =
     record {
       table = bytes "ND\u{1}s\0MO\u{2}t1\0PA\u{1}p\0\0\u{2}\0\0\0\0\0\0\0\0\0\0\0\0\0\0\0\t\0\u{1}3EN";
       area = 16383;
@@ -1196,8 +1339,8 @@ history-48 =
           ∷ [];
     }
 
-unfoldable pub history-49 : History
-history-49 =
+unfoldable pub history-54 : History
+history-54 =
     record {
       table = bytes "ND\u{1}s\0MO\u{2}t1\0EN";
       area = 16384;
@@ -1219,8 +1362,8 @@ history-49 =
           ∷ [];
     }
 
-unfoldable pub history-50 : History
-history-50 =
+unfoldable pub history-55 : History
+history-55 =
     record {
       table = bytes "ND\u{1}s\0MO\u{2}t1\0EN";
       area = 16384;
@@ -1242,8 +1385,8 @@ history-50 =
           ∷ [];
     }
 
-unfoldable pub history-51 : History
-history-51 =
+unfoldable pub history-56 : History
+history-56 =
     record {
       table = bytes "ND\u{1}s\0MO\u{2}t1\0PA\u{1}p\0\0\u{2}\0\0\0\0\0\0\0\0\0\0\0\0\0\0\0\t\0\u{1}3EN";
       area = 16384;
@@ -1269,8 +1412,8 @@ history-51 =
           ∷ [];
     }
 
-unfoldable pub history-52 : History
-history-52 =
+unfoldable pub history-57 : History
+history-57 =
     record {
       table = bytes "ND\u{1}s\0MO\u{2}t1\0NO\u{c}mind the gapPA\u{1}p\0\0\u{2}\0\0\0\0\0\0\0\0\0\0\0\0\0\0\0\t\0\u{1}3MO\u{2}mf\0NO\0EN";
       area = 16384;
@@ -1290,8 +1433,8 @@ history-52 =
           ∷ [];
     }
 
-unfoldable pub history-53 : History
-history-53 =
+unfoldable pub history-58 : History
+history-58 =
     record {
       table = bytes "ND\u{1}s\0MO\u{2}t1\0ENEN";
       area = 16384;
@@ -1305,8 +1448,8 @@ history-53 =
           ∷ [];
     }
 
-unfoldable pub history-54 : History
-history-54 =
+unfoldable pub history-59 : History
+history-59 =
     record {
       table = bytes "ND\u{1}s\0EN";
       area = 16384;
@@ -1320,8 +1463,8 @@ history-54 =
           ∷ [];
     }
 
-unfoldable pub history-55 : History
-history-55 =
+unfoldable pub history-60 : History
+history-60 =
     record {
       table = bytes "ND\u{1}s\0MO\u{2}9x\0EN";
       area = 16384;
@@ -1335,8 +1478,8 @@ history-55 =
           ∷ [];
     }
 
-unfoldable pub history-56 : History
-history-56 =
+unfoldable pub history-61 : History
+history-61 =
     record {
       table = bytes "ND\u{1}s\0MO\u{2}t1\0CM\u{1}c\0\u{1}\u{2}\0\0\0\0\0\0\0\u{1}\0\0\0\0\0\0\0\0EN";
       area = 16384;
@@ -1350,85 +1493,10 @@ history-56 =
           ∷ [];
     }
 
-unfoldable pub history-57 : History
-history-57 =
-    record {
-      table = bytes "ND\u{1}s\0MO\u{2}t1\0CM\u{1}c\0\u{1}\t\0\0\0\0\0\0\0\0\0\0\0\0\0\0\0\0\0\0\0\0\0\0\0\0\u{1}EN";
-      area = 16384;
-      time = 1000;
-      start = 4;
-      calls =
-          withArea (Open 0 2000) 16384
-          ∷ [];
-      due =
-          record { number = 4; used = 0; written = bytes "" }
-          ∷ [];
-    }
-
-unfoldable pub history-58 : History
-history-58 =
-    record {
-      table = bytes "ND\u{1}s\0MO\u{2}t1\0PA\u{1}p\0\0\u{2}\0\0\0\0\0\0\0\0\0\0\0\0\0\0\0\t\0\u{2}3 EN";
-      area = 16384;
-      time = 1000;
-      start = 5;
-      calls =
-          withArea (Open 0 2000) 16384
-          ∷ [];
-      due =
-          record { number = 5; used = 0; written = bytes "" }
-          ∷ [];
-    }
-
-unfoldable pub history-59 : History
-history-59 =
-    record {
-      table = bytes "ND\u{1}s\0MO\u{2}9x\0CM\u{1}c\0\u{2}EN";
-      area = 16384;
-      time = 1000;
-      start = 1;
-      calls =
-          withArea (Open 0 2000) 16384
-          ∷ [];
-      due =
-          record { number = 1; used = 0; written = bytes "" }
-          ∷ [];
-    }
-
-unfoldable pub history-60 : History
-history-60 =
-    record {
-      table = bytes "ND\u{1}s\u{1}\"EN";
-      area = 16384;
-      time = 1000;
-      start = 2;
-      calls =
-          withArea (Open 0 2000) 16384
-          ∷ [];
-      due =
-          record { number = 2; used = 0; written = bytes "" }
-          ∷ [];
-    }
-
-unfoldable pub history-61 : History
-history-61 =
-    record {
-      table = bytes "ND\u{1}s\0MO\u{2}t1\0CM\u{1}c\0\u{1}\u{4}\u{2}\u{1}a\0\0\0\0\u{1}A\0\0\0\0EN";
-      area = 16384;
-      time = 1000;
-      start = 3;
-      calls =
-          withArea (Open 0 2000) 16384
-          ∷ [];
-      due =
-          record { number = 3; used = 0; written = bytes "" }
-          ∷ [];
-    }
-
 unfoldable pub history-62 : History
 history-62 =
     record {
-      table = bytes "ND\u{1}s\0MO\u{2}t1\0PA\u{1}p\0\0\u{5}\0\u{1}\0\0\0\u{1}2EN";
+      table = bytes "ND\u{1}s\0MO\u{2}t1\0CM\u{1}c\0\u{1}\t\0\0\0\0\0\0\0\0\0\0\0\0\0\0\0\0\0\0\0\0\0\0\0\0\u{1}EN";
       area = 16384;
       time = 1000;
       start = 4;
@@ -1443,7 +1511,7 @@ history-62 =
 unfoldable pub history-63 : History
 history-63 =
     record {
-      table = bytes "ND\u{1}s\0MO\u{2}t1\0PA\u{1}m\0\0\u{4}\u{2}\u{3}off\0\0\0\0\u{2}on\0\0\u{3}è\0\u{4}\"on\"EN";
+      table = bytes "ND\u{1}s\0MO\u{2}t1\0PA\u{1}p\0\0\u{2}\0\0\0\0\0\0\0\0\0\0\0\0\0\0\0\t\0\u{2}3 EN";
       area = 16384;
       time = 1000;
       start = 5;
@@ -1458,6 +1526,81 @@ history-63 =
 unfoldable pub history-64 : History
 history-64 =
     record {
+      table = bytes "ND\u{1}s\0MO\u{2}9x\0CM\u{1}c\0\u{2}EN";
+      area = 16384;
+      time = 1000;
+      start = 1;
+      calls =
+          withArea (Open 0 2000) 16384
+          ∷ [];
+      due =
+          record { number = 1; used = 0; written = bytes "" }
+          ∷ [];
+    }
+
+unfoldable pub history-65 : History
+history-65 =
+    record {
+      table = bytes "ND\u{1}s\u{1}\"EN";
+      area = 16384;
+      time = 1000;
+      start = 2;
+      calls =
+          withArea (Open 0 2000) 16384
+          ∷ [];
+      due =
+          record { number = 2; used = 0; written = bytes "" }
+          ∷ [];
+    }
+
+unfoldable pub history-66 : History
+history-66 =
+    record {
+      table = bytes "ND\u{1}s\0MO\u{2}t1\0CM\u{1}c\0\u{1}\u{4}\u{2}\u{1}a\0\0\0\0\u{1}A\0\0\0\0EN";
+      area = 16384;
+      time = 1000;
+      start = 3;
+      calls =
+          withArea (Open 0 2000) 16384
+          ∷ [];
+      due =
+          record { number = 3; used = 0; written = bytes "" }
+          ∷ [];
+    }
+
+unfoldable pub history-67 : History
+history-67 =
+    record {
+      table = bytes "ND\u{1}s\0MO\u{2}t1\0PA\u{1}p\0\0\u{5}\0\u{1}\0\0\0\u{1}2EN";
+      area = 16384;
+      time = 1000;
+      start = 4;
+      calls =
+          withArea (Open 0 2000) 16384
+          ∷ [];
+      due =
+          record { number = 4; used = 0; written = bytes "" }
+          ∷ [];
+    }
+
+unfoldable pub history-68 : History
+history-68 =
+    record {
+      table = bytes "ND\u{1}s\0MO\u{2}t1\0PA\u{1}m\0\0\u{4}\u{2}\u{3}off\0\0\0\0\u{2}on\0\0\u{3}è\0\u{4}\"on\"EN";
+      area = 16384;
+      time = 1000;
+      start = 5;
+      calls =
+          withArea (Open 0 2000) 16384
+          ∷ [];
+      due =
+          record { number = 5; used = 0; written = bytes "" }
+          ∷ [];
+    }
+
+unfoldable pub history-69 : History
+history-69 =
+    record {
       table = bytes "ND\u{1}s\0MO\u{2}t1\0PA\u{1}p\0\0\u{2}\0\0\0\0\0\0\0\0\0\0\0\0\0\0\0\t\0\u{2}3 EN";
       area = 16383;
       time = 1000;
@@ -1471,4 +1614,4 @@ history-64 =
     }
 
 unfoldable pub histories : List History
-histories = history-1 ∷ history-2 ∷ history-3 ∷ history-4 ∷ history-5 ∷ history-6 ∷ history-7 ∷ history-8 ∷ history-9 ∷ history-10 ∷ history-11 ∷ history-12 ∷ history-13 ∷ history-14 ∷ history-15 ∷ history-16 ∷ history-17 ∷ history-18 ∷ history-19 ∷ history-20 ∷ history-21 ∷ history-22 ∷ history-23 ∷ history-24 ∷ history-25 ∷ history-26 ∷ history-27 ∷ history-28 ∷ history-29 ∷ history-30 ∷ history-31 ∷ history-32 ∷ history-33 ∷ history-34 ∷ history-35 ∷ history-36 ∷ history-37 ∷ history-38 ∷ history-39 ∷ history-40 ∷ history-41 ∷ history-42 ∷ history-43 ∷ history-44 ∷ history-45 ∷ history-46 ∷ history-47 ∷ history-48 ∷ history-49 ∷ history-50 ∷ history-51 ∷ history-52 ∷ history-53 ∷ history-54 ∷ history-55 ∷ history-56 ∷ history-57 ∷ history-58 ∷ history-59 ∷ history-60 ∷ history-61 ∷ history-62 ∷ history-63 ∷ history-64 ∷ []
+histories = history-1 ∷ history-2 ∷ history-3 ∷ history-4 ∷ history-5 ∷ history-6 ∷ history-7 ∷ history-8 ∷ history-9 ∷ history-10 ∷ history-11 ∷ history-12 ∷ history-13 ∷ history-14 ∷ history-15 ∷ history-16 ∷ history-17 ∷ history-18 ∷ history-19 ∷ history-20 ∷ history-21 ∷ history-22 ∷ history-23 ∷ history-24 ∷ history-25 ∷ history-26 ∷ history-27 ∷ history-28 ∷ history-29 ∷ history-30 ∷ history-31 ∷ history-32 ∷ history-33 ∷ history-34 ∷ history-35 ∷ history-36 ∷ history-37 ∷ history-38 ∷ history-39 ∷ history-40 ∷ history-41 ∷ history-42 ∷ history-43 ∷ history-44 ∷ history-45 ∷ history-46 ∷ history-47 ∷ history-48 ∷ history-49 ∷ history-50 ∷ history-51 ∷ history-52 ∷ history-53 ∷ history-54 ∷ history-55 ∷ history-56 ∷ history-57 ∷ history-58 ∷ history-59 ∷ history-60 ∷ history-61 ∷ history-62 ∷ history-63 ∷ history-64 ∷ history-65 ∷ history-66 ∷ history-67 ∷ history-68 ∷ history-69 ∷ []

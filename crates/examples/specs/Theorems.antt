@@ -17,7 +17,7 @@ use Rattle.plain.specs.Node.{begin}
 use Rattle.plain.specs.Calls.{Open, Piece, Reading, Unreadable, Call, withArea, withOutbox}
 use Rattle.plain.specs.History.{answers, sent, sentBytes}
 use Rattle.rule.specs.Records.{repliesFor}
-use Rattle.examples.specs.Demo.{demo, noted, stage}
+use Rattle.examples.specs.Demo.{demo, noted, stage, ramp}
 use Rattle.examples.specs.Told.{AllAsDue}
 use Rattle.examples.specs.Histories.{histories}
 
@@ -87,7 +87,7 @@ NotedReport =
 
 -- the tables of the examples are accepted
 abbrev pub TablesAreGood : Type 0
-TablesAreGood = (tableNumber demo ≡ 0) × (tableNumber noted ≡ 0) × (tableNumber stage ≡ 0)
+TablesAreGood = (tableNumber demo ≡ 0) × (tableNumber noted ≡ 0) × (tableNumber stage ≡ 0) × (tableNumber (ramp 14) ≡ 0) × (tableNumber (ramp 13) ≡ 0)
 
 -- ## The outbox example: "client 2 sends `change t1:target 12` at 1500"
 
@@ -100,12 +100,12 @@ changing =
     ∷ withOutbox (Piece 2 (bytes "change t1:target 12\n") 1500) 16384 32768
     ∷ []
 
--- what the calls after the first four write
-unfoldable pub lastWritten : List Call → List ℕ
-lastWritten h = sentBytes (drop 4 (answers stage (begin (tableOf stage) 0) h))
+-- what the calls after the first four write, on a table
+unfoldable pub lastWritten : List ℕ → List Call → List ℕ
+lastWritten table h = sentBytes (drop 4 (answers table (begin (tableOf table) 0) h))
 
 abbrev pub OutboxExample : Type 0
-OutboxExample = lastWritten changing
+OutboxExample = lastWritten stage changing
     ≡ (0x44 ∷ 0x52 ∷ 0x02 ∷ 0x00 ∷ 0x03 ∷ 0x01 ∷ 0x31 ∷ 0x32 ∷ [])
     ++ (0x55 ∷ 0x50 ∷ 0x02 ∷ 0x00 ∷ 0x22 ∷ [])
     ++ bytes "update t1:target [12,{\"t\":1.500}]\n"
@@ -130,7 +130,7 @@ failing =
     ∷ []
 
 abbrev pub BrokenSensor : Type 0
-BrokenSensor = lastWritten failing
+BrokenSensor = lastWritten stage failing
     ≡ (0x55 ∷ 0x50 ∷ 0x05 ∷ 0x00 ∷ 0x44 ∷ [])
     ++ bytes "error_update t1:value [\"HardwareError\",\"HardwareError\",{\"t\":1.500}]\n"
     ++ (0x52 ∷ 0x50 ∷ 0x02 ∷ 0x00 ∷ 0x44 ∷ [])
@@ -139,6 +139,43 @@ BrokenSensor = lastWritten failing
     ++ bytes "update t1:value [12,{\"t\":2.500}]\n"
     ++ (0x52 ∷ 0x50 ∷ 0x02 ∷ 0x00 ∷ 0x20 ∷ [])
     ++ bytes "reply t1:value [12,{\"t\":2.500}]\n"
+
+-- ## Busy before changed (M-100): the outbox example where the module has a status, whose string may have 14 characters; and where it may have
+-- 13, "status stays as it is"
+
+unfoldable pub ramping : List Call
+ramping = changing ++ (withOutbox (Piece 5 (bytes "read t1:status\n") 2000) 16384 32768 ∷ [])
+
+abbrev pub Ramp : Type 0
+Ramp = lastWritten (ramp 14) ramping
+    ≡ (0x44 ∷ 0x52 ∷ 0x02 ∷ 0x00 ∷ 0x03 ∷ 0x01 ∷ 0x31 ∷ 0x32 ∷ [])
+    ++ (0x55 ∷ 0x50 ∷ 0x02 ∷ 0x00 ∷ 0x36 ∷ [])
+    ++ bytes "update t1:status [[300,\"target changed\"],{\"t\":1.500}]\n"
+    ++ (0x55 ∷ 0x50 ∷ 0x05 ∷ 0x00 ∷ 0x36 ∷ [])
+    ++ bytes "update t1:status [[300,\"target changed\"],{\"t\":1.500}]\n"
+    ++ (0x55 ∷ 0x50 ∷ 0x02 ∷ 0x00 ∷ 0x22 ∷ [])
+    ++ bytes "update t1:target [12,{\"t\":1.500}]\n"
+    ++ (0x55 ∷ 0x50 ∷ 0x05 ∷ 0x00 ∷ 0x22 ∷ [])
+    ++ bytes "update t1:target [12,{\"t\":1.500}]\n"
+    ++ (0x52 ∷ 0x50 ∷ 0x02 ∷ 0x00 ∷ 0x23 ∷ [])
+    ++ bytes "changed t1:target [12,{\"t\":1.500}]\n"
+    ++ (0x52 ∷ 0x50 ∷ 0x05 ∷ 0x00 ∷ 0x35 ∷ [])
+    ++ bytes "reply t1:status [[300,\"target changed\"],{\"t\":1.500}]\n"
+
+abbrev pub NoRamp : Type 0
+NoRamp = lastWritten (ramp 13) ramping
+    ≡ (0x44 ∷ 0x52 ∷ 0x02 ∷ 0x00 ∷ 0x03 ∷ 0x01 ∷ 0x31 ∷ 0x32 ∷ [])
+    ++ (0x55 ∷ 0x50 ∷ 0x02 ∷ 0x00 ∷ 0x22 ∷ [])
+    ++ bytes "update t1:target [12,{\"t\":1.500}]\n"
+    ++ (0x55 ∷ 0x50 ∷ 0x05 ∷ 0x00 ∷ 0x22 ∷ [])
+    ++ bytes "update t1:target [12,{\"t\":1.500}]\n"
+    ++ (0x52 ∷ 0x50 ∷ 0x02 ∷ 0x00 ∷ 0x23 ∷ [])
+    ++ bytes "changed t1:target [12,{\"t\":1.500}]\n"
+    ++ (0x52 ∷ 0x50 ∷ 0x05 ∷ 0x00 ∷ 0x27 ∷ [])
+    ++ bytes "reply t1:status [[100,\"\"],{\"t\":0.000}]\n"
+
+abbrev pub Ramps : Type 0
+Ramps = Ramp × NoRamp
 
 -- ## Exchanges of SECoP 1.0, with document 01's error texts and times
 

@@ -1,5 +1,6 @@
 ghost use mathlib.Core.Bool.{true};
 ghost use mathlib.Core.Path.{_≡_};
+ghost use Rattle.examples.specs.Theorems.{Ramps};
 ghost use Rattle.examples.specs.Theorems.{ExamplesAreRight, OutboxExample, BrokenSensor, WholeReport, NotedReport, TablesAreGood, FiveMilliseconds, ExchangesAreRight, HistoriesAreAsDue};
 
 // Each function here promises a theorem about the definitions. Nothing is run.
@@ -21,6 +22,13 @@ pub fn outbox_example() -> bool
 // A sensor breaks, its clients are told, and the next reading clears it.
 pub fn broken_sensor() -> bool
     ensures { λ r. ⌜ (r ≡ true) × BrokenSensor ⌝ }
+{
+    true
+}
+
+// Busy before changed, and a status that doesn't admit it, byte for byte.
+pub fn ramps() -> bool
+    ensures { λ r. ⌜ (r ≡ true) × Ramps ⌝ }
 {
     true
 }

@@ -2,4 +2,5 @@ pub mod Numbers
 pub mod Put
 pub mod Clients
 pub mod Outcomes
+pub mod Busy
 pub mod Notes

@@ -10,7 +10,8 @@ use Rattle.table.specs.Table.{Parameter, Module, Table}
 use Rattle.table.specs.Search.{Placed, findModule}
 use Rattle.message.specs.Reply.{Report, Reply, identification, describing, pong, active, inactive, reply, changed, done, error}
 use Rattle.outbox.specs.Outbox.{Record, final, update, orderChange, orderCommand}
-use Rattle.plain.specs.Node.{Value, reportOf}
+use Rattle.plain.specs.Node.{Client, Value, showing, isActive, reportOf}
+use Rattle.plain.specs.Answer.{busy}
 use Rattle.plain.specs.Calls.{Event, Open, Close, Piece, Reading, Unreadable, Answer}
 
 -- the updates to client d, in order
@@ -60,6 +61,11 @@ isThere w (some m) = isSome (findModule w m)
 unfoldable pub reportsOf : (ℕ → Bool) → (ℕ → Value) → ℕ → List (Placed Parameter) → List Report
 reportsOf wanted values k [] = []
 reportsOf wanted values k (p ∷ ps) = cond (wanted (p .home)) (reportOf p (values k) ∷ []) [] ++ reportsOf wanted values (suc k) ps
+
+-- what a client is sent of a status that is set to busy at a time (M-100): one update, if it has the status's module active
+unfoldable pub busyReports : Client → Option (ℕ × Placed Parameter) → ℕ → List Report
+busyReports x none t = []
+busyReports x (some s) t = cond (isActive x (s .1 .home)) (reportOf (s .1) (showing busy t) ∷ []) []
 
 -- whether module i is active after these replies, where it was so before or not: `active` adds, `inactive` takes away
 unfoldable pub activeBy : Table → ℕ → Bool → List Reply → Bool

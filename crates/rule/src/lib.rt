@@ -1,5 +1,6 @@
 ghost use mathlib.Core.Bool.{true};
 ghost use mathlib.Core.Path.{_≡_};
+ghost use Rattle.rule.specs.Theorems.{BusyBeforeChanged, OtherStatusStays};
 ghost use Rattle.rule.specs.Theorems.{UpdatesGoToActiveClients, ChangesAreSentToAll, GoodChangesAreMade, ReadingsAreSentToAll, UnreadablesAreSentToAll, ValuesAlterBySettings, SettingsAreAll, ActivationsSendAll, GoodActivationsAreMade, ActivationsAreOnesOwn, ParametersBelong, OneReplyForEachLine, PiecesAreUsed, ReadsAreTrue, GoodReadsAreAnswered, CommandsAreOrdered, GoodCommandsAreOrdered, ErrorsAlterNothing, RefusalsAlterNothing};
 
 // Each function here promises a theorem about the definitions. Nothing is run.
@@ -21,6 +22,21 @@ pub fn changes_are_sent_to_all() -> bool
 // A change of a parameter that is there and not readonly, by a value that fits, is made.
 pub fn good_changes_are_made() -> bool
     ensures { λ r. ⌜ (r ≡ true) × GoodChangesAreMade ⌝ }
+{
+    true
+}
+
+// Whoever has the module active has been sent the busy status before the requester is sent `changed`, where `target` was changed in a module whose
+// status admits it.
+pub fn busy_before_changed() -> bool
+    ensures { λ r. ⌜ (r ≡ true) × BusyBeforeChanged ⌝ }
+{
+    true
+}
+
+// A status whose datainfo doesn't admit busy stays as it is, and nothing is sent for it.
+pub fn other_status_stays() -> bool
+    ensures { λ r. ⌜ (r ≡ true) × OtherStatusStays ⌝ }
 {
     true
 }

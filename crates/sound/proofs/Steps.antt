@@ -3,7 +3,7 @@ use Prim.Native.Nat.{ℕ, zero, suc, _+_, _*_, _≤_}
 use mathlib.Core.Bool.{Bool, true, false, not}
 use mathlib.Core.List.{List, [], _∷_, _++_}
 use mathlib.Core.Option.{Option, none, some}
-use mathlib.Core.Path.{_≡_, refl, subst}
+use mathlib.Core.Path.{_≡_, refl, sym, subst}
 use native.Mathlib.Nat.{zero-add}
 use native.Mathlib.Omega.{arith}
 use lib.ListN.{length, getElem?}
@@ -26,11 +26,14 @@ use Rattle.table.specs.Search.{Placed, parameters, commands}
 use Rattle.report.specs.Report.{report}
 use Rattle.report.specs.Judge.{lowest}
 use Rattle.report.proofs.Faults.{no-fault, lowest-none}
+use Rattle.plain.specs.Node.{withValues, withSettings}
 use Rattle.plain.specs.Node.{closed, Value, Node, withClient, withValue, Setting, fresh, lineOf, receive, emptied, reportOf, clientNumbers, updatesTo, holding, showing}
+use Rattle.plain.specs.Answer.{busy, statusOf, busySettings, busyUpdates}
 use Rattle.plain.specs.Answer.{Outcome, refused, carried, argumentVerdict, argumentForm, activates, deactivates, sets, outcome, conclude, answerParts, answer}
 use Rattle.plain.specs.Calls.{Event, Open, Close, Piece, Reading, Unreadable, Call, readingVerdict, ownFaults, callNumber, beforeFeed, hasFeed, ended, Effect, pieceEffect, driverEffect, readingEffect, unreadableEffect, effect, settle, stepIf}
 use Rattle.plain.specs.History.{step}
 use Rattle.plain.proofs.Numbers.{accepted-call}
+use Rattle.plain.proofs.Busy.{status-is, busy-stored, set-more}
 use Rattle.plain.proofs.Outcomes.{Tells, by-identify, by-describe, by-ping, by-read, LetIn, Allowed, doneOf, ordering, outcome-holds}
 use Rattle.sound.specs.Theorems.{HeldFits, ValueHeld, Sound}
 use Rattle.sound.proofs.Lists.{each-at}
@@ -82,8 +85,12 @@ module _ (w : Table) (a : Accepted w) (n : Node) (s : Sound w n) where
     new-value : ValueHeld (p .it) new
     new-value = (f, h)
 
+    -- at this node or another
+    new-node-at : (m : Node) → Sound w m → Sound w (withValue m k new)
+    new-node-at m s = with-value w m k new (λ q j. let i : p ≡ q = cc in subst (λ q. ValueHeld (q .it) new) i new-value) s
+
     new-node : Sound w (withValue n k new)
-    new-node = with-value w n k new (λ q j. let i : p ≡ q = cc in subst (λ q. ValueHeld (q .it) new) i new-value) s
+    new-node = new-node-at n s
 
     new-updates : Written (updatesTo (n .clients) (p .home) (reportOf p new) clientNumbers) 3360
     new-updates = written-to (n .clients) (p .home) (reportOf p new) (fine k p e new new-value) clientNumbers
@@ -129,6 +136,16 @@ module _ (w : Table) (a : Accepted w) (n : Node) (s : Sound w n) where
     comes-tells : (q : Request) (r : Reply) → Tells w t (n .values) q r → Asked q → Comes w c (carried n [] [] r)
     comes-tells q r u i = only r 32013 (told-short q r u i) (omega arith)
 
+    -- what is set and sent of a status first
+    busied : (p : Placed Parameter) (o : Option (ℕ × Placed Parameter)) → statusOf w p ≡ o
+        → Sound w (withSettings n (busySettings o t)) × Written (busyUpdates (n .clients) o t) 3360
+    unfolding busySettings busyUpdates
+    busied p none e = (s, written-within 3360 (omega arith) written-none)
+    busied p (some x) e =
+        let i = status-is w p x e in
+        let f = busy-stored (x .1 .it .datainfo) (in-table (x .0) (x .1) (i .there) .names) (i .admits) in
+        (new-node (x .0) (x .1) (i .there) (valued busy) f t h, new-updates (x .0) (x .1) (i .there) (valued busy) f t h)
+
     comes-sets : (k : ℕ × Placed Parameter) (v : List ℕ) → LetIn w k v → Comes w c (sets w n c t k (storedForm (k .1 .it .datainfo) v))
     unfolding sets body
     comes-sets k v i =
@@ -137,12 +154,17 @@ module _ (w : Table) (a : Accepted w) (n : Node) (s : Sound w n) where
         let x : Held = valued (storedForm (k .1 .it .datainfo) v) in
         let i = stored (k .1 .it .datainfo) v (in-table (k .0) (k .1) e) f in
         let r = reportOf (k .1) (holding x t) in
+        let o = statusOf w (k .1) in
+        let b = busied (k .1) o refl in
         let order = orderChange c (k .0) (storedForm (k .1 .it .datainfo) v) in
+        let first = busyUpdates (n .clients) o t in
         let updates = updatesTo (n .clients) (k .1 .home) r clientNumbers in
         let told = written-one order 262 tt (omega (arith, stored-short (k .1 .it .datainfo) v f)) in
-        comes (withValue n (k .0) (holding x t)) (record { parameter = k .0; held = x; time = t } ∷ []) (order ∷ updates) (changed r) 3622 415
-        (new-node (k .0) (k .1) e x i t h)
-        (written-append (order ∷ []) updates 262 3360 told (new-updates (k .0) (k .1) e x i t h))
+        let set : List Setting = record { parameter = k .0; held = x; time = t } ∷ [] in
+        comes (withSettings n (busySettings o t ++ set)) (busySettings o t ++ set) (order ∷ (first ++ updates)) (changed r) 6982 415
+        (subst (λ f. Sound w (withValues n f)) (sym (set-more (n .values) (busySettings o t) set))
+        (new-node-at (k .0) (k .1) e x i t h (withSettings n (busySettings o t)) (b .0)))
+        (written-append (order ∷ []) (first ++ updates) 262 6720 told (written-append first updates 3360 3360 (b .1) (new-updates (k .0) (k .1) e x i t h)))
         (says-changed r (fine (k .0) (k .1) e (holding x t) (i, h)) tt)
         (omega arith)
 

@@ -62,6 +62,11 @@ fn over_good_tables() -> Vec<(&'static str, Script)> {
         ("a broken sensor", broken_sensor()),
         ("what ends an error", ended_errors()),
         ("refused reports of a broken sensor", refused_reports()),
+        ("busy before changed", busy_first()),
+        ("a status that does not admit busy", unadmitted()),
+        ("what nearly admits busy", nearly_admitted()),
+        ("no target and no status", other_names()),
+        ("errors of a status", broken_status()),
         ("the lowest of several numbers", lowest_numbers()),
         ("start too late", late_start()),
         ("start with a short values area", short_start()),
@@ -464,6 +469,158 @@ fn refused_reports() -> Script {
         .unreadable(0, 257)
         .at(MAX_TIME)
         .unreadable(0, 4)
+}
+
+fn pair(code: Datainfo, text: Datainfo) -> Datainfo {
+    Datainfo::Tuple(vec![code, text])
+}
+
+fn codes() -> Datainfo {
+    enumeration(&[("idle", 100), ("busy", 300)])
+}
+
+fn target() -> Accessible {
+    parameter("target", digit(), "0")
+}
+
+/// A status of an enum's number and so many characters.
+fn status(most: u16) -> Accessible {
+    readonly("status", pair(codes(), string(0, most)), r#"[100,""]"#)
+}
+
+/// Whoever has the module active is told of the status before the target, who
+/// is not gets the reply alone; also where the value is the same. A refused
+/// change and a reading set no status.
+fn busy_first() -> Script {
+    started(vec![target(), status(14)])
+        .open(1)
+        .open(4)
+        .line(4, "activate t1")
+        .line(1, "change t1:target 5")
+        .line(1, "activate t1")
+        .line(4, "change t1:target 5")
+        .line(4, "change t1:target 10")
+        .reading(1, r#"[100,"there"]"#)
+        .reading(0, "5")
+        .line(1, "read t1:status")
+}
+
+/// One character less, no 300, another shape: the status stays.
+fn unadmitted() -> Script {
+    let idle = enumeration(&[("idle", 100)]);
+    let apart = structure(&[("code", codes()), ("text", string(0, 20))]);
+    let modules = vec![
+        module("a", vec![target(), status(13)]),
+        module(
+            "b",
+            vec![
+                readonly("status", pair(idle, string(0, 20)), r#"[100,""]"#),
+                target(),
+            ],
+        ),
+        module(
+            "c",
+            vec![
+                target(),
+                readonly("status", apart, r#"{"code":100,"text":""}"#),
+            ],
+        ),
+    ];
+    Script::over(encode::table(&table(modules)))
+        .start()
+        .open(0)
+        .line(0, "activate")
+        .lines(&[
+            "change a:target 1",
+            "change b:target 1",
+            "change c:target 1",
+        ])
+        .lines(&["read a:status", "read b:status", "read c:status"])
+}
+
+/// The number alone, and not one of a member; a string, and no name of an enum.
+fn nearly_admitted() -> Script {
+    let code = |min, max| Datainfo::Int { min, max };
+    let names = enumeration(&[("target", 1), ("changed", 2)]);
+    let modules = vec![
+        module(
+            "a",
+            vec![
+                target(),
+                parameter(
+                    "status",
+                    pair(code(300, 300), string(14, 14)),
+                    r#"[300,"aaaaaaaaaaaaaa"]"#,
+                ),
+            ],
+        ),
+        module(
+            "b",
+            vec![
+                target(),
+                parameter("status", pair(code(0, 299), string(0, 20)), r#"[0,""]"#),
+            ],
+        ),
+        module(
+            "c",
+            vec![
+                target(),
+                parameter("status", pair(codes(), names), "[100,1]"),
+            ],
+        ),
+    ];
+    Script::over(encode::table(&table(modules)))
+        .start()
+        .open(0)
+        .line(0, "activate")
+        .lines(&[
+            "change a:target 1",
+            "change b:target 1",
+            "change c:target 1",
+        ])
+        .line(0, r#"change a:status [300,"bbbbbbbbbbbbbb"]"#)
+}
+
+/// Names are compared with their letters' case; a command is no status, and
+/// another module's is none.
+fn other_names() -> Script {
+    let status = |name| parameter(name, pair(codes(), string(0, 14)), r#"[100,""]"#);
+    let modules = vec![
+        module(
+            "a",
+            vec![parameter("Target", digit(), "0"), status("status")],
+        ),
+        module("b", vec![target(), status("Status")]),
+        module("c", vec![target(), command("status", None)]),
+        module("d", vec![target()]),
+    ];
+    Script::over(encode::table(&table(modules)))
+        .start()
+        .open(0)
+        .line(0, "activate")
+        .lines(&[
+            "change a:Target 1",
+            "change b:target 1",
+            "change c:target 1",
+            "change d:target 1",
+        ])
+        .line(0, r#"change a:status ["busy",""]"#)
+}
+
+/// Busy ends an error; where it is not admitted, the error stays.
+fn broken_status() -> Script {
+    let modules = vec![
+        module("a", vec![target(), status(14)]),
+        module("b", vec![target(), status(13)]),
+    ];
+    Script::over(encode::table(&table(modules)))
+        .start()
+        .open(0)
+        .line(0, "activate")
+        .unreadable(1, 1)
+        .unreadable(3, 2)
+        .lines(&["change a:target 1", "change b:target 1"])
+        .lines(&["read a:status", "read b:status"])
 }
 
 /// Calls with several faults.

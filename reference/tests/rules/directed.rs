@@ -635,6 +635,194 @@ fn refused_reports_of_a_broken_sensor() {
 }
 
 #[test]
+fn busy_before_changed() {
+    assert_course(
+        "busy before changed",
+        r#"
+        @1000 start
+        @2000 open 1
+        @3000 open 4
+        @4000 4 > activate t1\n
+        4 * update t1:target [0,{"t":1.000}]
+        4 * update t1:status [[100,""],{"t":1.000}]
+        4 < active t1
+        @5000 1 > change t1:target 5\n
+        1 DR 0 5
+        4 * update t1:status [[300,"target changed"],{"t":5.000}]
+        4 * update t1:target [5,{"t":5.000}]
+        1 < changed t1:target [5,{"t":5.000}]
+        @6000 1 > activate t1\n
+        1 * update t1:target [5,{"t":5.000}]
+        1 * update t1:status [[300,"target changed"],{"t":5.000}]
+        1 < active t1
+        @7000 4 > change t1:target 5\n
+        4 DR 0 5
+        1 * update t1:status [[300,"target changed"],{"t":7.000}]
+        4 * update t1:status [[300,"target changed"],{"t":7.000}]
+        1 * update t1:target [5,{"t":7.000}]
+        4 * update t1:target [5,{"t":7.000}]
+        4 < changed t1:target [5,{"t":7.000}]
+        @8000 4 > change t1:target 10\n
+        4 < error_change t1:target ["RangeError","value is out of range",{}]
+        @9000 reading 1 [100,"there"]
+        1 * update t1:status [[100,"there"],{"t":9.000}]
+        4 * update t1:status [[100,"there"],{"t":9.000}]
+        @10000 reading 0 5
+        1 * update t1:target [5,{"t":10.000}]
+        4 * update t1:target [5,{"t":10.000}]
+        @11000 1 > read t1:status\n
+        1 < reply t1:status [[100,"there"],{"t":9.000}]
+        "#,
+    );
+}
+
+#[test]
+fn a_status_that_does_not_admit_busy() {
+    assert_course(
+        "a status that does not admit busy",
+        r#"
+        @1000 start
+        @2000 open 0
+        @3000 0 > activate\n
+        0 * update a:target [0,{"t":1.000}]
+        0 * update a:status [[100,""],{"t":1.000}]
+        0 * update b:status [[100,""],{"t":1.000}]
+        0 * update b:target [0,{"t":1.000}]
+        0 * update c:target [0,{"t":1.000}]
+        0 * update c:status [{"code":100,"text":""},{"t":1.000}]
+        0 < active
+        @4000 0 > change a:target 1\n
+        0 DR 0 1
+        0 * update a:target [1,{"t":4.000}]
+        0 < changed a:target [1,{"t":4.000}]
+        @5000 0 > change b:target 1\n
+        0 DR 3 1
+        0 * update b:target [1,{"t":5.000}]
+        0 < changed b:target [1,{"t":5.000}]
+        @6000 0 > change c:target 1\n
+        0 DR 4 1
+        0 * update c:target [1,{"t":6.000}]
+        0 < changed c:target [1,{"t":6.000}]
+        @7000 0 > read a:status\n
+        0 < reply a:status [[100,""],{"t":1.000}]
+        @8000 0 > read b:status\n
+        0 < reply b:status [[100,""],{"t":1.000}]
+        @9000 0 > read c:status\n
+        0 < reply c:status [{"code":100,"text":""},{"t":1.000}]
+        "#,
+    );
+}
+
+#[test]
+fn what_nearly_admits_busy() {
+    assert_course(
+        "what nearly admits busy",
+        r#"
+        @1000 start
+        @2000 open 0
+        @3000 0 > activate\n
+        0 * update a:target [0,{"t":1.000}]
+        0 * update a:status [[300,"aaaaaaaaaaaaaa"],{"t":1.000}]
+        0 * update b:target [0,{"t":1.000}]
+        0 * update b:status [[0,""],{"t":1.000}]
+        0 * update c:target [0,{"t":1.000}]
+        0 * update c:status [[100,1],{"t":1.000}]
+        0 < active
+        @4000 0 > change a:target 1\n
+        0 DR 0 1
+        0 * update a:status [[300,"target changed"],{"t":4.000}]
+        0 * update a:target [1,{"t":4.000}]
+        0 < changed a:target [1,{"t":4.000}]
+        @5000 0 > change b:target 1\n
+        0 DR 2 1
+        0 * update b:target [1,{"t":5.000}]
+        0 < changed b:target [1,{"t":5.000}]
+        @6000 0 > change c:target 1\n
+        0 DR 4 1
+        0 * update c:target [1,{"t":6.000}]
+        0 < changed c:target [1,{"t":6.000}]
+        @7000 0 > change a:status [300,"bbbbbbbbbbbbbb"]\n
+        0 DR 1 [300,"bbbbbbbbbbbbbb"]
+        0 * update a:status [[300,"bbbbbbbbbbbbbb"],{"t":7.000}]
+        0 < changed a:status [[300,"bbbbbbbbbbbbbb"],{"t":7.000}]
+        "#,
+    );
+}
+
+#[test]
+fn no_target_and_no_status() {
+    assert_course(
+        "no target and no status",
+        r#"
+        @1000 start
+        @2000 open 0
+        @3000 0 > activate\n
+        0 * update a:Target [0,{"t":1.000}]
+        0 * update a:status [[100,""],{"t":1.000}]
+        0 * update b:target [0,{"t":1.000}]
+        0 * update b:Status [[100,""],{"t":1.000}]
+        0 * update c:target [0,{"t":1.000}]
+        0 * update d:target [0,{"t":1.000}]
+        0 < active
+        @4000 0 > change a:Target 1\n
+        0 DR 0 1
+        0 * update a:Target [1,{"t":4.000}]
+        0 < changed a:Target [1,{"t":4.000}]
+        @5000 0 > change b:target 1\n
+        0 DR 2 1
+        0 * update b:target [1,{"t":5.000}]
+        0 < changed b:target [1,{"t":5.000}]
+        @6000 0 > change c:target 1\n
+        0 DR 4 1
+        0 * update c:target [1,{"t":6.000}]
+        0 < changed c:target [1,{"t":6.000}]
+        @7000 0 > change d:target 1\n
+        0 DR 5 1
+        0 * update d:target [1,{"t":7.000}]
+        0 < changed d:target [1,{"t":7.000}]
+        @8000 0 > change a:status ["busy",""]\n
+        0 DR 1 [300,""]
+        0 * update a:status [[300,""],{"t":8.000}]
+        0 < changed a:status [[300,""],{"t":8.000}]
+        "#,
+    );
+}
+
+#[test]
+fn errors_of_a_status() {
+    assert_course(
+        "errors of a status",
+        r#"
+        @1000 start
+        @2000 open 0
+        @3000 0 > activate\n
+        0 * update a:target [0,{"t":1.000}]
+        0 * update a:status [[100,""],{"t":1.000}]
+        0 * update b:target [0,{"t":1.000}]
+        0 * update b:status [[100,""],{"t":1.000}]
+        0 < active
+        @4000 unreadable 1 1
+        0 * error_update a:status ["HardwareError","HardwareError",{"t":4.000}]
+        @5000 unreadable 3 2
+        0 * error_update b:status ["CommunicationFailed","CommunicationFailed",{"t":5.000}]
+        @6000 0 > change a:target 1\n
+        0 DR 0 1
+        0 * update a:status [[300,"target changed"],{"t":6.000}]
+        0 * update a:target [1,{"t":6.000}]
+        0 < changed a:target [1,{"t":6.000}]
+        @7000 0 > change b:target 1\n
+        0 DR 2 1
+        0 * update b:target [1,{"t":7.000}]
+        0 < changed b:target [1,{"t":7.000}]
+        @8000 0 > read a:status\n
+        0 < reply a:status [[300,"target changed"],{"t":6.000}]
+        @9000 0 > read b:status\n
+        0 < error_read b:status ["CommunicationFailed","CommunicationFailed",{"t":5.000}]
+        "#,
+    );
+}
+
+#[test]
 fn the_lowest_of_several_numbers() {
     assert_course(
         "the lowest of several numbers",

@@ -105,6 +105,21 @@ pub fn int(min: i64, max: i64) -> Vec<u8> {
     [&[2], min.to_be_bytes().as_slice(), &max.to_be_bytes()].concat()
 }
 
+/// The datainfo of a tuple of two: type 7.
+pub fn pair(first: &[u8], second: &[u8]) -> Vec<u8> {
+    [&[7, 2], first, second].concat()
+}
+
+/// The datainfo of a string: type 5.
+pub fn string(minchars: u16, maxchars: u16) -> Vec<u8> {
+    [
+        &[5],
+        minchars.to_be_bytes().as_slice(),
+        &maxchars.to_be_bytes(),
+    ]
+    .concat()
+}
+
 /// The datainfo of an enum: type 4.
 pub fn choice(members: &[(&str, i32)]) -> Vec<u8> {
     let count = u8::try_from(members.len()).expect("a count of one byte");
