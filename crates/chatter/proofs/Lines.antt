@@ -2,7 +2,7 @@
 use Prim.Native.Nat.{ℕ}
 use mathlib.Core.Bool.{Bool, false, true, cond, not, _&&_, _||_}
 use mathlib.Core.List.{List, [], _∷_, _++_}
-use mathlib.Core.Path.{_≡_, refl, sym, _∙_, ap}
+use mathlib.Core.Path.{_≡_, refl, sym, ap}
 use lib.Dec.{eqb, ltb}
 use lib.ListN.{length}
 use Rattle.table.specs.Table.{Parameter, Command, Table}
@@ -11,11 +11,11 @@ use Rattle.message.specs.Line.{Parts}
 use Rattle.message.specs.Request.{Request}
 use Rattle.message.specs.Reply.{valued, Report, Reply, active, inactive, changed}
 use Rattle.outbox.specs.Outbox.{Record, orderChange, orderCommand}
-use Rattle.plain.specs.Node.{Value, Node, withClient, Setting, settingValue, isActive, activated, reportOf, clientNumbers, updatesOf}
-use Rattle.plain.specs.Answer.{Outcome, carried, argumentForm, activates, deactivates, sets, outcome}
+use Rattle.plain.specs.Node.{Value, Node, withClient, Setting, settingValue, isActive, activated, reportOf, updatesOf}
+use Rattle.plain.specs.Answer.{Outcome, carried, statusOf, busySettings, argumentForm, activates, deactivates, sets, outcome}
 use Rattle.plain.proofs.Outcomes.{nodeAfter, before, replyTo, ordering, outcomes-hold, outcome-holds}
 use Rattle.chatter.specs.Without.{Choice, sentTo, orders, ordersLess}
-use Rattle.chatter.proofs.Records.{Updates, updates-orders, updates-less, of-updates, to-orders, sent-to, sent-of}
+use Rattle.chatter.proofs.Records.{Updates, updates-less, of-updates, changeUpdates, change-updates, none-ordered, sent-change, sent-of}
 use Rattle.chatter.proofs.Near.{beside-activated-left, beside-activated, Near, near-settings, near-by, near-left, Told}
 
 -- what a line comes to at the nodes m and n
@@ -47,7 +47,7 @@ module _ (c : ℕ) (f : Choice) (out : ℕ → Bool) (k : ℕ → ℕ) (w : Tabl
                   near-by c out out m n d h (λ e q. refl) (λ z. activated (g (isActive z)) z)
                   (beside-activated (out d) (m .clients d) (n .clients d) _ _ (h .each d));
               sends = ap (λ v. sentTo c (rs v)) (h .values);
-              ordered = updates-orders (rs (n .values)) (u (n .values)) ∙ sym (updates-less f k (rs (m .values)) (u (m .values)));
+              ordered = none-ordered f k (rs (m .values)) (rs (n .values)) (u (m .values)) (u (n .values));
             };
         reply = refl;
       }
@@ -56,14 +56,18 @@ module _ (c : ℕ) (f : Choice) (out : ℕ → Bool) (k : ℕ → ℕ) (w : Tabl
   unfolding sets sentTo orders ordersLess
   agree-sets j v =
       let s : Setting = record { parameter = j .0; held = valued v; time = now } in
+      let o = statusOf w (j .1) in
       let i = j .1 .home in
       let r = reportOf (j .1) (settingValue s) in
       record {
         told =
             record {
-              nodes = near-settings c out m n (s ∷ []) h;
-              sends = sent-to c (m .clients) (n .clients) (h .client) i r clientNumbers;
-              ordered = ap (orderChange d (j .0) v ∷_) (to-orders f k (m .clients) (n .clients) i r clientNumbers);
+              nodes = near-settings c out m n (busySettings o now ++ (s ∷ [])) h;
+              sends = sent-change c (m .clients) (n .clients) (h .client) o now i r;
+              ordered =
+                  ap (orderChange d (j .0) v ∷_)
+                  (none-ordered f k (changeUpdates (m .clients) o now i r) (changeUpdates (n .clients) o now i r)
+                  (change-updates (m .clients) o now i r) (change-updates (n .clients) o now i r));
             };
         reply = refl;
       }

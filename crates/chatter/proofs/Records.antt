@@ -2,6 +2,7 @@
 use Prim.Native.Nat.{ℕ, suc}
 use mathlib.Core.Bool.{Bool, true, false, cond}
 use mathlib.Core.List.{List, [], _∷_, _++_, append-assoc}
+use mathlib.Core.Option.{Option, none, some}
 use mathlib.Core.Path.{_≡_, refl, sym, _∙_, ap, ap₂, subst}
 use lib.Dec.{eqb}
 use borrow.Author.Tests.{eqb-true}
@@ -9,7 +10,8 @@ use Rattle.table.specs.Table.{Parameter}
 use Rattle.table.specs.Search.{Placed}
 use Rattle.message.specs.Reply.{Report}
 use Rattle.outbox.specs.Outbox.{Record, final, update, orderChange, orderCommand}
-use Rattle.plain.specs.Node.{Client, Value, isActive, reportOf, updatesTo, updatesOf}
+use Rattle.plain.specs.Node.{Client, Value, isActive, reportOf, clientNumbers, updatesTo, updatesOf}
+use Rattle.plain.specs.Answer.{busyUpdates}
 use Rattle.rule.proofs.Laws.{NoFinal}
 use Rattle.chatter.specs.Without.{Choice, sentTo, orders, ordersLess}
 
@@ -71,7 +73,7 @@ updates-less f k (update d r ∷ rs) h = updates-less f k rs h
 updates-less f k (orderChange d p v ∷ rs) h = absurd h
 updates-less f k (orderCommand d p v ∷ rs) h = absurd h
 
-to-updates : (g : ℕ → Client) (i : ℕ) (r : Report) (cs : List ℕ) → Updates (updatesTo g i r cs)
+pub to-updates : (g : ℕ → Client) (i : ℕ) (r : Report) (cs : List ℕ) → Updates (updatesTo g i r cs)
 unfolding updatesTo
 to-updates g i r [] = tt
 to-updates g i r (e ∷ cs) = go (isActive (g e) i) (to-updates g i r cs)
@@ -91,11 +93,25 @@ of-updates d wanted values k (p ∷ ps) = go (wanted (p .home)) (of-updates d wa
     go true h = h
     go false h = h
 
--- Neither history orders anything by the updates of a setting.
-pub to-orders : (f : Choice) (k : ℕ → ℕ) (g h : ℕ → Client) (i : ℕ) (r : Report) (cs : List ℕ)
-    → orders (updatesTo h i r cs) ≡ ordersLess f k (updatesTo g i r cs)
-to-orders f k g h i r cs =
-    updates-orders (updatesTo h i r cs) (to-updates h i r cs) ∙ sym (updates-less f k (updatesTo g i r cs) (to-updates g i r cs))
+-- those of a change: of a status, and then of the parameter
+abbrev pub changeUpdates : (ℕ → Client) → Option (ℕ × Placed Parameter) → ℕ → ℕ → Report → List Record
+changeUpdates g o t i r = busyUpdates g o t ++ updatesTo g i r clientNumbers
+
+pub change-updates : (g : ℕ → Client) (o : Option (ℕ × Placed Parameter)) (t i : ℕ) (r : Report) → Updates (changeUpdates g o t i r)
+unfolding busyUpdates
+change-updates g none t i r = to-updates g i r clientNumbers
+change-updates g (some s) t i r = joined (updatesTo g (s .1 .home) _ clientNumbers) (to-updates g (s .1 .home) _ clientNumbers)
+  where
+    joined : (x : List Record) → Updates x → Updates (x ++ updatesTo g i r clientNumbers)
+    joined [] h = to-updates g i r clientNumbers
+    joined (final d y ∷ x) h = absurd h
+    joined (update d y ∷ x) h = joined x h
+    joined (orderChange d p v ∷ x) h = absurd h
+    joined (orderCommand d p v ∷ x) h = absurd h
+
+-- Neither history orders anything by updates.
+pub none-ordered : (f : Choice) (k : ℕ → ℕ) (a b : List Record) → Updates a → Updates b → orders b ≡ ordersLess f k a
+none-ordered f k a b h g = updates-orders b g ∙ sym (updates-less f k a h)
 
 -- another client's update is not sent to client c
 unsent : (c d : ℕ) → eqb c d ≡ false → (r : Report) (q : Bool) → sentTo c (cond q (update d r ∷ []) []) ≡ []
@@ -120,6 +136,15 @@ sent-to c g h s i r (d ∷ cs) =
         (λ y. sentTo c (cond (isActive y i) (update d r ∷ []) []))
         (subst (λ j. h j ≡ g j) (eqb-true c d e) s)
     go false e = unsent c d e r (isActive (h d) i) ∙ sym (unsent c d e r (isActive (g d) i))
+
+pub sent-change : (c : ℕ) (g h : ℕ → Client) → h c ≡ g c → (o : Option (ℕ × Placed Parameter)) (t i : ℕ) (r : Report)
+    → sentTo c (changeUpdates h o t i r) ≡ sentTo c (changeUpdates g o t i r)
+unfolding busyUpdates
+sent-change c g h e none t i r = sent-to c g h e i r clientNumbers
+sent-change c g h e (some s) t i r =
+    sent-append c (updatesTo h (s .1 .home) _ clientNumbers) (updatesTo h i r clientNumbers)
+    ∙ ap₂ _++_ (sent-to c g h e (s .1 .home) _ clientNumbers) (sent-to c g h e i r clientNumbers)
+    ∙ sym (sent-append c (updatesTo g (s .1 .home) _ clientNumbers) (updatesTo g i r clientNumbers))
 
 -- Another client's activation sends it nothing.
 pub sent-of : (c d : ℕ) → eqb c d ≡ false → (wanted : ℕ → Bool) (values : ℕ → Value) (k : ℕ) (ps : List (Placed Parameter))

@@ -26,7 +26,7 @@ use Rattle.plain.proofs.Outcomes.{nodeAfter, before, replyTo, concluded}
 use Rattle.rule.proofs.Calls.{quiet, idle}
 use Rattle.second.proofs.Runs.{outOf, run}
 use Rattle.chatter.specs.Without.{Choice, oneMore, isEnded, without, sentTo, orders, ordersLess}
-use Rattle.chatter.proofs.Records.{to-orders, sent-to}
+use Rattle.chatter.proofs.Records.{to-updates, none-ordered, sent-to}
 use Rattle.chatter.proofs.Near.{Beside, beside-emptied, beside-left, beside-byte, beside-byte-left, Near, near-out, near-settings, near-put, near-by, near-left, Told, told-append, told-final, told-final-left}
 use Rattle.chatter.proofs.Lines.{agree, aside}
 
@@ -156,7 +156,7 @@ module _ (w : Table) (c : ℕ) (f : Choice) (mine : (i : ℕ) → f c i ≡ fals
       (record {
         nodes = a;
         sends = sent-to c (m .clients) (n .clients) (h .client) (y .home) r clientNumbers;
-        ordered = to-orders f k (m .clients) (n .clients) (y .home) r clientNumbers;
+        ordered = none-ordered f k _ _ (to-updates (m .clients) (y .home) r clientNumbers) (to-updates (n .clients) (y .home) r clientNumbers);
       })
       (claim _ _ a (fine-append f k (updatesTo (m .clients) (y .home) r clientNumbers) _ q g))
 
