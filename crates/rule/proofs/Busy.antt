@@ -9,12 +9,14 @@ use mathlib.Core.Path.{_≡_, refl, sym, _∙_, ap, subst}
 use Rattle.ascii.specs.Text.{bytes}
 use Rattle.fit.specs.Fit.{verdict, isFit, storedForm}
 use Rattle.table.specs.Table.{Parameter, Table}
+use Rattle.table.specs.Layout.{tableOf}
 use Rattle.table.specs.Search.{Placed, findParameter}
 use Rattle.message.specs.Reply.{Report, changed}
 use Rattle.outbox.specs.Outbox.{Record, final, update, orderChange}
 use Rattle.plain.specs.Node.{Node, Value, reportOf, clientNumbers, updatesTo, showing}
 use Rattle.plain.specs.Answer.{busy, statusOf, busySettings, busyUpdates}
 use Rattle.plain.specs.Calls.{Event}
+use Rattle.plain.specs.History.{step}
 use Rattle.plain.proofs.Put.{put-at, put-other}
 use Rattle.plain.proofs.Busy.{is-status, no-status, named-other}
 use Rattle.rule.specs.Theorems.{Changed, ChangeSets, OfPiece, of-piece, BusyFirst, StatusLeft, BusyBeforeChanged, OtherStatusStays}
@@ -99,10 +101,14 @@ told-change {w} s r target found P f (of-piece {t = t} g) =
 
 pub busy-before-changed : BusyBeforeChanged
 busy-before-changed table n e c s r l target found a =
-    told-change s r target found (λ x. BusyFirst _ c s x _) (λ k p v t h i j. busy-first _ n _ c k p v t _ h s i j a)
+    let y = step table n e in
+    told-change s r target found (λ x. BusyFirst (y .0) c s x (y .1 .records))
+    (λ k p v t h i j. busy-first (tableOf table) n (y .0) c k p v t (y .1 .records) h s i j a)
     (changes-are-sent-to-all table n e c r l)
 
 pub other-status-stays : OtherStatusStays
 other-status-stays table n e c s r l target found a =
-    told-change s r target found (λ x. StatusLeft n _ s x _) (λ k p v t h i j. status-left _ n _ c k p v t _ h s i j a)
+    let y = step table n e in
+    told-change s r target found (λ x. StatusLeft n (y .0) s x (y .1 .records))
+    (λ k p v t h i j. status-left (tableOf table) n (y .0) c k p v t (y .1 .records) h s i j a)
     (changes-are-sent-to-all table n e c r l)
