@@ -49,7 +49,7 @@ enum jihfasul_number {
     JIHFASUL_ACCEPTED = 0,
     JIHFASUL_BAD_LAYOUT = 1,        /* the table has over 16,384 bytes, or can't be read as records */
     JIHFASUL_BAD_COUNTS = 2,        /* it has no or more than 16 modules, or more than 64 accessibles */
-    JIHFASUL_BAD_NAMES = 3,         /* a name in it is bad or repeated, or a text is bad */
+    JIHFASUL_BAD_NAMES = 3,         /* a name in it is bad or repeated, or a text is bad, or an `ED` record doesn't begin `ISSE,SECoP,` */
     JIHFASUL_BAD_DATAINFO = 4,      /* a datainfo in it breaks its own rules */
     JIHFASUL_BAD_INITIAL = 5,       /* an initial value isn't in stored form, is over 256 bytes, or doesn't fit its datainfo */
     JIHFASUL_LONG_REPORT = 6,       /* its structure report would be over 32,000 bytes */

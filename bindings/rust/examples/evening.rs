@@ -38,6 +38,7 @@ fn rooms() -> Table {
     let seconds = int(1, 600);
     let status = pair(&choice(&[("idle", 100), ("busy", 300)]), &string(0, 40));
     Table::new("two_rooms", "two cold stages and their compressor")
+        .edition("ISSE,SECoP,V2021-02-17,v2.0")
         .module("t_east", "stage in the east room")
         .parameter(
             "value",

@@ -2,3 +2,4 @@ pub mod Argument
 pub mod Busy
 pub mod Set
 pub mod Judged
+pub mod Told

@@ -1,7 +1,7 @@
 ghost use mathlib.Core.Bool.{true};
 ghost use mathlib.Core.Path.{_≡_};
 ghost use Rattle.examples.specs.Theorems.{Ramps};
-ghost use Rattle.examples.specs.Theorems.{ExamplesAreRight, OutboxExample, BrokenSensor, WholeReport, NotedReport, TablesAreGood, FiveMilliseconds, ExchangesAreRight, HistoriesAreAsDue};
+ghost use Rattle.examples.specs.Theorems.{ExamplesAreRight, OutboxExample, BrokenSensor, NextEdition, WholeReport, NotedReport, TablesAreGood, FiveMilliseconds, ExchangesAreRight, HistoriesAreAsDue};
 
 // Each function here promises a theorem about the definitions. Nothing is run.
 
@@ -57,6 +57,13 @@ pub fn tables_are_good() -> bool
 // 5 milliseconds are written as 0.005.
 pub fn five_milliseconds() -> bool
     ensures { λ r. ⌜ (r ≡ true) × FiveMilliseconds ⌝ }
+{
+    true
+}
+
+// A table with an `ED` record and one without answer the same lines, each by its edition.
+pub fn next_edition() -> bool
+    ensures { λ r. ⌜ (r ≡ true) × NextEdition ⌝ }
 {
     true
 }

@@ -4,3 +4,4 @@ pub mod Clients
 pub mod Outcomes
 pub mod Busy
 pub mod Notes
+pub mod Editions

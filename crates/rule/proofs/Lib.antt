@@ -6,4 +6,5 @@ pub mod Rule
 pub mod Busy
 pub mod Lines
 pub mod Good
+pub mod Checks
 pub mod Settings

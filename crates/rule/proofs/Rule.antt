@@ -25,7 +25,7 @@ use Rattle.plain.specs.History.{step}
 use Rattle.plain.proofs.Put.{put-at, put-other, put-all}
 use Rattle.plain.proofs.Busy.{IsStatus, status-is, status-other, set-more}
 use Rattle.plain.proofs.Clients.{active-open, receive-active, emptied-open, emptied-active, activated-active}
-use Rattle.plain.proofs.Outcomes.{nodeAfter, before, replyTo, Tells, by-identify, by-describe, by-ping, by-read, LetIn, outcome-holds}
+use Rattle.plain.proofs.Outcomes.{nodeAfter, before, replyTo, Tells, by-identify, by-describe, by-ping, by-read, by-check, LetIn, outcome-holds}
 use Rattle.rule.specs.Records.{updatesFor, repliesFor, inScopeOf, reportsOf, activeBy, activeAfter}
 use Rattle.rule.specs.Theorems.{partsAt, requestOf, ToActive, UpdatesGoToActiveClients, Set, ReadingSets, ReadingsAreSentToAll, UnreadableSets, UnreadablesAreSentToAll, Changed, ChangeSets, OfPiece, of-piece, ChangesAreSentToAll, BySetting, by-reading, by-unreadable, by-change, ValuesAlterBySettings, InitialUpdates, ActivationsSendAll, ActivationsAreOnesOwn, AltersNothing, ErrorsAlterNothing}
 use Rattle.rule.proofs.Laws.{updates-append, replies-append, no-final-replies, updates-to-member, updates-of-member, updates-of-for, sent-once, sent-never}
@@ -358,6 +358,7 @@ told-active by-identify i b = refl
 told-active by-describe i b = refl
 told-active by-ping i b = refl
 told-active (by-read k e v t j) i b = refl
+told-active (by-check k v l e) i b = refl
 
 leaves-active : (w : Table) (n : Node) (c now : ℕ) (p : Parts) → isOpen (n .clients c) ≡ true → (q : Request)
     → LeavesActive w n c p (outcome w n c now q)

@@ -10,10 +10,11 @@ use mathlib.Core.Path.{_≡_}
 use lib.ListN.{length, getElem?}
 use Rattle.fit.specs.Fit.{fits, verdict, isFit, storedForm}
 use Rattle.ascii.specs.Text.{bytes}
+use Rattle.ascii.specs.Bytes.{isSome}
 use Rattle.message.specs.Line.{Parts, whole, content, partsOf}
-use Rattle.message.specs.Request.{Request, activate, deactivate, read, change, execute, request}
+use Rattle.message.specs.Request.{Request, activate, deactivate, read, change, execute, check, request}
 use Rattle.message.specs.Error.{Fault, faultOf, Denial, fault}
-use Rattle.message.specs.Reply.{Held, valued, failed, Report, Reply, reply, changed, active, inactive, done, error}
+use Rattle.message.specs.Reply.{Held, valued, failed, Report, Reply, reply, changed, active, inactive, done, checked, error}
 use Rattle.table.specs.Table.{Parameter, Command, parameter, Module, Table}
 use Rattle.table.specs.Layout.{tableOf}
 use Rattle.table.specs.Search.{Placed, parameters, commands, findParameter, findCommand}
@@ -313,6 +314,26 @@ abbrev pub ErrorsAlterNothing : Type 0
 ErrorsAlterNothing = (table : List ℕ) (n : Node) (e : Call) (c : ℕ) (a s : List ℕ) (x : Denial)
     → List·Memᴰ (final c (error a s x)) (step table n e .1 .records)
     → AltersNothing n (step table n e .0) (step table n e .1 .records) c (error a s x)
+
+-- ## A check tells what a change would come to (M-107)
+
+-- Of a check and a change of the same, each by client c from the node n: p and q are the parts of their lines, m and m′ the nodes that they leave, rs
+-- and rs′ what they send. Either both are refused with the same error, or `checked` tells what `changed` does. Nothing is stored by the check, and
+-- nothing else is sent.
+pub data AsChange (n : Node) (c : ℕ) (p : Parts) (m : Node) (rs : List Record) (q : Parts) (m′ : Node) (rs′ : List Record) : Type 0 where
+  both-refused : (e : Denial) → AltersNothing n m rs c (error (p .action) (p .specifier) e)
+      → AltersNothing n m′ rs′ c (error (q .action) (q .specifier) e) → AsChange n c p m rs q m′ rs′
+  both-let-in : (r : Report) → AltersNothing n m rs c (checked r) → List·Memᴰ (final c (changed r)) rs′ → AsChange n c p m rs q m′ rs′
+
+-- "judged exactly as `change` would be": of two lines that come at the same time
+abbrev pub ChecksAreAsChanges : Type 0
+ChecksAreAsChanges = (table : List ℕ) → isSome (tableOf table .edition) ≡ true → (n : Node) (c t : ℕ) (a x offered : List ℕ)
+    (bs bs′ : List ℕ) (lent lent′ : Lent)
+    → let r = step table n (record { event = Piece c bs t; lent = lent }) in
+    let r′ = step table n (record { event = Piece c bs′ t; lent = lent′ }) in
+    r .1 .number ≡ 0 → hasFeed bs ≡ true → requestOf n c bs ≡ check a x offered
+    → r′ .1 .number ≡ 0 → hasFeed bs′ ≡ true → requestOf n c bs′ ≡ change a x offered
+    → AsChange n c (partsAt n c bs) (r .0) (r .1 .records) (partsAt n c bs′) (r′ .0) (r′ .1 .records)
 
 -- A call that is refused by a number uses nothing, writes nothing and alters nothing.
 pub record Refused (n m : Node) (x : Answer) : Type 0 where

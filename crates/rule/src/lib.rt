@@ -1,7 +1,7 @@
 ghost use mathlib.Core.Bool.{true};
 ghost use mathlib.Core.Path.{_≡_};
 ghost use Rattle.rule.specs.Theorems.{BusyBeforeChanged, OtherStatusStays};
-ghost use Rattle.rule.specs.Theorems.{UpdatesGoToActiveClients, ChangesAreSentToAll, GoodChangesAreMade, ReadingsAreSentToAll, UnreadablesAreSentToAll, ValuesAlterBySettings, SettingsAreAll, ActivationsSendAll, GoodActivationsAreMade, ActivationsAreOnesOwn, ParametersBelong, OneReplyForEachLine, PiecesAreUsed, ReadsAreTrue, GoodReadsAreAnswered, CommandsAreOrdered, GoodCommandsAreOrdered, ErrorsAlterNothing, RefusalsAlterNothing};
+ghost use Rattle.rule.specs.Theorems.{UpdatesGoToActiveClients, ChangesAreSentToAll, GoodChangesAreMade, ReadingsAreSentToAll, UnreadablesAreSentToAll, ValuesAlterBySettings, SettingsAreAll, ActivationsSendAll, GoodActivationsAreMade, ActivationsAreOnesOwn, ParametersBelong, OneReplyForEachLine, PiecesAreUsed, ReadsAreTrue, GoodReadsAreAnswered, CommandsAreOrdered, GoodCommandsAreOrdered, ErrorsAlterNothing, ChecksAreAsChanges, RefusalsAlterNothing};
 
 // Each function here promises a theorem about the definitions. Nothing is run.
 
@@ -142,6 +142,13 @@ pub fn good_commands_are_ordered() -> bool
 // A line that is answered by an error sends nothing else, alters no value and empties only its sender's line.
 pub fn errors_alter_nothing() -> bool
     ensures { λ r. ⌜ (r ≡ true) × ErrorsAlterNothing ⌝ }
+{
+    true
+}
+
+// A check is answered as the change of the same would be, by what it would store or by the same error; it stores nothing and sends nothing else.
+pub fn checks_are_as_changes() -> bool
+    ensures { λ r. ⌜ (r ≡ true) × ChecksAreAsChanges ⌝ }
 {
     true
 }

@@ -12,12 +12,12 @@ use Rattle.ascii.specs.Text.{bytes}
 use Rattle.ascii.specs.Bytes.{all}
 use Rattle.ascii.specs.Numbers.{latest}
 use Rattle.datainfo.specs.Datainfo.{Datainfo}
-use Rattle.fit.specs.Fit.{Verdict, fits, severity, verdict, storedForm, isFit}
+use Rattle.fit.specs.Fit.{Verdict, fits, severity, verdict, storedForm, isFit, isStored}
 use Rattle.form.proofs.Stored.{stored, stored-short, short-stored}
 use Rattle.message.specs.Line.{Parts, content, partsOf}
 use Rattle.message.specs.Request.{Request, request}
 use Rattle.message.specs.Error.{Fault, faultOf}
-use Rattle.message.specs.Reply.{Held, valued, failed, Reply, identification, pong, active, inactive, reply, changed, done, error}
+use Rattle.message.specs.Reply.{Held, valued, failed, Reply, identification, pong, active, inactive, reply, changed, done, checked, error}
 use Rattle.outbox.specs.Outbox.{Record, final, orderChange, orderCommand, body}
 use Rattle.outbox.specs.Theorems.{Named}
 use Rattle.table.specs.Table.{Parameter, Command, Table}
@@ -34,12 +34,12 @@ use Rattle.plain.specs.Calls.{Event, Open, Close, Piece, Reading, Unreadable, C
 use Rattle.plain.specs.History.{step}
 use Rattle.plain.proofs.Numbers.{accepted-call}
 use Rattle.plain.proofs.Busy.{status-is, busy-stored, set-more}
-use Rattle.plain.proofs.Outcomes.{Tells, by-identify, by-describe, by-ping, by-read, LetIn, Allowed, doneOf, ordering, outcome-holds}
+use Rattle.plain.proofs.Outcomes.{Tells, by-identify, by-describe, by-ping, by-read, by-check, LetIn, Allowed, doneOf, ordering, outcome-holds}
 use Rattle.sound.specs.Theorems.{HeldFits, ValueHeld, Sound}
 use Rattle.sound.proofs.Lists.{each-at}
 use Rattle.sound.proofs.Tabled.{ParameterIn}
 use Rattle.sound.proofs.Accepted.{Accepted, GoodParameter, GoodCommand, client-low, time-low}
-use Rattle.sound.proofs.Records.{Small, DeniedInTime, Fine, Says, says-within, says-identification, says-describing, says-pong, says-active, says-inactive, says-reply, says-changed, says-done, says-error, Written, written-none, written-one, written-append, written-within, written-final, written-to, written-of}
+use Rattle.sound.proofs.Records.{Small, DeniedInTime, Fine, Says, says-within, says-identification, says-describing, says-pong, says-active, says-inactive, says-reply, says-changed, says-done, says-checked, says-error, Written, written-none, written-one, written-append, written-within, written-final, written-to, written-of}
 use Rattle.sound.proofs.Lines.{before-feed, received, content-short, ShortWord, parts-words, Asked, asked}
 use Rattle.sound.proofs.Held.{with-client, with-value, line-held, emptied-held, more-active, less-active}
 
@@ -56,6 +56,13 @@ Comes w c (carried m ss rs r) = Kept w m (rs ++ (final c r ∷ []))
 fit-is : (v : Verdict) → v ≡ fits → isFit v ≡ true
 unfolding isFit severity
 fit-is v e = rw e refl
+
+-- what is let in, as it is stored
+pub let-in-stored : (w : Table) → Accepted w → (k : ℕ × Placed Parameter) (v : List ℕ) → LetIn w k v
+    → isStored (k .1 .it .datainfo) (storedForm (k .1 .it .datainfo) v) ≡ true
+let-in-stored w a k v l =
+    stored (k .1 .it .datainfo) v (each-at (λ (q : Placed Parameter). ParameterIn (q .it)) (parameters w) (a .parametersIn) (k .0) (k .1) (l .there))
+    (fit-is (verdict (k .1 .it .datainfo) v) (l .fitting))
 
 -- ## Lines, on an accepted table, at a sound node
 
@@ -125,13 +132,18 @@ module _ (w : Table) (a : Accepted w) (n : Node) (s : Sound w n) where
 
     -- a reply alone
     told-short : (q : Request) (r : Reply) → Tells w t (n .values) q r → Asked q → Says r 32013
-    told-short _ _ by-identify q = says-within identification 36 32013 (omega arith) says-identification
+    told-short _ _ by-identify q = says-within (identification (w .edition)) 16384 32013 (omega arith) (says-identification (w .edition) (a .edition))
     told-short _ _ by-describe q = says-describing (report w) (a .short)
     told-short _ _ (by-ping {token}) q = says-within (pong token t) 1057 32013 (omega arith) (says-pong token t (q .0) (q .1) h)
     told-short _ _ (by-read k e v u i) q =
         let r = reportOf (k .1) (showing v u) in
         says-within (reply r) 415 32013 (omega arith)
         (says-reply r (fine (k .0) (k .1) e (showing v u) (subst (ValueHeld (k .1 .it)) i (s .values (k .0) (k .1) e))) tt)
+    told-short _ _ (by-check k v l e) q =
+        let x = showing (storedForm (k .1 .it .datainfo) v) t in
+        let i = let-in-stored w a k v l in
+        says-within (checked (reportOf (k .1) x)) 415 32013 (omega arith)
+        (says-checked (reportOf (k .1) x) (fine (k .0) (k .1) (l .there) x (i, h)) tt)
 
     comes-tells : (q : Request) (r : Reply) → Tells w t (n .values) q r → Asked q → Comes w c (carried n [] [] r)
     comes-tells q r u i = only r 32013 (told-short q r u i) (omega arith)

@@ -325,12 +325,14 @@ fn assert_records_of_all_kinds(records: &[Record]) {
         .collect();
     let fronts = [
         "ISSE&SINE2020,",
+        "ISSE,SECoP,",
         "describing . {",
         "pong ",
         "active",
         "inactive",
         "reply ",
         "changed ",
+        "checked ",
         "done ",
         "error_read ",
     ];
@@ -558,5 +560,5 @@ fn the_same_seed_gives_the_same_and_another_seed_another() {
     assert_eq!(histories::history(3, 50), histories::history(3, 50));
     assert_ne!(histories::history(3, 50), histories::history(4, 50));
     assert_eq!(small::history(3), small::history(3));
-    assert_ne!(small::history(3), small::history(3 + 16));
+    assert_ne!(small::history(3), small::history(3 + 17));
 }

@@ -238,12 +238,20 @@ impl Watcher {
                 let names = [parts.next(), parts.next()].map(Option::unwrap).join(":");
                 assert_eq!(self.parameters[self.number_of(&names)].1, report);
             }
+            // What was told of the parameter stays as it was.
+            ["checked", specifier, report] => {
+                assert!(before.is_empty());
+                self.number_of(specifier);
+                assert!(report.ends_with(&format!(",{{\"t\":{}}}]", seconds(time))));
+            }
             ["pong", _, report] => {
                 assert!(before.is_empty());
                 assert_eq!(report, format!("[null,{{\"t\":{}}}]", seconds(time)));
             }
             _ => {
-                let identification = line.starts_with("ISSE&SINE2020,SECoP,");
+                let identification = ["ISSE&SINE2020,SECoP,", "ISSE,SECoP,"]
+                    .iter()
+                    .any(|front| line.starts_with(front));
                 let description = line.starts_with("describing . {\"modules\":{");
                 let error = line.starts_with("error_") && line.ends_with("\",{}]");
                 assert!(identification || description || error, "{line}");

@@ -31,6 +31,14 @@ impl Table {
         table.record(b"ND", equipment_id, description)
     }
 
+    /// `ED`: the whole identification of the next edition, straight after `ND`.
+    /// It begins with `ISSE,SECoP,`, and switches `check` on.
+    pub fn edition(mut self, text: &str) -> Table {
+        self.bytes.extend_from_slice(b"ED");
+        self.bytes.extend(counted(text));
+        self
+    }
+
     /// `MO`: the parameters and commands that follow belong to it.
     pub fn module(mut self, name: &str, description: &str) -> Table {
         self.module = name.to_string();
