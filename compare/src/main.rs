@@ -6,6 +6,7 @@ mod cost;
 mod difference;
 mod histories;
 mod library;
+mod night;
 mod operations;
 mod seen;
 mod stack;
@@ -31,6 +32,9 @@ usage: compare [COMMAND ...]
                and without lines of other clients that are no accepted changes
   cost         what a line costs, beside the reference program
   stack        how deep the stack of a call is, over the same histories
+  night TABLE TIME TRACE
+               a night by single calls: what the program `night` is to write,
+               of a trace without wrong and half records
   --help       this text
 
 A difference is printed with the history's name and seed and the first call at
@@ -56,6 +60,7 @@ fn main() -> ExitCode {
         ["chatter"] => compare_without_lines(SEED, COUNT),
         ["cost"] => cost::print(),
         ["stack"] => stack::print(),
+        ["night", table, time, trace] => night::print(table, time, trace),
         ["--help"] => {
             print!("{HELP}");
             ExitCode::SUCCESS

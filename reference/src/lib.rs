@@ -33,6 +33,7 @@ pub mod operation;
 pub mod outbox;
 pub mod random;
 pub mod refusal;
+pub mod replay;
 pub mod report;
 pub mod table;
 pub mod text;

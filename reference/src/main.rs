@@ -3,19 +3,24 @@
 
 use reference::definitions;
 use reference::error::ErrorClass;
+use reference::generate::nights::Night;
 use reference::generate::vectors::{self, ValueCase};
-use reference::generate::{borders, calls, directed, encode, histories, quieter, second, small};
+use reference::generate::{
+    borders, calls, directed, encode, histories, nights, quieter, second, small,
+};
 use reference::history::History;
 use reference::operation;
+use reference::replay;
 use reference::report;
 use reference::table::Table;
 use reference::text::{self, hex};
 use reference::value;
 use std::io::{self, Write};
+use std::path::Path;
 use std::process::ExitCode;
 
 const HELP: &str = "\
-The plain node of document 01 with M-102, and generators for comparing others with it.
+The plain node of document 01 with M-100, M-102 and M-110, and generators for comparing others with it.
 
 usage: reference COMMAND ...
 
@@ -49,6 +54,17 @@ usage: reference COMMAND ...
   run FILE              runs the histories in FILE, whatever answers it has,
                         and prints them with the answers due; - reads from
                         standard input
+  replay TABLE TIME TRACE
+                        replays the events in the file TRACE on a node over
+                        the table in the file TABLE, started at TIME
+  night PART            table, time or trace of the night that the program
+                        `night` is tested with, or what is told of it
+  night PART EVENTS 2|12
+                        the same of a night of so many events, over a table of
+                        2 or 12 modules
+  nights SEED COUNT FOLDER
+                        writes tables, times and traces for that, and what is
+                        told of each, into FOLDER
   --help                this text
 
 The same arguments always print the same. Bytes in histories, tables and values
@@ -95,8 +111,51 @@ fn command(arguments: &[&str]) -> Result<Vec<u8>, String> {
             let operations = calls::operations(number(seed)?, number(count)?);
             Ok(operation::input(&operations))
         }
+        ["nights", seed, count, folder] => {
+            write_nights(number(seed)?, number(count)?, Path::new(folder)).map(|()| Vec::new())
+        }
+        ["night", part] => night_part(&nights::directed(), part),
+        ["night", part, events, modules @ ("2" | "12")] => {
+            night_part(&nights::long(number(events)?, number(modules)?), part)
+        }
+        ["replay", table, time, trace] => Ok(replay::told(
+            &content(table)?,
+            number(time)?,
+            &content(trace)?,
+        )),
         _ => text_command(arguments).map(String::into_bytes),
     }
+}
+
+/// A part of a night, or what is told of it.
+fn night_part(night: &Night, part: &str) -> Result<Vec<u8>, String> {
+    let Night { table, time, trace } = night;
+    match part {
+        "table" => Ok(table.clone()),
+        "time" => Ok(time.to_string().into_bytes()),
+        "trace" => Ok(trace.clone()),
+        "told" => Ok(replay::told(table, *time, trace)),
+        _ => Err(format!("a night has no {part}")),
+    }
+}
+
+/// Writes nights into a folder: `SEED.table`, `SEED.time`, `SEED.trace`, and in
+/// `SEED.told` what is told of the replay.
+fn write_nights(seed: u64, count: u64, folder: &Path) -> Result<(), String> {
+    for seed in seed..seed + count {
+        let night = nights::night(seed);
+        for part in ["table", "time", "trace", "told"] {
+            let path = folder.join(format!("{seed}.{part}"));
+            std::fs::write(&path, night_part(&night, part)?)
+                .map_err(|error| format!("{}: {error}", path.display()))?;
+        }
+    }
+    Ok(())
+}
+
+/// A file's bytes.
+fn content(file: &str) -> Result<Vec<u8>, String> {
+    std::fs::read(file).map_err(|error| format!("{file}: {error}"))
 }
 
 /// A table to be judged again and again, a thousand times for each count.

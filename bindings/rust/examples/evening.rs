@@ -1,7 +1,8 @@
 //! An evening of two rooms that share one node: plays `evening.script`, or the
 //! script that the command line names, and prints who sent what, who was sent
 //! what, and what the drivers were ordered to do. No socket and no hardware:
-//! where a host would write to one, this one prints.
+//! where a host would write to one, this one prints. With `--record FOLDER` it
+//! leaves the table and a trace of the events there, for the program `night`.
 
 #[path = "evening/script.rs"]
 mod script;
@@ -9,10 +10,12 @@ mod script;
 mod table;
 
 use jihfasul::state::CLIENTS;
-use jihfasul::{Held, Mark, Node, Record, Records, Refusal, SensorError};
+use jihfasul::{Held, Mark, Node, Record, Recorder, Records, Refusal, SensorError};
 use script::{clock, entries, fault, Act, Entry, Event};
 use std::fmt::Write;
-use std::{env, fs, process};
+use std::fs::File;
+use std::path::{Path, PathBuf};
+use std::{env, fs, io, process};
 use table::{choice, double, int, pair, string, Access, Table};
 
 const SCRIPT: &str = concat!(env!("CARGO_MANIFEST_DIR"), "/examples/evening.script");
@@ -135,15 +138,20 @@ fn order(body: &[u8]) -> (usize, String) {
     (usize::from(body[0]), value.to_string())
 }
 
-/// A node, and what is told of it.
+/// A node, what is told of it, and what is recorded.
 struct Evening {
     node: Node,
     log: Log,
+    recorder: Option<Recorder<File>>,
 }
 
 impl Evening {
-    fn start(event: &Event) -> Result<Evening, String> {
+    fn start(event: &Event, folder: Option<&Path>) -> Result<Evening, String> {
         let table = rooms();
+        let recorder = match folder {
+            Some(folder) => Some(recorder(folder, &table.bytes, event.time)?),
+            None => None,
+        };
         let node = Node::start(table.bytes.clone(), event.time);
         let mut log = Log {
             text: HEAD.to_string(),
@@ -152,7 +160,11 @@ impl Evening {
         };
         log.say(&clock(event.time), &event.who, &event.what);
         let node = node.map_err(|refusal| refusal.to_string())?;
-        Ok(Evening { node, log })
+        Ok(Evening {
+            node,
+            log,
+            recorder,
+        })
     }
 
     fn play(&mut self, event: &Event) -> Result<(), String> {
@@ -166,33 +178,49 @@ impl Evening {
                 let client = self.free_number(who)?;
                 let what = format!("{what}, as client {client}");
                 self.log.say(&clock, who, &what);
+                self.record(|recorder| recorder.open(client as u64, *time))?;
                 self.connect(*time, client, who);
             }
             Act::Leave => {
                 let client = self.number(who)?;
                 self.log.say(&clock, who, what);
+                self.record(|recorder| recorder.close(client as u64, *time))?;
                 self.leave(*time, client);
             }
             Act::Send(bytes) => {
                 let client = self.number(who)?;
                 self.log.say(&clock, who, what);
+                self.record(|recorder| recorder.feed(client as u64, *time, bytes))?;
                 self.send(*time, client, bytes);
             }
             Act::Read(parameter, value) => {
                 let number = self.parameter(parameter)?;
                 self.log.say(&clock, who, what);
-                let result = self.node.reading(number as u64, *time, value.as_bytes());
+                let (number, value) = (number as u64, value.as_bytes());
+                self.record(|recorder| recorder.reading(number, *time, value))?;
+                let result = self.node.reading(number, *time, value);
                 told_by_driver(&mut self.log, result);
             }
             Act::Fail(parameter, class) => {
                 let number = self.parameter(parameter)?;
                 let error = error_named(class)?;
                 self.log.say(&clock, who, what);
-                let result = self.node.unreadable(number as u64, *time, error);
+                let number = number as u64;
+                self.record(|recorder| recorder.unreadable(number, *time, error))?;
+                let result = self.node.unreadable(number, *time, error);
                 told_by_driver(&mut self.log, result);
             }
         }
         Ok(())
+    }
+
+    /// Records an event, if anything is recorded.
+    fn record(
+        &mut self,
+        event: impl FnOnce(&mut Recorder<File>) -> io::Result<()>,
+    ) -> Result<(), String> {
+        let result = self.recorder.as_mut().map_or(Ok(()), event);
+        result.map_err(|error| format!("the trace: {error}"))
     }
 
     /// The number of a client that is connected.
@@ -232,7 +260,7 @@ impl Evening {
     }
 
     fn send(&mut self, time: u64, client: usize, bytes: &[u8]) {
-        let Evening { node, log } = self;
+        let Evening { node, log, .. } = self;
         let result = node.feed(client as u64, time, bytes, |record| log.record(record));
         if let Err(refusal) = result {
             log.refusal(refusal);
@@ -257,6 +285,19 @@ impl Evening {
     }
 }
 
+/// Leaves the table in the folder, begins a trace there, and says how both are
+/// replayed.
+fn recorder(folder: &Path, table: &[u8], time: u64) -> Result<Recorder<File>, String> {
+    let at = |path: &Path, error: io::Error| format!("{}: {error}", path.display());
+    let (table_file, trace) = (folder.join("table"), folder.join("trace"));
+    fs::create_dir_all(folder).map_err(|error| at(folder, error))?;
+    let recorder = Recorder::create(&trace).map_err(|error| at(&trace, error))?;
+    fs::write(&table_file, table).map_err(|error| at(&table_file, error))?;
+    let (table, trace) = (table_file.display(), trace.display());
+    eprintln!("Recorded: ./night {table} {time} {trace} replays it.");
+    Ok(recorder)
+}
+
 /// What a driver's report did.
 fn told_by_driver(log: &mut Log, result: Result<Records, Refusal>) {
     match result {
@@ -271,8 +312,9 @@ fn error_named(name: &str) -> Result<SensorError, String> {
     found.ok_or_else(|| format!("there is no error {name}"))
 }
 
-/// Plays a script and gives what is printed.
-fn told(script: &str) -> Result<String, String> {
+/// Plays a script, recorded in the folder if there is one, and gives what is
+/// printed.
+fn told(script: &str, folder: Option<&Path>) -> Result<String, String> {
     let entries = entries(script)?;
     let Some((Entry::Event(first), rest)) = entries.split_first() else {
         return Err("the script doesn't begin with an event".to_string());
@@ -280,7 +322,7 @@ fn told(script: &str) -> Result<String, String> {
     let Act::Start = first.act else {
         return Err(fault(first.line, "the node hasn't started"));
     };
-    let mut evening = Evening::start(first)?;
+    let mut evening = Evening::start(first, folder)?;
     for entry in rest {
         match entry {
             Entry::Caption(text) => evening.log.caption(text),
@@ -293,10 +335,28 @@ fn told(script: &str) -> Result<String, String> {
     Ok(evening.log.text)
 }
 
+/// The folder after `--record`, and the script.
+fn arguments() -> Option<(Option<PathBuf>, String)> {
+    let arguments: Vec<String> = env::args().skip(1).collect();
+    let arguments: Vec<&str> = arguments.iter().map(String::as_str).collect();
+    let (folder, rest) = match arguments[..] {
+        ["--record", folder, ref rest @ ..] => (Some(PathBuf::from(folder)), rest.to_vec()),
+        _ => (None, arguments),
+    };
+    match rest[..] {
+        [] => Some((folder, SCRIPT.to_string())),
+        [path] if !path.starts_with('-') => Some((folder, path.to_string())),
+        _ => None,
+    }
+}
+
 fn main() {
-    let path = env::args().nth(1).unwrap_or_else(|| SCRIPT.to_string());
+    let Some((folder, path)) = arguments() else {
+        eprintln!("usage: evening [--record FOLDER] [SCRIPT]");
+        process::exit(2);
+    };
     let script = fs::read_to_string(&path).map_err(|error| error.to_string());
-    match script.and_then(|script| told(&script)) {
+    match script.and_then(|script| told(&script, folder.as_deref())) {
         Ok(text) => print!("{text}"),
         Err(error) => {
             eprintln!("{path}: {error}");

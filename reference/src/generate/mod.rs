@@ -9,6 +9,7 @@ pub mod encode;
 pub mod histories;
 pub mod lines;
 pub mod names;
+pub mod nights;
 mod parts;
 pub mod quieter;
 mod ramps;

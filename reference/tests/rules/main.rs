@@ -10,6 +10,7 @@ mod kept;
 mod lines;
 mod program;
 mod quieter;
+mod replay;
 mod reports;
 mod tables;
 mod values;
