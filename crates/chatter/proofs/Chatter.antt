@@ -23,7 +23,8 @@ use Rattle.chatter.proofs.Singles.{stays-taken}
 
 near-begin : (c : ℕ) (out : ℕ → Bool) (w : Table) (t : ℕ) → Near c out (begin w t) (begin w t)
 unfolding begin isOpen lineOf
-near-begin c out w t = record { values = refl; client = refl; each = λ d. record { opened = refl; line = go (out d) } }
+near-begin c out w t =
+    record { values = refl; client = refl; counts = refl; stopped = refl; each = λ d. record { opened = refl; line = go (out d) } }
   where
     go : (q : Bool) → whole [] ≡ cond q (whole []) (whole [])
     go true = refl
@@ -37,6 +38,7 @@ unreached table n c f h k a t =
       accepted = a;
       sameRecords = t .sends;
       sameValues = t .nodes .values;
+      sameCounts = t .nodes .counts;
       sameClient = t .nodes .client;
       sameOpen = λ d. t .nodes .each d .opened;
       sameLines = λ d. t .nodes .each d .line;

@@ -2,26 +2,28 @@
 use Prim.Native.Nat.{ℕ}
 use mathlib.Core.Bool.{Bool, false, true, cond, not, _&&_, _||_}
 use mathlib.Core.List.{List, [], _∷_, _++_}
-use mathlib.Core.Path.{_≡_, refl, sym, ap}
+use mathlib.Core.Path.{_≡_, refl, sym, ap, ap₂, subst}
 use lib.Dec.{eqb, ltb}
 use lib.ListN.{length}
+use borrow.Author.Tests.{eqb-true}
 use Rattle.table.specs.Table.{Parameter, Command, Table}
 use Rattle.table.specs.Search.{Placed, parameters}
 use Rattle.message.specs.Line.{Parts}
 use Rattle.message.specs.Request.{Request}
-use Rattle.message.specs.Reply.{valued, Report, Reply, active, inactive, changed}
+use Rattle.message.specs.Reply.{valued, Report, Reply, active, inactive, changed, counted}
 use Rattle.outbox.specs.Outbox.{Record, orderChange, orderCommand}
-use Rattle.plain.specs.Node.{Value, Node, withClient, Setting, settingValue, isActive, activated, reportOf, updatesOf}
+use Rattle.plain.specs.Node.{Value, Node, withClient, Setting, settingValue, isActive, activeCount, activated, reportOf, updatesOf}
 use Rattle.plain.specs.Answer.{Outcome, carried, statusOf, busySettings, argumentForm, activates, deactivates, sets, outcome}
-use Rattle.plain.proofs.Outcomes.{nodeAfter, before, replyTo, ordering, outcomes-hold, outcome-holds}
+use Rattle.plain.proofs.Outcomes.{nodeAfter, before, replyTo, ordering, counting, all-hold, outcome-holds}
 use Rattle.chatter.specs.Without.{Choice, sentTo, orders, ordersLess}
 use Rattle.chatter.proofs.Records.{Updates, updates-less, of-updates, changeUpdates, change-updates, none-ordered, sent-change, sent-of}
 use Rattle.chatter.proofs.Near.{beside-activated-left, beside-activated, Near, near-settings, near-by, near-left, Told}
 
--- what a line comes to at the nodes m and n
-pub record Same (c : ℕ) (f : Choice) (out : ℕ → Bool) (k : ℕ → ℕ) (p : Parts) (m n : Node) (o q : Outcome) : Type 0 where
+-- what a line of client d comes to at the nodes m and n
+pub record Same (c : ℕ) (f : Choice) (out : ℕ → Bool) (k : ℕ → ℕ) (d : ℕ) (p : Parts) (m n : Node) (o q : Outcome) : Type 0 where
   pub told : Told c f out k (nodeAfter m o, before o) (nodeAfter n q, before q)
-  pub reply : replyTo p q ≡ replyTo p o
+  -- the reply, if it is client c's; another may be told other counts of its own
+  pub reply : eqb c d ≡ true → replyTo p q ≡ replyTo p o
 
 -- A line of client d.
 module _ (c : ℕ) (f : Choice) (out : ℕ → Bool) (k : ℕ → ℕ) (w : Table) (d now : ℕ) (p : Parts) (m n : Node) (h : Near c out m n) where
@@ -33,7 +35,7 @@ module _ (c : ℕ) (f : Choice) (out : ℕ → Bool) (k : ℕ → ℕ) (w : Tabl
   -- ## A line that stays
 
   abbrev Agree : Outcome → Outcome → Type 0
-  Agree o q = Same c f out k p m n o q
+  Agree o q = Same c f out k d p m n o q
 
   -- a change of the client's active modules, by what they were
   agree-active : (g : (ℕ → Bool) → ℕ → Bool) (rs : (ℕ → Value) → List Record) → ((v : ℕ → Value) → Updates (rs v)) → (r : Reply)
@@ -49,7 +51,7 @@ module _ (c : ℕ) (f : Choice) (out : ℕ → Bool) (k : ℕ → ℕ) (w : Tabl
               sends = ap (λ v. sentTo c (rs v)) (h .values);
               ordered = none-ordered f k (rs (m .values)) (rs (n .values)) (u (m .values)) (u (n .values));
             };
-        reply = refl;
+        reply = λ e. refl;
       }
 
   agree-sets : (j : ℕ × Placed Parameter) (v : List ℕ) → Agree (sets w m d now j v) (sets w n d now j v)
@@ -69,7 +71,7 @@ module _ (c : ℕ) (f : Choice) (out : ℕ → Bool) (k : ℕ → ℕ) (w : Tabl
                   (none-ordered f k (changeUpdates (m .clients) o now i r) (changeUpdates (n .clients) o now i r)
                   (change-updates (m .clients) o now i r) (change-updates (n .clients) o now i r));
             };
-        reply = refl;
+        reply = λ e. refl;
       }
 
   agree-does : f d (k d) ≡ false → (j : ℕ × Placed Command) (v : List ℕ) → Agree (ordering m d now j v) (ordering n d now j v)
@@ -82,18 +84,30 @@ module _ (c : ℕ) (f : Choice) (out : ℕ → Bool) (k : ℕ → ℕ) (w : Tabl
               sends = refl;
               ordered = ap (λ q. cond q [] (orderCommand d (j .0) (argumentForm (j .1 .it .argument) v) ∷ []) ++ []) (sym e);
             };
-        reply = refl;
+        reply = λ e. refl;
+      }
+
+  -- client c is told the same counts
+  agree-counts : Agree (counting w m d now) (counting w n d now)
+  agree-counts =
+      record {
+        told = still;
+        reply = λ e.
+            subst
+            (λ i. counted (n .counts i) (activeCount w (n .clients i)) now ≡ counted (m .counts i) (activeCount w (m .clients i)) now)
+            (eqb-true c d e)
+            (ap₂ (λ x y. counted x (activeCount w y) now) (h .counts) (h .client));
       }
 
   -- What it says is carried out alike, if it is not chosen.
   pub agree : f d (k d) ≡ false → (q : Request) → Agree (outcome w m d now q) (outcome w n d now q)
   unfolding activates deactivates
   agree e =
-      outcomes-hold w m n (sym (h .values)) d now (λ q. Agree)
+      all-hold w m n (sym (h .values)) d now (λ q. Agree)
       (record {
-        bad = λ q x. record { told = still; reply = refl };
-        failing = λ j x t y z. record { told = still; reply = refl };
-        telling = λ q r y. record { told = still; reply = refl };
+        bad = λ q x. record { told = still; reply = λ e. refl };
+        failing = λ j x t y z. record { told = still; reply = λ e. refl };
+        telling = λ q r y. record { told = still; reply = λ e. refl };
         activating = λ s g y.
             agree-active
             (λ a i. a i || (ltb i (length (w .modules)) && g i))
@@ -104,6 +118,7 @@ module _ (c : ℕ) (f : Choice) (out : ℕ → Bool) (k : ℕ → ℕ) (w : Tabl
         setting = λ j v y. agree-sets j _;
         doing = λ j v y. agree-does e j v;
       })
+      agree-counts
 
   -- ## A line that is left out
 

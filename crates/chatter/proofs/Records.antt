@@ -1,15 +1,17 @@
 -- What a client is sent, and the driver's orders, among records laid end to end and among updates. Assumes nothing.
-use Prim.Native.Nat.{ℕ, suc}
-use mathlib.Core.Bool.{Bool, true, false, cond}
+use Prim.Native.Nat.{ℕ, suc, _+_}
+use native.Mathlib.Nat.{zero-add}
+use mathlib.Core.Bool.{Bool, true, false, cond, _&&_, false≢true}
 use mathlib.Core.List.{List, [], _∷_, _++_, append-assoc}
 use mathlib.Core.Option.{Option, none, some}
 use mathlib.Core.Path.{_≡_, refl, sym, _∙_, ap, ap₂, subst}
 use lib.Dec.{eqb}
-use borrow.Author.Tests.{eqb-true}
+use borrow.Author.Tests.{eqb-true, eq-eqb, ne-eqb}
 use Rattle.table.specs.Table.{Parameter}
 use Rattle.table.specs.Search.{Placed}
-use Rattle.message.specs.Reply.{Report}
+use Rattle.message.specs.Reply.{Report, isError}
 use Rattle.outbox.specs.Outbox.{Record, final, update, orderChange, orderCommand}
+use Rattle.outbox.specs.Sent.{errorTo, updateTo, errorsSent, updatesSent}
 use Rattle.plain.specs.Node.{Client, Value, isActive, reportOf, clientNumbers, updatesTo, updatesOf}
 use Rattle.plain.specs.Answer.{busyUpdates}
 use Rattle.rule.proofs.Laws.{NoFinal}
@@ -45,6 +47,40 @@ less-append f k (orderChange d p v ∷ x) y h = ap (orderChange d p v ∷_) (les
 less-append f k (orderCommand d p v ∷ x) y h =
     ap (cond (f d (k d)) [] (orderCommand d p v ∷ []) ++_) (less-append f k x y (h .1))
     ∙ sym (append-assoc (cond (f d (k d)) [] (orderCommand d p v ∷ [])) _ _)
+
+-- ## Counts
+
+-- what is counted of client c is counted of what it is sent
+eqb-turned : (c d : ℕ) (q : Bool) → eqb c d ≡ q → eqb d c ≡ q
+eqb-turned c d true e = eq-eqb d c (sym (eqb-true c d e))
+eqb-turned c d false e = ne-eqb d c (λ i. false≢true (sym e ∙ eq-eqb c d (sym i)))
+
+counted-heard : (g : ℕ → Record → ℕ) (c d : ℕ) (x : Record) → (eqb d c ≡ false → g c x ≡ 0) → (rs : List Record)
+    → (G : List Record → ℕ) → ((y : Record) (ys : List Record) → G (y ∷ ys) ≡ g c y + G ys) → G rs ≡ G (sentTo c rs)
+    → G (x ∷ rs) ≡ G (cond (eqb c d) (x ∷ []) [] ++ sentTo c rs)
+counted-heard g c d x free rs G each h = go (eqb c d) refl
+  where
+    go : (q : Bool) → eqb c d ≡ q → G (x ∷ rs) ≡ G (cond q (x ∷ []) [] ++ sentTo c rs)
+    go true e = each x rs ∙ ap (g c x +_) h ∙ sym (each x (sentTo c rs))
+    go false e = each x rs ∙ ap₂ _+_ (free (eqb-turned c d false e)) h ∙ zero-add (G (sentTo c rs))
+
+pub errors-heard : (c : ℕ) (rs : List Record) → errorsSent c rs ≡ errorsSent c (sentTo c rs)
+unfolding errorsSent sentTo errorTo
+errors-heard c [] = refl
+errors-heard c (final d r ∷ rs) =
+    counted-heard errorTo c d (final d r) (λ e. ap (λ q. cond (q && isError r) 1 0) e) rs (errorsSent c) (λ y ys. refl) (errors-heard c rs)
+errors-heard c (update d r ∷ rs) = counted-heard errorTo c d (update d r) (λ e. refl) rs (errorsSent c) (λ y ys. refl) (errors-heard c rs)
+errors-heard c (orderChange d p v ∷ rs) = zero-add (errorsSent c rs) ∙ errors-heard c rs
+errors-heard c (orderCommand d p v ∷ rs) = zero-add (errorsSent c rs) ∙ errors-heard c rs
+
+pub updates-heard : (c : ℕ) (rs : List Record) → updatesSent c rs ≡ updatesSent c (sentTo c rs)
+unfolding updatesSent sentTo updateTo
+updates-heard c [] = refl
+updates-heard c (final d r ∷ rs) = counted-heard updateTo c d (final d r) (λ e. refl) rs (updatesSent c) (λ y ys. refl) (updates-heard c rs)
+updates-heard c (update d r ∷ rs) =
+    counted-heard updateTo c d (update d r) (λ e. ap (λ q. cond q 1 0) e) rs (updatesSent c) (λ y ys. refl) (updates-heard c rs)
+updates-heard c (orderChange d p v ∷ rs) = zero-add (updatesSent c rs) ∙ updates-heard c rs
+updates-heard c (orderCommand d p v ∷ rs) = zero-add (updatesSent c rs) ∙ updates-heard c rs
 
 -- ## Updates
 

@@ -3,11 +3,12 @@ use Prim.Native.Nat.{ℕ, suc, _+_}
 use mathlib.Core.Bool.{Bool, true, false, cond, not, _&&_, and-eq-true-iff, false≢true}
 use mathlib.Core.List.{List, [], _∷_, _++_, append-assoc}
 use mathlib.Core.Option.{Option, none, some}
-use mathlib.Core.Path.{_≡_, refl, sym, _∙_, ap, subst}
+use mathlib.Core.Path.{_≡_, refl, sym, _∙_, ap, ap₂, subst}
 use lib.Dec.{eqb}
 use lib.ListN.{getElem?}
 use native.Mathlib.Omega.{arith}
 use borrow.Author.Tests.{eqb-true, eq-eqb}
+use Rattle.counter.specs.Counts.{noCounts}
 use Rattle.table.specs.Table.{Parameter, Table}
 use Rattle.table.specs.Search.{Placed, parameters}
 use Rattle.fit.specs.Fit.{storedForm}
@@ -16,7 +17,7 @@ use Rattle.message.specs.Line.{Line, Parts, whole, content, partsOf}
 use Rattle.message.specs.Request.{request}
 use Rattle.message.specs.Reply.{Held, valued, failed, Report, Reply, changed}
 use Rattle.outbox.specs.Outbox.{Record, final}
-use Rattle.plain.specs.Node.{Client, closed, Node, put, withClient, Setting, settingValue, fresh, lineOf, receive, emptied, reportOf, clientNumbers, updatesTo}
+use Rattle.plain.specs.Node.{Client, closed, Node, put, withClient, counting, Setting, settingValue, fresh, lineOf, receive, emptied, reportOf, clientNumbers, updatesTo}
 use Rattle.plain.specs.Answer.{Outcome, outcome, answerParts, answer}
 use Rattle.plain.specs.Calls.{Effect, driverEffect, readingEffect, unreadableEffect}
 use Rattle.plain.specs.History.{Mark, feeds, opens, closes, reads, fails, Item, byte, mark, markOf, itemOf, consIf, own, after, runNode, runSent, joined}
@@ -26,8 +27,8 @@ use Rattle.plain.proofs.Outcomes.{nodeAfter, before, replyTo, concluded}
 use Rattle.rule.proofs.Calls.{quiet, idle}
 use Rattle.second.proofs.Runs.{outOf, run}
 use Rattle.chatter.specs.Without.{Choice, oneMore, isEnded, without, sentTo, orders, ordersLess}
-use Rattle.chatter.proofs.Records.{to-updates, none-ordered, sent-to}
-use Rattle.chatter.proofs.Near.{Beside, beside-emptied, beside-left, beside-byte, beside-byte-left, Near, near-out, near-settings, near-put, near-by, near-left, Told, told-append, told-final, told-final-left}
+use Rattle.chatter.proofs.Records.{sent-append, to-updates, none-ordered, sent-to}
+use Rattle.chatter.proofs.Near.{Beside, beside-emptied, beside-left, beside-byte, beside-byte-left, Near, near-out, near-settings, near-counted, near-counted-left, near-count, near-line, near-count-left, near-put, near-by, near-left, Told, told-append, final-same, told-final, told-final-left}
 use Rattle.chatter.proofs.Lines.{agree, aside}
 
 -- ## Replies that are still to come
@@ -124,13 +125,10 @@ module _ (w : Table) (c : ℕ) (f : Choice) (mine : (i : ℕ) → f c i ≡ fals
           g
 
   -- an open or a close: a client that has nothing of before
-  claim-new : (i : Mark) (d : ℕ) (z : Client) (k : ℕ → ℕ) (x : List Item) → ((e : ℕ) → markOf e i ≡ eqb e d) → lineOf z ≡ whole [] → Claim k x
-      → (m n : Node) → Near c (going f k (mark i ∷ x)) m n → Fine f k (run w (withClient m d z) x .1)
-      → Told c f (λ e. false) k (run w (withClient m d z) x) (run w (withClient n d z) (without f k x))
-  claim-new i d z k x own s claim m n h g =
-      claim _ _
-      (near-put c _ _ m n d h (λ e t. going-mark f k d x i e (own e ∙ t)) z z (λ e. refl) (record { opened = refl; line = go (going f k x d) }))
-      g
+  near-new : (i : Mark) (d : ℕ) (z : Client) (k : ℕ → ℕ) (x : List Item) → ((e : ℕ) → markOf e i ≡ eqb e d) → lineOf z ≡ whole []
+      → (m n : Node) → Near c (going f k (mark i ∷ x)) m n → Near c (going f k x) (withClient m d z) (withClient n d z)
+  near-new i d z k x own s m n h =
+      near-put c _ _ m n d h (λ e t. going-mark f k d x i e (own e ∙ t)) z z (λ e. refl) (record { opened = refl; line = go (going f k x d) })
     where
       go : (q : Bool) → lineOf z ≡ cond q (whole []) (lineOf z)
       go true = s
@@ -151,11 +149,12 @@ module _ (w : Table) (c : ℕ) (f : Choice) (mine : (i : ℕ) → f c i ≡ fals
       let s : Setting = record { parameter = p; held = z; time = t } in
       let r = reportOf y (settingValue s) in
       let q = updates-to-no-final (m .clients) (y .home) r clientNumbers in
-      let a = near-settings c _ m n (s ∷ []) h in
+      let e = sent-to c (m .clients) (n .clients) (h .client) (y .home) r clientNumbers in
+      let a = near-counted c _ _ _ (near-settings c _ m n (s ∷ []) h) _ _ e in
       told-append c f (λ d. false) (going f k x) k _ _ _ _ q
       (record {
         nodes = a;
-        sends = sent-to c (m .clients) (n .clients) (h .client) (y .home) r clientNumbers;
+        sends = e;
         ordered = none-ordered f k _ _ (to-updates (m .clients) (y .home) r clientNumbers) (to-updates (n .clients) (y .home) r clientNumbers);
       })
       (claim _ _ a (fine-append f k (updatesTo (m .clients) (y .home) r clientNumbers) _ q g))
@@ -180,9 +179,16 @@ module _ (w : Table) (c : ℕ) (f : Choice) (mine : (i : ℕ) → f c i ≡ fals
     abbrev Of : Node → Parts → Outcome
     Of m p = outcome w (idle m d) d t (request p)
 
+    -- what it sends, and the node that it leaves
+    abbrev sentBy : Node → Parts → List Record
+    sentBy m p = before (Of m p) ++ (final d (replyTo p (Of m p)) ∷ [])
+
+    abbrev leftBy : Node → Parts → Node
+    leftBy m p = counting (nodeAfter (idle m d) (Of m p)) (sentBy m p)
+
     abbrev lineThen : Node → Parts → List Item → Node × List Record
     lineThen m p x =
-        let a = run w (nodeAfter (idle m d) (Of m p)) x in
+        let a = run w (leftBy m p) x in
         (a .0, before (Of m p) ++ (final d (replyTo p (Of m p)) ∷ a .1))
 
     run-line : (m : Node) (l : Line) (x : List Item) → lineOf (m .clients d) ≡ l
@@ -191,12 +197,28 @@ module _ (w : Table) (c : ℕ) (f : Choice) (mine : (i : ℕ) → f c i ≡ fals
     run-line m l x e =
         let p = partsOf (content l) in
         ap
-        (λ a. (run w (a .0) x .0, a .1 ++ run w (a .0) x .1))
-        (ap (λ z. answerParts w (idle m d) d t (partsOf (content z))) e ∙ concluded w (idle m d) d t p (Of m p))
+        (λ (a : Node × List Record). (run w (a .0) x .0, a .1 ++ run w (a .0) x .1))
+        (ap
+        (λ (r : Node × List Record). (counting (r .0) (r .1), r .1))
+        (ap (λ z. answerParts w (idle m d) d t (partsOf (content z))) e ∙ concluded w (idle m d) d t p (Of m p)))
         ∙ λ i. (
-          run w (nodeAfter (idle m d) (Of m p)) x .0,
-          append-assoc (before (Of m p)) (final d (replyTo p (Of m p)) ∷ []) (run w (nodeAfter (idle m d) (Of m p)) x .1) i,
+          run w (leftBy m p) x .0,
+          append-assoc (before (Of m p)) (final d (replyTo p (Of m p)) ∷ []) (run w (leftBy m p) x .1) i,
         )
+
+    -- what is sent, the reply among it
+    sent-same : (a b : List Record) (r s : Reply) → sentTo c b ≡ sentTo c a → (eqb c d ≡ true → s ≡ r)
+        → sentTo c (b ++ (final d s ∷ [])) ≡ sentTo c (a ++ (final d r ∷ []))
+    unfolding sentTo
+    sent-same a b r s e i =
+        sent-append c b (final d s ∷ [])
+        ∙ ap₂ _++_ e (ap (_++ []) (final-same c d r s i (eqb c d) refl))
+        ∙ sym (sent-append c a (final d r ∷ []))
+
+    sent-left : (a : List Record) (r : Reply) → eqb c d ≡ false → sentTo c [] ≡ sentTo c a → sentTo c (a ++ (final d r ∷ [])) ≡ []
+    unfolding sentTo
+    sent-left a r e i =
+        sent-append c a (final d r ∷ []) ∙ ap₂ (λ x q. x ++ (cond q (final d r ∷ []) [] ++ [])) (sym i) e
 
     module _ (k : ℕ → ℕ) (x : List Item) (claim : Claim (oneMore k d) x) (m n : Node) (h : Near c (going f k (mark (feeds d t) ∷ x)) m n)
         (g : Fine f k (run w m (mark (feeds d t) ∷ x) .1)) where
@@ -217,7 +239,7 @@ module _ (w : Table) (c : ℕ) (f : Choice) (mine : (i : ℕ) → f c i ≡ fals
       still : NoFinal (before (Of m p))
       still = quiet w (idle m d) d t (request p)
 
-      fine : Fine f k (final d (replyTo p (Of m p)) ∷ run w (nodeAfter (idle m d) (Of m p)) x .1)
+      fine : Fine f k (final d (replyTo p (Of m p)) ∷ run w (leftBy m p) x .1)
       fine =
           fine-append f k (before (Of m p)) _ still
           (subst (λ (a : Node × List Record). Fine f k (a .1)) (run-line m (lineOf (m .clients d)) x refl) g)
@@ -227,10 +249,11 @@ module _ (w : Table) (c : ℕ) (f : Choice) (mine : (i : ℕ) → f c i ≡ fals
       feed-left s =
           let e = another d (k d) s in
           let near : Near c out (idle m d) n =
-          near-left c _ out m n d h others (emptied (m .clients d)) e (beside-left (out d) _ _ (beside true s)) in
+          near-count-left c _ _ _ (near-left c _ out m n d h others (emptied (m .clients d)) e (beside-left (out d) _ _ (beside true s))) d _ e in
           let a =
           aside c f out k w d t p (idle m d) n near e s (request p) (λ y v. false≢true (sym (fine-now f k d _ _ fine y v) ∙ s)) in
-          let b = claim (nodeAfter (idle m d) (Of m p)) n (a .nodes) (fine-later f k d _ _ fine) in
+          let u = near-counted-left c _ _ _ (a .nodes) (sentBy m p) (sent-left (before (Of m p)) (replyTo p (Of m p)) e (a .sends)) in
+          let b = claim (leftBy m p) n u (fine-later f k d _ _ fine) in
           subst
           (λ z. Told c f (λ e. false) k z (run w n (without f (oneMore k d) x)))
           (sym (run-line m (lineOf (m .clients d)) x refl))
@@ -240,9 +263,12 @@ module _ (w : Table) (c : ℕ) (f : Choice) (mine : (i : ℕ) → f c i ≡ fals
           → Told c f (λ e. false) k (run w m (mark (feeds d t) ∷ x)) (run w n (mark (feeds d t) ∷ without f (oneMore k d) x))
       feed-kept s =
           let near : Near c out (idle m d) (idle n d) =
-          near-by c _ out m n d h others emptied (beside-emptied (out d) _ _ (h .each d .opened)) in
+          near-line c _ _ _ (near-by c _ out m n d h others emptied (beside-emptied (out d) _ _ (h .each d .opened))) d in
           let a = agree c f out k w d t p (idle m d) (idle n d) near s (request p) in
-          let b = claim (nodeAfter (idle m d) (Of m p)) (nodeAfter (idle n d) (Of n p)) (a .told .nodes) (fine-later f k d _ _ fine) in
+          let u =
+          near-counted c _ _ _ (a .told .nodes) (sentBy m p) (sentBy n p)
+          (sent-same (before (Of m p)) (before (Of n p)) _ _ (a .told .sends) (a .reply)) in
+          let b = claim (leftBy m p) (leftBy n p) u (fine-later f k d _ _ fine) in
           let r =
           told-append c f (λ e. false) out k _ _ _ _ still (a .told)
           (told-final c f (λ e. false) k d _ _ b (replyTo p (Of m p)) (replyTo p (Of n p)) (a .reply)) in
@@ -271,8 +297,9 @@ module _ (w : Table) (c : ℕ) (f : Choice) (mine : (i : ℕ) → f c i ≡ fals
   claims [] k m n h g = record { nodes = near-out c _ _ m n (λ d. refl) h; sends = refl; ordered = refl }
   claims (byte d b ∷ x) k m n h g = claim-byte d b k x (claims x k) m n h g
   claims (mark (feeds d t) ∷ x) k m n h g = claim-feed d t k x (claims x (oneMore k d)) m n h g
-  claims (mark (opens d t) ∷ x) k m n h g = claim-new (opens d t) d fresh k x (λ e. refl) refl (claims x k) m n h g
-  claims (mark (closes d t) ∷ x) k m n h g = claim-new (closes d t) d closed k x (λ e. refl) refl (claims x k) m n h g
+  claims (mark (opens d t) ∷ x) k m n h g =
+      claims x k _ _ (near-count c _ _ _ (near-new (opens d t) d fresh k x (λ e. refl) refl m n h) d noCounts noCounts (λ e. (refl, refl))) g
+  claims (mark (closes d t) ∷ x) k m n h g = claims x k _ _ (near-new (closes d t) d closed k x (λ e. refl) refl m n h) g
   claims (mark (reads i bs t) ∷ x) k m n h g =
       claim-reading i bs t k x (claims x k) (getElem? (parameters w) i) m n
       (near-out c _ _ m n (λ e. going-mark f k 0 x (reads i bs t) e refl) h)

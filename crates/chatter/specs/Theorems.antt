@@ -29,6 +29,8 @@ pub record Unreached (table : List ℕ) (n : Node) (c : ℕ) (f : Choice) (h k :
   pub sameRecords : sentTo c (sent (answers table n k)) ≡ sentTo c (sent (answers table n h))
   -- "and so are all values, errors": each parameter's value, or the error in its place, and its time
   pub sameValues : finish table n k .values ≡ finish table n h .values
+  -- "and this client's counts"
+  pub sameCounts : finish table n k .counts c ≡ finish table n h .counts c
   -- the client itself: whether it is open, its unfinished line, its active modules
   pub sameClient : finish table n k .clients c ≡ finish table n h .clients c
   -- and who else is open, with which unfinished line

@@ -3,8 +3,8 @@ ghost use mathlib.Core.Bool.{true};
 ghost use mathlib.Core.Path.{_≡_};
 ghost use Rattle.chatter.specs.Theorems.{ChatterDoesNotReach, LinesCanBeLeftOut, Worked};
 
-// With other clients' lines left out that are not accepted changes, a client is sent the same, values and errors are the same, and the driver's
-// orders are the same less the left-out commands.
+// With other clients' lines left out that are not accepted changes, a client is sent the same, values, errors and its counts are the same, and the
+// driver's orders are the same less the left-out commands.
 pub fn chatter_does_not_reach() -> bool
     ensures { λ r. ⌜ (r ≡ true) × ChatterDoesNotReach ⌝ }
 {

@@ -26,8 +26,8 @@ pub fn lines_are_sent() -> bool
     true
 }
 
-// With other clients' lines left out that are not accepted changes, what is read off the bytes for a client is the same, and so are all values and
-// errors; the driver's orders are the same less the left-out commands.
+// With other clients' lines left out that are not accepted changes, what is read off the bytes for a client is the same, and so are all values,
+// errors and its counts; the driver's orders are the same less the left-out commands.
 pub fn chatter_does_not_reach() -> bool
     ensures { λ r. ⌜ (r ≡ true) × ChatterDoesNotReachTheCode ⌝ }
 {

@@ -5,7 +5,7 @@ use crate::build::{lab, OUTBOX, VALUES};
 use crate::generated::{course, some_histories};
 use reference::generate::quieter::{orders, quieter, Quieter};
 use reference::history::{Call, History};
-use reference::node::{Held, CLIENTS};
+use reference::node::{State, CLIENTS};
 use reference::outbox::{self, Mark, Record};
 
 fn open(client: u64) -> Call {
@@ -104,13 +104,13 @@ fn without_feeds(events: &mut Vec<String>, client: usize, left_out: &[bool]) {
     events.retain(|event| !(event.starts_with(&feed) && *left_out.next().unwrap()));
 }
 
-/// What a history sends, and what the node holds of its parameters at its end.
-fn ends(history: &History) -> (Vec<Record>, Vec<Held>) {
+/// What a history sends, and what the node holds at its end.
+fn ends(history: &History) -> (Vec<Record>, State) {
     let outcome = history.run().unwrap();
     let sent: Vec<u8> = (outcome.answers.iter())
         .flat_map(|answer| answer.outbox.clone())
         .collect();
-    (outbox::read(&sent).unwrap(), outcome.end.parameters)
+    (outbox::read(&sent).unwrap(), outcome.end)
 }
 
 #[test]
@@ -125,18 +125,20 @@ fn left_out_lines_are_nothing_to_the_client() {
             left_out,
             history,
         } = quieter;
-        let (whole, values) = ends(&first);
-        let (less, less_values) = ends(&history);
+        let (whole, end) = ends(&first);
+        let (less, less_end) = ends(&history);
         let to_client = |record: &&Record| record.is_to(client);
         let heard: Vec<&Record> = whole.iter().filter(to_client).collect();
         let less_heard: Vec<&Record> = less.iter().filter(to_client).collect();
         assert_eq!(less_heard, heard, "{seed}");
-        assert_eq!(less_values, values, "{seed}");
+        assert_eq!(less_end.parameters, end.parameters, "{seed}");
+        assert_eq!(less_end.counts[client], end.counts[client], "{seed}");
         let due = orders(&whole, &left_out);
         assert_eq!(orders(&less, &nothing(&less)), due, "{seed}");
         lines += left_out.iter().flatten().filter(|out| **out).count();
         commands += orders(&whole, &nothing(&whole)).len() - due.len();
-        errors += values.iter().filter(|held| held.error.is_some()).count();
+        let held = end.parameters.iter();
+        errors += held.filter(|held| held.error.is_some()).count();
     }
     let told = format!("{lines} {commands} {errors}");
     assert!(lines > 1_000 && commands > 20 && errors > 20, "{told}");
