@@ -5,7 +5,9 @@ use reference::definitions;
 use reference::error::ErrorClass;
 use reference::generate::nights::Night;
 use reference::generate::vectors::{self, ValueCase};
-use reference::generate::{borders, calls, directed, encode, histories, nights, second, small};
+use reference::generate::{
+    borders, calls, directed, encode, histories, nights, quieter, second, small,
+};
 use reference::history::History;
 use reference::operation;
 use reference::replay;
@@ -26,6 +28,8 @@ usage: reference COMMAND ...
                         CALLS is 40 unless given
   second SEED [CALLS]   the same history with other cuts and mingling,
                         refused calls left out
+  quieter SEED [CALLS]  the same again without lines of other clients that
+                        are not accepted changes, for one client
   small SEED            a small table and a handful of calls
   directed              the names of the directed small histories
   directed NUMBER       one of them
@@ -170,6 +174,8 @@ fn text_command(arguments: &[&str]) -> Result<String, String> {
         ["history", seed, calls] => print_run(&histories::history(number(seed)?, number(calls)?)),
         ["second", seed] => print_second(number(seed)?, DEFAULT_CALLS),
         ["second", seed, calls] => print_second(number(seed)?, number(calls)?),
+        ["quieter", seed] => print_quieter(number(seed)?, DEFAULT_CALLS),
+        ["quieter", seed, calls] => print_quieter(number(seed)?, number(calls)?),
         ["small", seed] => print_run(&small::history(number(seed)?)),
         ["directed"] => Ok(print_names()),
         ["directed", at] => print_run(&directed_history(number(at)?)?),
@@ -246,6 +252,13 @@ fn print_second(seed: u64, calls: usize) -> Result<String, String> {
     let second =
         second::second(&first, seed).ok_or(format!("the start of history {seed} is refused"))?;
     print_run(&second)
+}
+
+fn print_quieter(seed: u64, calls: usize) -> Result<String, String> {
+    let first = histories::history(seed, calls);
+    let quieter = quieter::quieter(&first, seed)
+        .ok_or(format!("nobody is sent anything in history {seed}"))?;
+    print_run(&quieter.history)
 }
 
 fn print_tables(seed: u64, count: usize) -> String {

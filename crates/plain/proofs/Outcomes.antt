@@ -102,8 +102,12 @@ pub record Kinds (w : Table) (m n : Node) (c now : ℕ) (Q : Request → Outcome
 
 -- ## Every request
 
-module _ (w : Table) (m n : Node) (same : m .values ≡ n .values) (c now : ℕ) (own : SameCounts w m n c)
-    (Q : Request → Outcome → Outcome → Type 0) (h : Kinds w m n c now Q) where
+-- what client c is told by a `_count`
+abbrev pub counting : Table → Node → ℕ → ℕ → Outcome
+counting w n c now = carried n [] [] (counted (n .counts c) (activeCount w (n .clients c)) now)
+
+module _ (w : Table) (m n : Node) (same : m .values ≡ n .values) (c now : ℕ) (Q : Request → Outcome → Outcome → Type 0) (h : Kinds w m n c now Q)
+    (told : Q count (counting w m c now) (counting w n c now)) where
   found-hold : {A : Type 0} (q : Request) (x : Class) (o : Option A) (f g : A → Outcome) → ((a : A) → o ≡ some a → Q q (f a) (g a))
       → Q q (found x o f) (found x o g)
   unfolding found
@@ -194,32 +198,34 @@ module _ (w : Table) (m n : Node) (same : m .values ≡ n .values) (c now : ℕ)
       let-in-hold (execute (k .1 .moduleName) (k .1 .it .name) v) (argumentVerdict (k .1 .it .argument) v) _ _
       (λ f. h .doing k v (record { there = t; fitting = f }))
 
-  count-hold : Q count (carried m [] [] (counted (m .counts c) (activeCount w (m .clients c)) now)) (carried n [] [] (counted (n .counts c) (activeCount w (n .clients c)) now))
-  count-hold = rw (own .counts, own .active) (h .telling count _ by-count)
-
-  -- What holds of each kind holds of what a request comes to at both nodes.
-  pub outcomes-hold : (q : Request) → Q q (outcome w m c now q) (outcome w n c now q)
+  -- What holds of each kind, and of a `_count`, holds of what a request comes to at both nodes.
+  pub all-hold : (q : Request) → Q q (outcome w m c now q) (outcome w n c now q)
   unfolding outcome
-  outcomes-hold identify = h .telling identify _ by-identify
-  outcomes-hold describe = h .telling describe _ by-describe
-  outcomes-hold (ping token) = h .telling (ping token) _ by-ping
-  outcomes-hold (activate s) = scope-hold activate (activates w m c now) (activates w n c now) (h .activating) s
-  outcomes-hold (deactivate s) = scope-hold deactivate (deactivates w m c now) (deactivates w n c now) (h .deactivating) s
-  outcomes-hold (read s a) =
+  all-hold identify = h .telling identify _ by-identify
+  all-hold describe = h .telling describe _ by-describe
+  all-hold (ping token) = h .telling (ping token) _ by-ping
+  all-hold (activate s) = scope-hold activate (activates w m c now) (activates w n c now) (h .activating) s
+  all-hold (deactivate s) = scope-hold deactivate (deactivates w m c now) (deactivates w n c now) (h .deactivating) s
+  all-hold (read s a) =
       named-hold (λ (x : Parameter). x .name) read s a NoSuchParameter (findParameter w s a) _ _ (parameter-named w s a)
       (λ k e. read-hold k (parameter-there w s a k e))
-  outcomes-hold (change s a v) =
+  all-hold (change s a v) =
       named-hold (λ (x : Parameter). x .name) (λ x y. change x y v) s a NoSuchParameter (findParameter w s a) _ _ (parameter-named w s a)
       (λ k e. change-hold v k (parameter-there w s a k e))
-  outcomes-hold (execute s a v) =
+  all-hold (execute s a v) =
       named-hold (λ (x : Command). x .name) (λ x y. execute x y v) s a NoSuchCommand (findCommand w s a) _ _ (command-named w s a)
       (λ k e. do-hold v k (command-there w s a k e))
-  outcomes-hold (check s a v) =
+  all-hold (check s a v) =
       edition-hold (check s a v) _ _ (λ t.
       named-hold (λ (x : Parameter). x .name) (λ x y. check x y v) s a NoSuchParameter (findParameter w s a) _ _ (parameter-named w s a)
       (λ k e. check-hold t v k (parameter-there w s a k e)))
-  outcomes-hold count = count-hold
-  outcomes-hold malformed = h .bad malformed ProtocolError
+  all-hold count = told
+  all-hold malformed = h .bad malformed ProtocolError
+
+-- The same where both tell the client that asks the same of itself.
+pub outcomes-hold : (w : Table) (m n : Node) → m .values ≡ n .values → (c now : ℕ) → SameCounts w m n c → (Q : Request → Outcome → Outcome → Type 0)
+    → Kinds w m n c now Q → (q : Request) → Q q (outcome w m c now q) (outcome w n c now q)
+outcomes-hold w m n same c now own Q h = all-hold w m n same c now Q h (rw (own .counts, own .active) (h .telling count _ by-count))
 
 -- The same at one node.
 pub outcome-holds : (P : Request → Outcome → Type 0) (w : Table) (n : Node) (c now : ℕ) → Kinds w n n c now (λ q o p. P q o)

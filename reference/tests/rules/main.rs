@@ -11,6 +11,7 @@ mod kept;
 mod lines;
 mod partial;
 mod program;
+mod quieter;
 mod replay;
 mod reports;
 mod tables;
