@@ -18,7 +18,7 @@ use std::path::Path;
 use std::process::ExitCode;
 
 const HELP: &str = "\
-The plain node of document 01 with M-102 and M-110, and generators for comparing others with it.
+The plain node of document 01 with M-102, M-110 and M-111, and generators for comparing others with it.
 
 usage: reference COMMAND ...
 
@@ -57,6 +57,9 @@ usage: reference COMMAND ...
                         `night` is tested with, or what is told of it
   night long EVENTS PART
                         the same of a night of so many events
+  night settings COUNT PART
+                        the same of a night in which an int and an enum have
+                        so many settings each
   nights SEED COUNT FOLDER
                         writes tables, times and traces for that, and what is
                         told of each, into FOLDER
@@ -110,6 +113,7 @@ fn command(arguments: &[&str]) -> Result<Vec<u8>, String> {
             write_nights(number(seed)?, number(count)?, Path::new(folder)).map(|()| Vec::new())
         }
         ["night", part] => night_part(&nights::directed(), part),
+        ["night", "settings", count, part] => night_part(&nights::settings(number(count)?), part),
         ["night", "long", events, part] => night_part(&nights::long(number(events)?), part),
         ["replay", table, time, trace] => Ok(replay::told(
             &content(table)?,

@@ -5,6 +5,7 @@ mod build;
 mod calls;
 mod directed;
 mod examples;
+mod figures;
 mod generated;
 mod kept;
 mod lines;

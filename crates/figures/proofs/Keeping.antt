@@ -1,0 +1,78 @@
+-- Laws of what is kept: one setting more, and no sum too large. Assumes nothing.
+use Prim.Native.Nat.{ℕ, zero, suc, _+_, _*_, _≤_, _<_}
+use native.Mathlib.Omega.{arith}
+use mathlib.Core.Bool.{Bool, true, false}
+use mathlib.Core.List.{List, []}
+use mathlib.Core.Path.{_≡_, refl, sym, ap, _∙_}
+use lib.Dec.{eqb, leb, ltb}
+use lib.ListN.{length, getD, set, replicate}
+use lib.Seq.{getD-set-same, getD-set-other}
+use borrow.Author.Tests.{lt-ltb, le-ltb, le-leb, lt-leb, ne-eqb, eqb-true, eqb-false, ltb-true, ltb-false}
+use Rattle.figures.specs.declared.Tally.{Tally}
+use Rattle.figures.specs.declared.Figures.{Figures}
+use Rattle.figures.specs.Figures.{full}
+use Rattle.figures.specs.Tally.{noSettings, lower, higher, noted, tallyAt, Bounded, observed, Observes}
+
+module _ (a b : ℕ) where
+  pub lower-first : a ≤ b → a ≡ lower a b
+  unfolding lower
+  lower-first h = rw (le-leb a b h)
+
+  pub lower-second : b < a → b ≡ lower a b
+  unfolding lower
+  lower-second h = rw (lt-leb a b h)
+
+  pub higher-first : b ≤ a → a ≡ higher a b
+  unfolding higher
+  higher-first h = rw (le-leb b a h)
+
+  pub higher-second : a < b → b ≡ higher a b
+  unfolding higher
+  higher-second h = rw (lt-leb b a h)
+
+module _ (t : Tally) (x : ℕ) where
+  pub noted-over : full ≤ t .count → t ≡ noted t x
+  unfolding noted
+  noted-over h = rw (le-ltb (t .count) full h)
+
+  pub noted-one : t .count ≡ 0 → record { count = 1; least = x; greatest = x; sum = x } ≡ noted t x
+  unfolding noted
+  noted-one e = rw e
+
+  pub noted-some : (l g : ℕ) → t .count < full → (t .count ≡ 0 → ⊥) → l ≡ lower (t .least) x → g ≡ higher (t .greatest) x
+      → record { count = t .count + 1; least = l; greatest = g; sum = t .sum + x } ≡ noted t x
+  unfolding noted
+  noted-some l g h n e f = rw (lt-ltb (t .count) full h, ne-eqb (t .count) 0 n, e, f)
+
+  pub noted-bounded : x ≤ 4294967296 → t .sum ≤ t .count * 4294967296 → noted t x .sum ≤ noted t x .count * 4294967296
+  noted-bounded l b = go (ltb (t .count) full) refl (eqb (t .count) 0) refl
+    where
+      go : (s : Bool) → ltb (t .count) full ≡ s → (u : Bool) → eqb (t .count) 0 ≡ u → noted t x .sum ≤ noted t x .count * 4294967296
+      go false e u f = rw (← noted-over (ltb-false (t .count) full e)) b
+      go true e true f = rw (← noted-one (eqb-true (t .count) 0 f)) (omega arith)
+      go true e false f =
+          rw (← noted-some (lower (t .least) x) (higher (t .greatest) x) (ltb-true (t .count) full e) (eqb-false (t .count) 0 f) refl refl) (omega arith)
+
+none-anywhere : (n k : ℕ) → getD (replicate n noSettings) k noSettings ≡ noSettings
+none-anywhere zero k = refl
+none-anywhere (suc n) zero = refl
+none-anywhere (suc n) (suc k) = none-anywhere n k
+
+pub none-bounded : Bounded (record { tallies = replicate 64 noSettings })
+none-bounded = record { all = λ k. rw (none-anywhere 64 k) (omega arith) }
+
+module _ (f : Figures) (k x : ℕ) (l : k < length (f .tallies)) where
+  pub observed-same : tallyAt (observed f k x) k ≡ noted (tallyAt f k) x
+  unfolding observed
+  observed-same = getD-set-same (f .tallies) k (noted (tallyAt f k) x) noSettings l
+
+  pub observed-other : (j : ℕ) → (j ≡ k → ⊥) → tallyAt (observed f k x) j ≡ tallyAt f j
+  unfolding observed
+  observed-other j n = getD-set-other (f .tallies) k j (noted (tallyAt f k) x) noSettings n
+
+  pub observed-bounded : x ≤ 4294967296 → Bounded f → Bounded (observed f k x)
+  observed-bounded h b = record { all = λ j. go j (eqb j k) refl }
+    where
+      go : (j : ℕ) (t : Bool) → eqb j k ≡ t → tallyAt (observed f k x) j .sum ≤ tallyAt (observed f k x) j .count * 4294967296
+      go j true e = rw (eqb-true j k e, observed-same) (noted-bounded (tallyAt f k) x h (b .all k))
+      go j false e = rw (observed-other j (eqb-false j k e)) (b .all j)
