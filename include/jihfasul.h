@@ -8,7 +8,8 @@
  * Table, values area, outbox, lines and values follow the rules of document 01; docs/LIBRARY.md tells how to link and what to lend.
  * Time is whole milliseconds, at most JIHFASUL_MAX_TIME; it may go back.
  *
- * The areas that are lent to one call must not overlap. A pointer may be anything where its length is 0.
+ * The areas that are lent to one call must not overlap. A pointer may be anything where its length is 0. A thread that makes calls
+ * has JIHFASUL_STACK bytes of its stack free.
  */
 #ifndef JIHFASUL_H
 #define JIHFASUL_H
@@ -29,6 +30,7 @@ extern "C" {
 #define JIHFASUL_MIN_OUTBOX 32768         /* bytes of an outbox, at least */
 #define JIHFASUL_MAX_TABLE 16384          /* bytes of a table, at most */
 #define JIHFASUL_MAX_TIME 9999999999999u  /* milliseconds */
+#define JIHFASUL_STACK 131072             /* bytes of stack, at most, that a call takes with the state handed in and the answer */
 
 /* Why a parameter can't be read, as its driver reports it. */
 enum jihfasul_error {

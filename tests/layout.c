@@ -22,6 +22,7 @@ static struct jihfasul_state state;
 
 static void print_layout(void)
 {
+    printf("stack of %d bytes\n", JIHFASUL_STACK);
     SIZE(state);
     FIELD(state, clients);
     FIELD(state, clients.open);

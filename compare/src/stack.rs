@@ -2,7 +2,7 @@
 //! filled with a pattern, and then it shows how far the pattern is gone.
 
 use crate::library::Library;
-use jihfasul::{Done, State};
+use jihfasul::{call::STACK, Done, State};
 use reference::generate::calls;
 use reference::history::Call;
 use reference::node::MIN_VALUES;
@@ -85,6 +85,12 @@ struct Deepest {
 }
 
 impl Deepest {
+    fn most(&self) -> usize {
+        let kept = self.start.max(self.open).max(self.close).max(self.value);
+        let sent = self.piece.max(self.reading).max(self.unreadable);
+        kept.max(sent)
+    }
+
     fn of(&mut self, call: &Call) -> &mut usize {
         match call {
             Call::Start { .. } => &mut self.start,
@@ -97,7 +103,8 @@ impl Deepest {
     }
 }
 
-pub fn print() -> ExitCode {
+/// Over the histories.
+fn deepest() -> Deepest {
     let mut stack = Stack::new();
     let mut deepest = Deepest::default();
     let mut library = Library::new(&[]);
@@ -110,6 +117,12 @@ pub fn print() -> ExitCode {
             Operation::Show(_) | Operation::Note(_) => {}
         }
     }
+    deepest
+}
+
+/// Prints it; a failure where it is more than callers are told.
+pub fn print() -> ExitCode {
+    let deepest = deepest();
     let (state, done) = (size_of::<State>(), size_of::<Done>());
     println!("a state has {state} bytes, an answer {done}");
     println!("deepest stack of a call, with the state handed in and the answer:");
@@ -120,7 +133,13 @@ pub fn print() -> ExitCode {
     println!("reading    {:6} bytes", deepest.reading);
     println!("unreadable {:6} bytes", deepest.unreadable);
     println!("value      {:6} bytes", deepest.value);
-    ExitCode::SUCCESS
+    let kept = deepest.most() <= STACK;
+    println!(
+        "stack: {} passed, {} failed",
+        u8::from(kept),
+        u8::from(!kept)
+    );
+    ExitCode::from(u8::from(!kept))
 }
 
 fn measure(stack: &mut Stack, deepest: &mut Deepest, library: &mut Library, call: &Call) {

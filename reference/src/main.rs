@@ -55,9 +55,10 @@ usage: reference COMMAND ...
                         the table in the file TABLE, started at TIME
   night PART            table, time or trace of the night that the program
                         `night` is tested with, or what is told of it
-  night long EVENTS PART
-                        the same of a night of so many events
-  night settings COUNT PART
+  night PART EVENTS 2|12
+                        the same of a night of so many events, over a table of
+                        2 or 12 modules
+  night PART settings COUNT
                         the same of a night in which an int and an enum have
                         so many settings each
   nights SEED COUNT FOLDER
@@ -113,8 +114,10 @@ fn command(arguments: &[&str]) -> Result<Vec<u8>, String> {
             write_nights(number(seed)?, number(count)?, Path::new(folder)).map(|()| Vec::new())
         }
         ["night", part] => night_part(&nights::directed(), part),
-        ["night", "settings", count, part] => night_part(&nights::settings(number(count)?), part),
-        ["night", "long", events, part] => night_part(&nights::long(number(events)?), part),
+        ["night", part, "settings", count] => night_part(&nights::settings(number(count)?), part),
+        ["night", part, events, modules @ ("2" | "12")] => {
+            night_part(&nights::long(number(events)?, number(modules)?), part)
+        }
         ["replay", table, time, trace] => Ok(replay::told(
             &content(table)?,
             number(time)?,

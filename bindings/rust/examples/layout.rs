@@ -11,6 +11,7 @@ const TABLE: &[u8] =
     b"ND\x01e\x01dMO\x01m\x01dPA\x01p\x01d\0\x03\0\x04truePA\x01q\x01d\0\x03\0\x05falseEN";
 
 fn print_layout() {
+    println!("stack of {} bytes", call::STACK);
     println!("state of {} bytes", size_of::<State>());
     println!("state clients at {}", offset_of!(State, clients));
     println!("state clients.open at {}", offset_of!(State, clients.open));

@@ -4,6 +4,10 @@
 
 use crate::state::{Done, Shown, State};
 
+/// The bytes of stack, at most, that a call takes with the state handed in and
+/// the answer.
+pub const STACK: usize = 131_072;
+
 /// The library's functions. A slice passes as a pointer and a length.
 mod library {
     use super::{Done, Shown, State};

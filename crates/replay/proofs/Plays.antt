@@ -87,7 +87,7 @@ module _ (table : List ℕ) (area outbox : ℕ) where
   same-end (suc k) (suc m) n none h l = refl
   same-end (suc k) (suc m) n (some e) h l =
       let s = less-onward n e in
-      ap (first (once n e .1)) (same-end k m (once n e .0) (onward n e) (omega arith) (omega arith))
+      ap (first (callFor area outbox e) (once n e .1)) (same-end k m (once n e .0) (onward n e) (omega arith) (omega arith))
 
   -- what is left is played to its end
   unfoldable pub finishOf : Node → Option Entry → Played
@@ -101,7 +101,7 @@ module _ (table : List ℕ) (area outbox : ℕ) where
   unfolding finishOf play
   finish-play n e = refl
 
-  pub finish-call : (n : Node) (e : Entry) → finishOf n (some e) ≡ first (once n e .1) (finishOf (once n e .0) (onward n e))
+  pub finish-call : (n : Node) (e : Entry) → finishOf n (some e) ≡ first (callFor area outbox e) (once n e .1) (finishOf (once n e .0) (onward n e))
   unfolding finishOf playOn ifSome
   finish-call n e =
-      ap (first (once n e .1)) (same-end (length (e .offered)) (enough (onward n e)) (once n e .0) (onward n e) (less-onward n e) (omega arith))
+      ap (first (callFor area outbox e) (once n e .1)) (same-end (length (e .offered)) (enough (onward n e)) (once n e .0) (onward n e) (less-onward n e) (omega arith))

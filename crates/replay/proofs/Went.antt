@@ -56,9 +56,10 @@ settled-silent n (suc k) x e = refl
 
 -- How a record e was played once: by the calls that were answered so, what is left after them
 pub record Went (table : List ℕ) (s : State) (values : List ℕ) (room : ℕ) (e : Entry) (d : Done) (values′ outbox′ : List ℕ) : Type 0 where
+  pub calls : List Call
   pub answers : List Answer
   pub plays : finishOf table (length values) room (view table s values) (some e)
-      ≡ both (record { node = view table (d .state) values′; answers = answers }) λ m. finishOf table (length values) room m (rest e (d .number) (d .used))
+      ≡ both (record { calls = calls; answers = answers; node = view table (d .state) values′ }) λ m. finishOf table (length values) room m (rest e (d .number) (d .used))
   pub sends : encodeAll (sent answers) ≡ take (d .written) outbox′
   pub counts : (k : ℕ) → k ≢ 0 → count (λ a. eqb (a .number) k) answers ≡ cond (eqb (d .number) k) 1 0
   pub low : d .number ≤ 18
@@ -79,6 +80,7 @@ module _ (table : List ℕ) (s : State) (values : List ℕ) (f : Fine table s va
       let number′ : d .number ≡ y .1 .number = number ∙ ap (λ (h : Heard). h .number) (p .heardAs) in
       let used′ : d .used ≡ y .1 .used = used ∙ ap (λ (h : Heard). h .used) (p .heardAs) in
       record {
+        calls = c ∷ [];
         answers = y .1 ∷ [];
         plays = rw (p .node, number′, used′) (finish-call table (length values) room (view table s values) e);
         sends = ap encodeAll (append-nil (y .1 .records)) ∙ sym (ap (λ (h : Heard). h .written) (p .heardAs)) ∙ written;

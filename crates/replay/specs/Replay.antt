@@ -44,19 +44,22 @@ unfoldable pub rest : Entry → ℕ → ℕ → Option Entry
 rest e number used =
     cond (isPiece (e .kind) && eqb number 0 && ltb used (length (e .offered))) (some (offering e (drop used (e .offered)))) none
 
--- the node that the calls leave, and their answers
+-- the calls that were made, their answers, and the node that they leave
 pub record Played : Type 0 where
-  pub node : Node
+  pub calls : List Call
   pub answers : List Answer
+  pub node : Node
 
 abbrev pub nothing : Node → Played
-nothing n = record { node = n; answers = [] }
+nothing n = record { calls = []; answers = []; node = n }
 
-unfoldable pub first : Answer → Played → Played
-first a p = record { node = p .node; answers = a ∷ p .answers }
+unfoldable pub first : Call → Answer → Played → Played
+first c a p = record { calls = c ∷ p .calls; answers = a ∷ p .answers; node = p .node }
 
 unfoldable pub both : Played → (Node → Played) → Played
-both p f = record { node = f (p .node) .node; answers = p .answers ++ f (p .node) .answers }
+both p f =
+    let q = f (p .node) in
+    record { calls = p .calls ++ q .calls; answers = p .answers ++ q .answers; node = q .node }
 
 -- what is played if there is something to play
 unfoldable pub ifSome : Node → Option Entry → (Entry → Played) → Played
@@ -68,8 +71,9 @@ module _ (table : List ℕ) (area outbox : ℕ) where
   unfoldable pub playOn : ℕ → Node → Option Entry → Played
   playOn zero n o = nothing n
   playOn (suc k) n o = ifSome n o λ e.
-      let s = step table n (callFor area outbox e) in
-      first (s .1) (playOn k (s .0) (rest e (s .1 .number) (s .1 .used)))
+      let c = callFor area outbox e in
+      let s = step table n c in
+      first c (s .1) (playOn k (s .0) (rest e (s .1 .number) (s .1 .used)))
 
   -- a record: each call but the last uses a byte at least, so these are enough
   unfoldable pub play : Node → Entry → Played

@@ -24,7 +24,7 @@ ghost use Rattle.ascii.specs.Bytes.{head};
 ghost use Rattle.replay.specs.Replay.{isPiece};
 ghost use Rattle.replay.specs.View.{counted, toDo, Sound};
 ghost use Rattle.replay.specs.Promise.{Steps, Starts};
-ghost use Rattle.replay.specs.Theorems.{Fed, ReplayIsTheCalls};
+ghost use Rattle.replay.specs.Theorems.{Fed, PlayedAsCalls, ReplayIsTheCalls, CutElsewhere};
 ghost use Rattle.replay.specs.Inner.{leftAfter, Calls, Offers, Answered};
 
 // What is kept between steps: the node's state; the trace's reader; what is left to be offered of the record that the reader holds, `left.size` bytes
@@ -271,9 +271,23 @@ pub fn begin(table: &[u8], values: &[u8], time: u64) -> Started
     }
 }
 
+// What is played of a trace is a history of single calls.
+pub fn played_as_calls() -> bool
+    ensures { λ r. ⌜ (r ≡ true) × PlayedAsCalls ⌝ }
+{
+    true
+}
+
 // What steps one after another leave, send and count is what the single calls give, however the trace arrives.
 pub fn replay_is_the_calls() -> bool
     ensures { λ r. ⌜ (r ≡ true) × ReplayIsTheCalls ⌝ }
+{
+    true
+}
+
+// Cut in other pieces, the same trace leads to the same.
+pub fn cut_elsewhere() -> bool
+    ensures { λ r. ⌜ (r ≡ true) × CutElsewhere ⌝ }
 {
     true
 }

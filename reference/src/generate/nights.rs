@@ -108,10 +108,30 @@ pub fn directed() -> Night {
     }
 }
 
+/// Twelve modules `t1` to `t12`, each with a readonly value, a target, a mode, a
+/// label and a command: sixty accessibles.
+fn hall() -> Vec<u8> {
+    let stage = |number: usize| {
+        let kelvin = || double((0, 0), (300, 0));
+        let mode = enumeration(&[("off", 0), ("on", 1)]);
+        module(
+            &format!("t{number}"),
+            vec![
+                readonly("value", kelvin(), "295.13"),
+                parameter("target", kelvin(), "4"),
+                parameter("mode", mode, "0"),
+                parameter("label", string(0, 80), "\"\""),
+                command("stop", None),
+            ],
+        )
+    };
+    encode::table(&parts::table((1..=12).map(stage).collect()))
+}
+
 /// A night of so many events, all accepted: two clients, one of which is sent
-/// every update, and drivers that read, and now and then can't. A piece in four
-/// has two lines.
-pub fn long(events: usize) -> Night {
+/// every update, and drivers that read, and now and then can't. A piece in three
+/// has two lines. The table has two modules, or twelve.
+pub fn long(events: usize, modules: usize) -> Night {
     let mut random = Random::new(events as u64);
     let opens = [
         event(Kind::Open, 0, 1_000, b""),
@@ -120,8 +140,9 @@ pub fn long(events: usize) -> Night {
     ];
     let any = (opens.len() as u64..).map(|at| some_event(&mut random, 1_000 + 20 * at));
     let events = opens.into_iter().chain(any).take(events);
+    let table = if modules == 2 { laboratory() } else { hall() };
     Night {
-        table: laboratory(),
+        table,
         time: 1_000,
         trace: events.flat_map(|event| event.to_bytes()).collect(),
     }
@@ -129,23 +150,14 @@ pub fn long(events: usize) -> Night {
 
 fn some_event(random: &mut Random, time: u64) -> Event {
     let kelvin = format!("{}.{}", random.below(300), random.below(100));
+    let kelvin = kelvin.as_bytes();
+    let change = [b"change t1:target ", kelvin, b"\n"].concat();
     match random.below(10) {
-        0..=4 => event(Kind::Reading, 0, time, kelvin.as_bytes()),
-        5 => event(
-            Kind::Reading,
-            2,
-            time,
-            random.below(10).to_string().as_bytes(),
-        ),
-        6 => event(Kind::Unreadable, 2, time, &[random.between(1, 4) as u8]),
-        7 => event(
-            Kind::Piece,
-            1,
-            time,
-            format!("change t1:target {kelvin}\n").as_bytes(),
-        ),
+        0..=5 => event(Kind::Reading, 0, time, kelvin),
+        6 => event(Kind::Unreadable, 0, time, &[random.between(1, 4) as u8]),
+        7 => event(Kind::Piece, 1, time, &change),
         8 => event(Kind::Piece, 1, time, b"read t1:value\n"),
-        _ => event(Kind::Piece, 1, time, b"ping\nread mf:field\n"),
+        _ => event(Kind::Piece, 1, time, b"ping\nread t1:target\n"),
     }
 }
 

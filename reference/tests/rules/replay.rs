@@ -300,10 +300,11 @@ fn the_directed_night_is_told_as_worked_out() {
 
 #[test]
 fn long_nights_have_as_many_events_and_none_is_refused() {
-    for events in [0, 1, 2, 3, 4, 1_000] {
-        let Night { table, time, trace } = nights::long(events);
+    let counts = [0, 1, 2, 3, 4, 1_000].map(|events| [(events, 2, 5), (events, 12, 48)]);
+    for (events, modules, parameters) in counts.concat() {
+        let Night { table, time, trace } = nights::long(events, modules);
         let text = String::from_utf8(told(&table, time, &trace)).expect("text");
-        assert_eq!(text.lines().count(), 10);
+        assert_eq!(text.lines().count(), 2 * parameters);
         assert!(text.lines().all(|line| line.contains(':')));
         let mut rest = trace.as_slice();
         for _ in 0..events {
