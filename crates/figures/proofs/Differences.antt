@@ -7,7 +7,7 @@ use mathlib.Core.Path.{_≡_, refl, sym, ap, _∙_}
 use lib.Dec.{eqb, leb, ltb}
 use lib.IntN.{ℤ, pos, negsuc, negℤ, subℕ, _+ℤ_}
 use lib.Signed.{leZ}
-use borrow.Author.Tests.{ltb-true, ltb-false, lt-ltb, le-ltb, le-leb, lt-leb}
+use borrow.Author.Tests.{ltb-true, ltb-false, lt-ltb, le-ltb, le-leb, lt-leb, ne-eqb}
 use Rattle.ascii.specs.Bytes.{head}
 use Rattle.decimal.specs.Decimal.{numeralFrom, numeral}
 use Rattle.decimal.proofs.Naturals.{leb-same}
@@ -97,6 +97,6 @@ numeral-minus t n b e h f g =
     let z : head t ≡ 45 = sym f ∙ g in
     rw (e, z) (minus-above (numeralFrom 0 t) h)
 
-pub numeral-plus : (t : List ℕ) (n b : ℕ) → n ≡ numeralFrom 0 t → b ≡ head t → eqb b 45 ≡ false → lowest + n ≡ above (numeral t)
+pub numeral-plus : (t : List ℕ) (n b : ℕ) → n ≡ numeralFrom 0 t → b ≡ head t → (b ≡ 45 → ⊥) → lowest + n ≡ above (numeral t)
 unfolding numeral above
-numeral-plus t n b e f g = rw (e, sym (ap (λ k. eqb k 45) f) ∙ g) refl
+numeral-plus t n b e f g = rw (e, ne-eqb (head t) 45 (λ z. g (f ∙ z))) refl

@@ -5,7 +5,7 @@ use mathlib.Core.Bool.{Bool, true, false}
 use mathlib.Core.List.{List, []}
 use mathlib.Core.Path.{_≡_, refl, sym, ap, _∙_}
 use lib.Dec.{eqb, leb, ltb}
-use lib.ListN.{length, getD, set, replicate}
+use lib.ListN.{length, getD, set, replicate, length-set}
 use lib.Seq.{getD-set-same, getD-set-other}
 use borrow.Author.Tests.{lt-ltb, le-ltb, le-leb, lt-leb, ne-eqb, eqb-true, eqb-false, ltb-true, ltb-false}
 use Rattle.figures.specs.declared.Tally.{Tally}
@@ -59,7 +59,7 @@ none-anywhere (suc n) zero = refl
 none-anywhere (suc n) (suc k) = none-anywhere n k
 
 pub none-bounded : Bounded (record { tallies = replicate 64 noSettings })
-none-bounded = record { all = λ k. rw (none-anywhere 64 k) (omega arith) }
+none-bounded = record { size = refl; all = λ k. rw (none-anywhere 64 k) (omega arith) }
 
 module _ (f : Figures) (k x : ℕ) (l : k < length (f .tallies)) where
   pub observed-same : tallyAt (observed f k x) k ≡ noted (tallyAt f k) x
@@ -70,9 +70,18 @@ module _ (f : Figures) (k x : ℕ) (l : k < length (f .tallies)) where
   unfolding observed
   observed-other j n = getD-set-other (f .tallies) k j (noted (tallyAt f k) x) noSettings n
 
-  pub observed-bounded : x ≤ 4294967296 → Bounded f → Bounded (observed f k x)
-  observed-bounded h b = record { all = λ j. go j (eqb j k) refl }
+  observed-size : length (observed f k x .tallies) ≡ length (f .tallies)
+  unfolding observed
+  observed-size = length-set (f .tallies) k (noted (tallyAt f k) x)
+
+  observed-bounded : x ≤ 4294967296 → Bounded f → Bounded (observed f k x)
+  observed-bounded h b = record { size = observed-size ∙ b .size; all = λ j. go j (eqb j k) refl }
     where
       go : (j : ℕ) (t : Bool) → eqb j k ≡ t → tallyAt (observed f k x) j .sum ≤ tallyAt (observed f k x) j .count * 4294967296
       go j true e = rw (eqb-true j k e, observed-same) (noted-bounded (tallyAt f k) x h (b .all k))
       go j false e = rw (observed-other j (eqb-false j k e)) (b .all j)
+
+pub observes : (f : Figures) (k x : ℕ) (t : Tally) → k < 64 → x ≤ 4294967296 → Bounded f → t ≡ noted (tallyAt f k) x
+    → Observes f k x (record { tallies = set (f .tallies) k t })
+unfolding observed
+observes f k x t l h b e = rw e (record { is = refl; bounded = observed-bounded f k x (omega (arith, b .size)) h b })

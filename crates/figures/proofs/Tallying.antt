@@ -83,7 +83,7 @@ module _ (d : Datainfo) (v : List ℕ) (stored : isStored d v ≡ true) where
   unfolding least greatest total
   sums-first s =
       let m = mark-is s in
-      ((m, m), m)
+      (m, m, m)
 
   sums-next : isSummed d ≡ true → (z : ℤ) (zs : List ℤ) (t : Tally) → Sums (z ∷ zs) t
       → Sums (z ∷ (zs ++ (numeral v ∷ []))) (record { count = t .count + 1; least = lower (t .least) (markOf d v); greatest = higher (t .greatest) (markOf d v); sum = t .sum + markOf d v })
@@ -91,9 +91,9 @@ module _ (d : Datainfo) (v : List ℕ) (stored : isStored d v ≡ true) where
       let m = mark-is s in
       let sum : subℕ (t .sum + markOf d v) ((t .count + 1) * lowest) ≡ total z zs +ℤ numeral v =
       ap (λ (n : ℕ). subℕ (t .sum + markOf d v) n) (omega arith) ∙ sub-sum (t .sum) (t .count * lowest) (markOf d v) lowest
-      ∙ (λ i. x .1 i +ℤ m i) in (
-        (lower-is (t .least) (markOf d v) (least z zs) (numeral v) (x .0 .0) m ∙ sym (least-more z zs (numeral v)),
-        higher-is (t .greatest) (markOf d v) (greatest z zs) (numeral v) (x .0 .1) m ∙ sym (greatest-more z zs (numeral v))),
+      ∙ (λ i. x .2 i +ℤ m i) in (
+        lower-is (t .least) (markOf d v) (least z zs) (numeral v) (x .0) m ∙ sym (least-more z zs (numeral v)),
+        higher-is (t .greatest) (markOf d v) (greatest z zs) (numeral v) (x .1) m ∙ sym (greatest-more z zs (numeral v)),
         sum ∙ sym (total-more z zs (numeral v)),
       )
 
@@ -136,7 +136,7 @@ module _ (t : Tally) where
   numbers-told [] e x = rw e
   numbers-told (z ∷ zs) e x =
       let c : eqb (t .count) 0 ≡ false = ne-eqb (t .count) 0 (λ n. omega arith) in
-      rw (c, x .0 .0, x .0 .1, x .1)
+      rw (c, x .0, x .1, x .2)
       (ap (λ (l : List ℕ). l ++ (bytes " sum " ++ integer (total z zs))) (sym (append-assoc (bytes " least " ++ integer (least z zs)) (bytes " greatest ") (integer (greatest z zs))))
       ∙ sym (append-assoc (bytes " least " ++ integer (least z zs) ++ bytes " greatest " ++ integer (greatest z zs)) (bytes " sum ") (integer (total z zs))))
 

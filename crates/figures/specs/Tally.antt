@@ -90,6 +90,7 @@ tallyAt f k = getD (f .tallies) k noSettings
 
 -- so no sum is too large
 pub record Bounded (f : Figures) : Type 0 where
+  pub size : length (f .tallies) ≡ 64
   pub all : (k : ℕ) → tallyAt f k .sum ≤ tallyAt f k .count * 4294967296
 
 -- parameter k was set

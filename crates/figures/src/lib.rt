@@ -271,7 +271,14 @@ fn emit_count(out: &mut [u8], at: usize, module: &[u8], name: &[u8], count: u16)
 }
 
 // The line of one parameter, by its names, whether it has more than a count, and what is kept of its settings.
-pub fn emit_line(out: &mut [u8], at: usize, module: &[u8], name: &[u8], summed: bool, t: Tally) -> usize
+pub fn emit_line(
+    out: &mut [u8],
+    at: usize,
+    module: &[u8],
+    name: &[u8],
+    summed: bool,
+    t: Tally,
+) -> usize
     ensures { λ r. ⌜ Emits (now (out .entry)) at (tallyLine (now («module» .entry)) (now (name .entry)) summed t) (now (out .exit)) r ⌝ }
 {
     let a = emit_count(out, at, module, name, t.count);

@@ -54,7 +54,10 @@ fn main() {
         return;
     }
     let Time::At(time) = time_argument() else {
-        io::write_all(STDERR_FILENO, b"night: TIME is not in decimal digits, 64 at most\n");
+        io::write_all(
+            STDERR_FILENO,
+            b"night: TIME is not in decimal digits, 64 at most\n",
+        );
         return;
     };
     let from = open_argument(1);

@@ -53,7 +53,7 @@ module _ (n : Node) (e : Entry) where
 -- after a call there is less to be offered
 less-left : (table : List ℕ) (n : Node) (k : Kind) (i t : ℕ) (bs : List ℕ) (area outbox : ℕ)
     → enough (rest (record { kind = k; number = i; time = t; offered = bs })
-      (step table n (callOf area outbox k i t bs) .1 .number) (step table n (callOf area outbox k i t bs) .1 .used)) ≤ length bs
+    (step table n (callOf area outbox k i t bs) .1 .number) (step table n (callOf area outbox k i t bs) .1 .used)) ≤ length bs
 unfolding rest step stepIf isPiece callOf effect pieceEffect
 less-left table n Opening i t bs a o = omega arith
 less-left table n Closing i t bs a o = omega arith
