@@ -18,7 +18,8 @@ use Rattle.table.specs.Search.{Placed, parameters}
 use Rattle.report.specs.Judge.{fault, lowest, treeNumber, numberOf, tableNumber}
 use Rattle.message.specs.Error.{Fault, faultOf}
 use Rattle.plain.specs.Node.{Node, isOpen}
-use Rattle.plain.specs.Calls.{Event, Open, Close, Piece, Reading, Unreadable, Call, withOutbox, isSmall, fault10, fault11, lentFaults, ownFaults, readingVerdict, callNumber}
+use Rattle.plain.specs.Calls.{Event, Open, Close, Piece, Reading, Unreadable, Call}
+use Rattle.plain.specs.Calls.{withOutbox, isSmall, fault10, fault11, lentFaults, ownFaults, readingVerdict, callNumber}
 use Rattle.plain.specs.Calls.{beforeFeed, hasFeed, usedOf, Effect, pieceEffect, driverEffect, readingEffect, unreadableEffect, effect, settle, stepIf}
 use Rattle.promise.proofs.Clients.{before-long}
 
@@ -96,7 +97,8 @@ module _ (table : List ℕ) (unfit : Bool) (n : Node) where
   call-below : (e : Call) → callNumber table unfit n e ≤ 18
   unfolding callNumber
   call-below e =
-      lowest-below _ (both-below (lentFaults table unfit e) (ownFaults (tableOf table) n (e .event)) (lent-below table unfit e) (own-below (tableOf table) n (e .event)))
+      lowest-below _ (both-below (lentFaults table unfit e) (ownFaults (tableOf table) n (e .event)) (lent-below table unfit e)
+      (own-below (tableOf table) n (e .event)))
 
   settled-number : (k : ℕ) (e : Effect) → settle k n e .1 .number ≡ k
   unfolding settle

@@ -44,7 +44,9 @@ refused-left e m u h = rw (ne-eqb m 0 h) (omega arith)
 
 module _ (n : Node) (e : Entry) where
   settled-less : (k : ℕ) (x : Effect) (bs : List ℕ) → e .offered ≡ bs → x .used ≡ usedOf bs
-      → enough (cond (true && eqb (settle k n x .1 .number) 0 && ltb (settle k n x .1 .used) (length (e .offered))) (some (offering e (drop (settle k n x .1 .used) (e .offered)))) none) ≤ length (e .offered)
+      → enough (cond (true && eqb (settle k n x .1 .number) 0 && ltb (settle k n x .1 .used) (length (e .offered)))
+      (some (offering e (drop (settle k n x .1 .used) (e .offered)))) none)
+      ≤ length (e .offered)
   unfolding settle
   settled-less (suc k) x bs o u = refused-left e (suc k) 0 (λ z. omega arith)
   settled-less zero x [] o u = none-left e (x .used) (ap length o) (ltb (x .used) (length (e .offered))) refl
@@ -104,4 +106,5 @@ module _ (table : List ℕ) (area outbox : ℕ) where
   pub finish-call : (n : Node) (e : Entry) → finishOf n (some e) ≡ first (callFor area outbox e) (once n e .1) (finishOf (once n e .0) (onward n e))
   unfolding finishOf playOn ifSome
   finish-call n e =
-      ap (first (callFor area outbox e) (once n e .1)) (same-end (length (e .offered)) (enough (onward n e)) (once n e .0) (onward n e) (less-onward n e) (omega arith))
+      ap (first (callFor area outbox e) (once n e .1))
+      (same-end (length (e .offered)) (enough (onward n e)) (once n e .0) (onward n e) (less-onward n e) (omega arith))

@@ -28,12 +28,14 @@ module _ {table : List ℕ} {s : State} {values outbox : List ℕ} {d : Done} {v
       let l = number-low table (isUnfit (tableOf table) s values) (view table s values) e in
       omega (arith, k .number)
 
-  kept-used : {e : Call} → Kept table e s values outbox d values′ outbox′ → (m : ℕ) → effect (tableOf table) (view table s values) (e .event) .used ≤ m → d .used ≤ m
+  kept-used : {e : Call} → Kept table e s values outbox d values′ outbox′ → (m : ℕ) → effect (tableOf table) (view table s values) (e .event) .used ≤ m → d
+      .used ≤ m
   kept-used {e} k m h =
       let l = step-used table (isUnfit (tableOf table) s values) (view table s values) e m h in
       omega (arith, k .used)
 
-  kept-some : {c t a o : ℕ} {bs : List ℕ} → Kept table (withOutbox (Calls.Piece c bs t) a o) s values outbox d values′ outbox′ → 0 < length bs → d .number ≡ 0 → 1 ≤ d .used
+  kept-some : {c t a o : ℕ} {bs : List ℕ} → Kept table (withOutbox (Calls.Piece c bs t) a o) s values outbox d values′ outbox′ → 0 < length bs → d .number ≡ 0
+      → 1 ≤ d .used
   kept-some {c} {t} {a} {o} {bs} k l z =
       let u = piece-some table (isUnfit (tableOf table) s values) (view table s values) c bs t a o l (sym (k .number) ∙ z) in
       omega (arith, k .used)

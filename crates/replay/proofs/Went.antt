@@ -59,7 +59,8 @@ pub record Went (table : List ℕ) (s : State) (values : List ℕ) (room : ℕ) 
   pub calls : List Call
   pub answers : List Answer
   pub plays : finishOf table (length values) room (view table s values) (some e)
-      ≡ both (record { calls = calls; answers = answers; node = view table (d .state) values′ }) λ m. finishOf table (length values) room m (rest e (d .number) (d .used))
+      ≡ both (record { calls = calls; answers = answers; node = view table (d .state) values′ }) λ m. finishOf table (length values) room m
+      (rest e (d .number) (d .used))
   pub sends : encodeAll (sent answers) ≡ take (d .written) outbox′
   pub counts : (k : ℕ) → k ≢ 0 → count (λ a. eqb (a .number) k) answers ≡ cond (eqb (d .number) k) 1 0
   pub low : d .number ≤ 18
@@ -95,7 +96,9 @@ module _ (table : List ℕ) (s : State) (values : List ℕ) (f : Fine table s va
       → effect (tableOf table) (view table s values) (e .event) .records ≡ [] → d .written ≡ 0
   unfolding written stepIf
   silent e values outbox d values′ outbox′ k q =
-      k .writes ∙ ap (λ (rs : List Record). length (encodeAll rs)) (settled-silent (view table s values) (callNumber table (isUnfit (tableOf table) s values) (view table s values) e) (effect (tableOf table) (view table s values) (e .event)) q)
+      let n = view table s values in
+      let none = settled-silent n (callNumber table (isUnfit (tableOf table) s values) n e) (effect (tableOf table) n (e .event)) q in
+      k .writes ∙ ap (λ (rs : List Record). length (encodeAll rs)) none
       ∙ unfold encodeAll in refl
 
   unheard : (d : Done) (outbox : List ℕ) → d .written ≡ 0 → take (d .written) [] ≡ take (d .written) outbox
@@ -104,7 +107,8 @@ module _ (table : List ℕ) (s : State) (values : List ℕ) (f : Fine table s va
   low-number : {e : Call} {outbox : List ℕ} {d : Done} {values′ outbox′ : List ℕ} → Kept table e s values outbox d values′ outbox′ → d .number ≤ 18
   low-number k = let l = kept-low k in omega arith
 
-  kept-area : {e : Call} {outbox : List ℕ} {d : Done} {values′ outbox′ : List ℕ} → Kept table e s values outbox d values′ outbox′ → length values′ ≡ length values
+  kept-area : {e : Call} {outbox : List ℕ} {d : Done} {values′ outbox′ : List ℕ} → Kept table e s values outbox d values′ outbox′ → length values′ ≡ length
+      values
   kept-area k = ap length (k .area) ∙ area-length values _
 
   pub single-went : (outbox : List ℕ) (e : Entry) (d : Done) (values′ outbox′ : List ℕ) → Single table s values outbox e d values′ outbox′

@@ -155,7 +155,12 @@ module _ (d : List ℕ) (at : ℕ) (f : ℕ → ℕ) where
         let b = c .short in
         let n = puts-length x in
         let z = x .ends in
-        record { low = omega arith; going = going-on (refusedLine k (f k)) (refusedFrom f (k + 1)) (rw (refused-step f k h) at (c .going)) x; room = omega arith; short = omega arith }
+        record {
+          low = omega arith;
+          going = going-on (refusedLine k (f k)) (refusedFrom f (k + 1)) (rw (refused-step f k h) at (c .going)) x;
+          room = omega arith;
+          short = omega arith;
+        }
 
     pub counting-room : k < 19 → (k < 100) × (p + 32 ≤ length e)
     counting-room h = let r = c .room in (omega arith, omega arith)

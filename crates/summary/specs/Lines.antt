@@ -6,6 +6,8 @@ use Rattle.ascii.specs.Text.{bytes}
 use Rattle.ascii.specs.Numbers.{decimal}
 use Rattle.message.specs.Error.{faultOf}
 use Rattle.message.specs.Reply.{heldAs}
+use Rattle.message.specs.Said.{heldBy}
+use Rattle.message.specs.declared.say.Sensor.{Sensor}
 use Rattle.table.specs.declared.layout.ParameterAt.{ParameterAt}
 use Rattle.table.specs.At.{bytesOf}
 use Rattle.search.specs.declared.cursor.Cursor.{Cursor}
@@ -13,6 +15,10 @@ use Rattle.search.specs.Left.{Fits, ParameterIn}
 use Rattle.state.specs.declared.Settings.{Settings}
 use Rattle.state.specs.View.{shownBytes}
 use Rattle.summary.specs.Summary.{heldText, valueLine}
+
+-- a parameter's line as the code is given it
+abbrev pub heldLine : List ℕ → List ℕ → Sensor → List ℕ → List ℕ
+heldLine m p sensor v = valueLine m p (heldText (heldBy sensor v))
 
 -- the line of the parameter of number k, of which q has the positions, and e is the cursor after it
 unfoldable pub lineAt : List ℕ → Settings → List ℕ → ℕ → ParameterAt → Cursor → List ℕ

@@ -23,15 +23,12 @@ ghost use lib.ListN.{length, getD};
 ghost use Rattle.ascii.specs.Writer.{Puts};
 ghost use Rattle.message.specs.Error.{faultName};
 ghost use Rattle.message.specs.Said.{faultAs, heldBy};
-ghost use Rattle.table.specs.Layout.{tableOf};
-ghost use Rattle.table.specs.Search.{parameters};
-ghost use Rattle.state.specs.View.{view};
 ghost use Rattle.trace.specs.Reader.{endOf};
 ghost use Rattle.trace.specs.Takes.{progressOf};
-ghost use Rattle.summary.specs.Summary.{heldText, valueLine, valueLines, refusedLine, refusedLines, endLine, summary, startLine};
-ghost use Rattle.summary.specs.Lines.{lineAt, Writable, offsetText};
+ghost use Rattle.summary.specs.Summary.{heldText, refusedLine, refusedLines, endLine, startLine};
+ghost use Rattle.summary.specs.Lines.{heldLine, lineAt, Writable, offsetText};
 ghost use Rattle.summary.specs.Theorems.{TextIsTheReplays};
-ghost use Rattle.summary.specs.Tells.{Told, countAt};
+ghost use Rattle.summary.specs.Tells.{Told, countAt, linesOf, toldOf};
 
 fn put_fault_name(out: &mut [u8], at: usize, fault: Fault) -> usize
     requires { ⌜ at + length (faultName (faultAs fault)) ≤ length (now out) ⌝ }
@@ -65,8 +62,8 @@ fn put_line(
     sensor: Sensor,
     value: &[u8],
 ) -> usize
-    requires { ⌜ at + length (valueLine (now «module») (now name) (heldText (heldBy sensor (now value)))) ≤ length (now out) ⌝ }
-    ensures { λ r. ⌜ Puts (now (out .entry)) at (valueLine (now («module» .entry)) (now (name .entry)) (heldText (heldBy sensor (now (value .entry))))) (now (out .exit)) r ⌝ }
+    requires { ⌜ at + length (heldLine (now «module») (now name) sensor (now value)) ≤ length (now out) ⌝ }
+    ensures { λ r. ⌜ Puts (now (out .entry)) at (heldLine (now («module» .entry)) (now (name .entry)) sensor (now (value .entry))) (now (out .exit)) r ⌝ }
 {
     let colon = put(out, at, module);
     let second = put_byte(out, colon, b':');
@@ -103,7 +100,7 @@ fn put_shown<'a>(
 // "every parameter's last shown value, or its error class's name, in table order"
 fn put_values<'a>(table: &'a [u8], values: &'a [u8], out: &mut [u8], state: State) -> usize
     requires { ⌜ Told (now table) state (now values) (now out) ⌝ }
-    ensures { λ r. ⌜ Puts (now (out .entry)) 0 (valueLines (view (now (table .entry)) state (now (values .entry)) .values) 0 (parameters (tableOf (now (table .entry))))) (now (out .exit)) r ⌝ }
+    ensures { λ r. ⌜ Puts (now (out .entry)) 0 (linesOf (now (table .entry)) state (now (values .entry))) (now (out .exit)) r ⌝ }
 {
     let settings = state.settings;
     let mut end = 0;
@@ -176,7 +173,7 @@ fn put_end(out: &mut [u8], at: usize, reader: Reader) -> usize
 // All that is told of a replay, from the front of the buffer on.
 pub fn put_summary<'a>(table: &'a [u8], values: &'a [u8], out: &mut [u8], replay: Replay) -> usize
     requires { ⌜ Told (now table) (replay .state) (now values) (now out) ⌝ }
-    ensures { λ r. ⌜ Puts (now (out .entry)) 0 (summary (tableOf (now (table .entry))) (view (now (table .entry)) (replay .state) (now (values .entry)) .values) (countAt (replay .refused)) (progressOf (replay .reader))) (now (out .exit)) r × (r ≤ 32768) ⌝ }
+    ensures { λ r. ⌜ Puts (now (out .entry)) 0 (toldOf (now (table .entry)) replay (now (values .entry))) (now (out .exit)) r × (r ≤ 32768) ⌝ }
 {
     let state = replay.state;
     let refused = replay.refused;

@@ -20,6 +20,20 @@ use Rattle.trace.specs.Reader.{Progress, capped, advance, takeBytes}
 use Rattle.trace.specs.Theorems.{between, markOf, written, RecordsAreRead}
 use Rattle.trace.proofs.Readings.{one-more, front-part}
 
+-- a record that has begun goes on: in its mark, in its head, in its bytes
+in-mark : (xs : List ℕ) → length xs < 2 → judge xs ≡ more
+unfolding judge
+in-mark xs h = rw (lt-ltb (length xs) 2 h) refl
+
+module _ (k : Kind) (xs : List ℕ) where
+  in-head : 2 ≤ length xs → length xs < 13 → kindOf (take 2 xs) ≡ some k → judge xs ≡ more
+  unfolding judge judgeKind
+  in-head l h m = rw (le-ltb (length xs) 2 l, m, lt-ltb (length xs) 13 h) refl
+
+  in-body : 13 ≤ length xs → kindOf (take 2 xs) ≡ some k → lengthGood k (sizeIn xs) ≡ true → length xs < 13 + sizeIn xs → judge xs ≡ more
+  unfolding judge judgeKind judgeSized
+  in-body l m g h = rw (le-ltb (length xs) 2 (omega arith), m, le-ltb (length xs) 13 l, g, lt-ltb (length xs) (13 + sizeIn xs) h) refl
+
 -- all bytes of a record, byte by byte
 module _ (k : Kind) (all : List ℕ) (marked : kindOf (take 2 all) ≡ some k) (good : lengthGood k (sizeIn all) ≡ true)
     (full : length all ≡ 13 + sizeIn all) (o : ℕ) where
@@ -33,7 +47,6 @@ module _ (k : Kind) (all : List ℕ) (marked : kindOf (take 2 all) ≡ some k) (
       refl
 
   goes-on : (i : ℕ) → i < length all → judge (take i all) ≡ more
-  unfolding judge judgeKind judgeSized
   goes-on i h = by-mark (ltb i 2) refl
     where
       long : length (take i all) ≡ i
@@ -41,13 +54,16 @@ module _ (k : Kind) (all : List ℕ) (marked : kindOf (take 2 all) ≡ some k) (
 
       by-head : 2 ≤ i → (t : Bool) → ltb i 13 ≡ t → judge (take i all) ≡ more
       by-head l true e =
-          rw (long, le-ltb i 2 l, take-take 2 i all l, marked, e) refl
+          let m = ltb-true i 13 e in
+          in-head k (take i all) (omega (arith, long)) (omega (arith, long)) (ap kindOf (take-take 2 i all l) ∙ marked)
       by-head l false e =
           let m = ltb-false i 13 e in
-          rw (long, le-ltb i 2 l, take-take 2 i all l, marked, e, front-part all i 11 2 m, good, lt-ltb i (13 + sizeIn all) (omega arith)) refl
+          let same : sizeIn (take i all) ≡ sizeIn all = ap bigEndian (front-part all i 11 2 m) in
+          in-body k (take i all) (omega (arith, long)) (ap kindOf (take-take 2 i all l) ∙ marked) (ap (lengthGood k) same ∙ good)
+          (omega (arith, long, same))
 
       by-mark : (t : Bool) → ltb i 2 ≡ t → judge (take i all) ≡ more
-      by-mark true e = rw (long, e) refl
+      by-mark true e = let m = ltb-true i 2 e in in-mark (take i all) (omega (arith, long))
       by-mark false e = by-head (ltb-false i 2 e) (ltb i 13) refl
 
   reached : (i : ℕ) → i < length all → takeBytes (between o) (take i all) ≡ (record { held = take i all; offset = o; stopped = false }, [])
@@ -115,30 +131,46 @@ module _ (k : Kind) (n o t0 t1 t2 t3 t4 t5 t6 t7 a b : ℕ) (bs : List ℕ) (siz
   long = by k
     where
       by : (j : Kind) → length (written j n time a b bs) ≡ 13 + length bs
-      by Opening = refl
-      by Closing = refl
-      by Piece = refl
-      by Reading = refl
-      by Unreadable = refl
+      by Opening = omega arith
+      by Closing = omega arith
+      by Piece = omega arith
+      by Reading = omega arith
+      by Unreadable = omega arith
 
-  tells : entry k all (ap kindOf mark-is ∙ marked-so k) (ap (lengthGood k) size-is ∙ good) (long ∙ ap (λ (m : ℕ). 13 + m) (sym size-is)) o
-      ≡ record { kind = k; number = n; time = bigEndian time; offered = bs }
+  marked : kindOf (take 2 all) ≡ some k
+  marked = ap kindOf mark-is ∙ marked-so k
+
+  fits : lengthGood k (sizeIn all) ≡ true
+  fits = ap (lengthGood k) size-is ∙ good
+
+  full : length all ≡ 13 + sizeIn all
+  full = long ∙ ap (λ (m : ℕ). 13 + m) (sym size-is)
+
+  abbrev told : Entry
+  told = record { kind = k; number = n; time = bigEndian time; offered = bs }
+
+  tells : entry k all marked fits full o ≡ told
   unfolding written markOf bytes
   tells = by k
     where
       by : (j : Kind) → _≡_ {A = Entry}
-          (record { kind = k; number = getD (written j n time a b bs) 2 0; time = bigEndian (take 8 (drop 3 (written j n time a b bs))); offered = take (sizeIn all) (drop 13 (written j n time a b bs)) })
-          (record { kind = k; number = n; time = bigEndian time; offered = bs })
+          (record {
+            kind = k;
+            number = getD (written j n time a b bs) 2 0;
+            time = bigEndian (take 8 (drop 3 (written j n time a b bs)));
+            offered = take (sizeIn all) (drop 13 (written j n time a b bs));
+          })
+          told
       by Opening = rw (size-is, take-all (length bs) bs (omega arith)) refl
       by Closing = rw (size-is, take-all (length bs) bs (omega arith)) refl
       by Piece = rw (size-is, take-all (length bs) bs (omega arith)) refl
       by Reading = rw (size-is, take-all (length bs) bs (omega arith)) refl
       by Unreadable = rw (size-is, take-all (length bs) bs (omega arith)) refl
 
-  record-read : takeBytes (between o) all ≡ (between (capped (o + (13 + length bs))), record { kind = k; number = n; time = bigEndian time; offered = bs } ∷ [])
+  record-read : takeBytes (between o) all ≡ (between (capped (o + (13 + length bs))), told ∷ [])
   record-read =
-      read k all (ap kindOf mark-is ∙ marked-so k) (ap (lengthGood k) size-is ∙ good) (long ∙ ap (λ (m : ℕ). 13 + m) (sym size-is)) o
-      ∙ ap (λ (m : ℕ). (between (capped (o + m)), _ ∷ [])) long
+      read k all marked fits full o
+      ∙ ap (λ (m : ℕ). (between (capped (o + m)), entry k all marked fits full o ∷ [])) long
       ∙ ap (λ (e : Entry). (between (capped (o + (13 + length bs))), e ∷ [])) tells
 
 pub records-are-read : RecordsAreRead

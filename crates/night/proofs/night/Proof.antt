@@ -81,8 +81,9 @@ array-share-prefix-outbox-2 c = search needs
 slice-aggregate-write-all-2 : tie.Need-slice-aggregate-write-all-2
 slice-aggregate-write-all-2 c =
     let told = c .before .before .put-summary in
-    let fed = c .before .before .before .before .before .before .before .before .before .feed-all in
-    let room = c .before .before .before .before .before .before .before .before .before .before .before .before .before .before .before .before .before .outbox .ok in
+    let after = c .before .before .before .before .before .before .before .before .before in
+    let fed = after .feed-all in
+    let room = after .before .before .before .before .before .before .before .before .outbox .ok in
     sym (length-take-le (told .result) (told .last .1 .1 .0) (omega (arith, told .ensures .1, told .kept .1 .1 .0, fed .kept .1 .1 .0, room)))
 
 write-all-requires-2 : tie.Need-write-all-requires-2

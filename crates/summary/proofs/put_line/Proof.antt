@@ -11,32 +11,65 @@ use Rattle.summary.proofs.put_line.Tie as tie
 put-requires : tie.Need-put-requires
 put-requires c κs =
     let start = c .before .before .before .before .before in
-    omega (arith, start .pre, line-length (start .args .«module» .now) (start .args .name .now) (heldText (heldBy (start .args .sensor) (start .args .value .now))))
+    omega (
+      arith,
+      start .pre,
+      line-length (start .args .«module» .now) (start .args .name .now)
+          (heldText (heldBy (start .args .sensor) (start .args .value .now))),
+    )
 
 put-byte-requires : tie.Need-put-byte-requires
 put-byte-requires c κs =
     let start = c .before .before .before .before .before .before .before .before .before in
-    omega (arith, start .pre, line-length (start .args .«module» .now) (start .args .name .now) (heldText (heldBy (start .args .sensor) (start .args .value .now))))
+    omega (
+      arith,
+      start .pre,
+      line-length (start .args .«module» .now) (start .args .name .now)
+          (heldText (heldBy (start .args .sensor) (start .args .value .now))),
+    )
 
 put-requires-2 : tie.Need-put-requires-2
 put-requires-2 c κs =
     let start = c .before .before .before .before .before .before .before .before .before .before .before .before .before in
-    omega (arith, start .pre, line-length (start .args .«module» .now) (start .args .name .now) (heldText (heldBy (start .args .sensor) (start .args .value .now))))
+    omega (
+      arith,
+      start .pre,
+      line-length (start .args .«module» .now) (start .args .name .now)
+          (heldText (heldBy (start .args .sensor) (start .args .value .now))),
+    )
 
 put-byte-requires-2 : tie.Need-put-byte-requires-2
 put-byte-requires-2 c κs =
-    let start = c .before .before .before .before .before .before .before .before .before .before .before .before .before .before .before .before .before in
-    omega (arith, start .pre, line-length (start .args .«module» .now) (start .args .name .now) (heldText (heldBy (start .args .sensor) (start .args .value .now))))
+    let later = c .before .before .before .before .before .before .before .before in
+    let start = later .before .before .before .before .before .before .before .before .before in
+    omega (
+      arith,
+      start .pre,
+      line-length (start .args .«module» .now) (start .args .name .now)
+          (heldText (heldBy (start .args .sensor) (start .args .value .now))),
+    )
 
 put-held-requires : tie.Need-put-held-requires
 put-held-requires c κs =
-    let start = c .before .before .before .before .before .before .before .before .before .before .before .before .before .before .before .before .before .before .before .before .before in
-    omega (arith, start .pre, line-length (start .args .«module» .now) (start .args .name .now) (heldText (heldBy (start .args .sensor) (start .args .value .now))))
+    let later = c .before .before .before .before .before .before .before .before in
+    let start = later .before .before .before .before .before .before .before .before .before .before .before .before .before in
+    omega (
+      arith,
+      start .pre,
+      line-length (start .args .«module» .now) (start .args .name .now)
+          (heldText (heldBy (start .args .sensor) (start .args .value .now))),
+    )
 
 put-byte-requires-3 : tie.Need-put-byte-requires-3
 put-byte-requires-3 c κs =
-    let start = c .before .before .before .before .before .before .before .before .before .before .before .before .before .before .before .before .before .before .before .before .before .before .before .before .before in
-    omega (arith, start .pre, line-length (start .args .«module» .now) (start .args .name .now) (heldText (heldBy (start .args .sensor) (start .args .value .now))))
+    let later = c .before .before .before .before .before .before .before .before in
+    let start = later .before .before .before .before .before .before .before .before .before .before .before .before .before .before .before .before .before in
+    omega (
+      arith,
+      start .pre,
+      line-length (start .args .«module» .now) (start .args .name .now)
+          (heldText (heldBy (start .args .sensor) (start .args .value .now))),
+    )
 
 same-length : tie.Need-same-length
 same-length c = search needs

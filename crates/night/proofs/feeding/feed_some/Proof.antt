@@ -44,7 +44,8 @@ same-length-2 : tie.Need-same-length-2
 same-length-2 c = search needs
 
 returns-2 : tie.Need-returns-2
-returns-2 c = running-on (c .before .before .before .before .before .before .before .before .before .before .before .before .before .before .before .before .before .before .pre) (c .before .before .before .before .feed .ensures)
+returns-2 c = let fed = c .before .before .before .before in running-on
+    (fed .before .before .before .before .before .before .before .before .before .before .before .before .before .before .pre) (fed .feed .ensures)
 
 pub feed-some-spec : {M : Type 1} → statement M
 feed-some-spec =
