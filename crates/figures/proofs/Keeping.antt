@@ -1,7 +1,7 @@
 -- Laws of what is kept: one setting more, and no sum too large. Assumes nothing.
 use Prim.Native.Nat.{ℕ, zero, suc, _+_, _*_, _≤_, _<_}
 use native.Mathlib.Omega.{arith}
-use mathlib.Core.Bool.{Bool, true, false}
+use mathlib.Core.Bool.{Bool, true, false, cond}
 use mathlib.Core.List.{List, []}
 use mathlib.Core.Path.{_≡_, refl, sym, ap, _∙_}
 use lib.Dec.{eqb, leb, ltb}
@@ -11,7 +11,7 @@ use borrow.Author.Tests.{lt-ltb, le-ltb, le-leb, lt-leb, ne-eqb, eqb-true, eqb-f
 use Rattle.figures.specs.declared.Tally.{Tally}
 use Rattle.figures.specs.declared.Figures.{Figures}
 use Rattle.figures.specs.Figures.{full}
-use Rattle.figures.specs.Tally.{noSettings, lower, higher, noted, tallyAt, Bounded, observed, Observes}
+use Rattle.figures.specs.Tally.{noSettings, lower, higher, noted, tallyAt, Low, Bounded, observed, Observes}
 
 module _ (a b : ℕ) where
   pub lower-first : a ≤ b → a ≡ lower a b
@@ -44,22 +44,38 @@ module _ (t : Tally) (x : ℕ) where
   unfolding noted
   noted-some l g h n e f = rw (lt-ltb (t .count) full h, ne-eqb (t .count) 0 n, e, f)
 
-  pub noted-bounded : x ≤ 4294967296 → t .sum ≤ t .count * 4294967296 → noted t x .sum ≤ noted t x .count * 4294967296
-  noted-bounded l b = go (ltb (t .count) full) refl (eqb (t .count) 0) refl
+  pub noted-low : x ≤ 4294967296 → Low t → Low (noted t x)
+  unfolding lower higher
+  noted-low l b = go (ltb (t .count) full) refl (eqb (t .count) 0) refl
     where
-      go : (s : Bool) → ltb (t .count) full ≡ s → (u : Bool) → eqb (t .count) 0 ≡ u → noted t x .sum ≤ noted t x .count * 4294967296
-      go false e u f = rw (← noted-over (ltb-false (t .count) full e)) b
-      go true e true f = rw (← noted-one (eqb-true (t .count) 0 f)) (omega arith)
-      go true e false f =
-          rw (← noted-some (lower (t .least) x) (higher (t .greatest) x) (ltb-true (t .count) full e) (eqb-false (t .count) 0 f) refl refl) (omega arith)
+      c : t .sum ≤ t .count * 4294967296
+      c = b .sum
 
-none-anywhere : (n k : ℕ) → getD (replicate n noSettings) k noSettings ≡ noSettings
+      either : (s : Bool) (m n : ℕ) → m ≤ 4294967296 → n ≤ 4294967296 → cond s m n ≤ 4294967296
+      either true m n h g = h
+      either false m n h g = g
+
+      go : (s : Bool) → ltb (t .count) full ≡ s → (u : Bool) → eqb (t .count) 0 ≡ u → Low (noted t x)
+      go false e u f = rw (← noted-over (ltb-false (t .count) full e)) b
+      go true e true f =
+          rw (← noted-one (eqb-true (t .count) 0 f)) (record { count = omega arith; least = l; greatest = l; sum = omega arith })
+      go true e false f =
+          let n = ltb-true (t .count) full e in
+          rw (← noted-some (lower (t .least) x) (higher (t .greatest) x) n (eqb-false (t .count) 0 f) refl refl)
+          (record {
+            count = omega arith;
+            least = either (leb (t .least) x) (t .least) x (b .least) l;
+            greatest = either (leb x (t .greatest)) (t .greatest) x (b .greatest) l;
+            sum = omega arith;
+          })
+
+pub none-anywhere : (n k : ℕ) → getD (replicate n noSettings) k noSettings ≡ noSettings
 none-anywhere zero k = refl
 none-anywhere (suc n) zero = refl
 none-anywhere (suc n) (suc k) = none-anywhere n k
 
 pub none-bounded : Bounded (record { tallies = replicate 64 noSettings })
-none-bounded = record { size = refl; all = λ k. rw (none-anywhere 64 k) (omega arith) }
+none-bounded = record { size = refl; all = λ k. rw (none-anywhere 64 k) (record { count = omega arith; least = omega arith; greatest = omega arith; sum = omega arith }) }
 
 module _ (f : Figures) (k x : ℕ) (l : k < length (f .tallies)) where
   pub observed-same : tallyAt (observed f k x) k ≡ noted (tallyAt f k) x
@@ -77,8 +93,8 @@ module _ (f : Figures) (k x : ℕ) (l : k < length (f .tallies)) where
   observed-bounded : x ≤ 4294967296 → Bounded f → Bounded (observed f k x)
   observed-bounded h b = record { size = observed-size ∙ b .size; all = λ j. go j (eqb j k) refl }
     where
-      go : (j : ℕ) (t : Bool) → eqb j k ≡ t → tallyAt (observed f k x) j .sum ≤ tallyAt (observed f k x) j .count * 4294967296
-      go j true e = rw (eqb-true j k e, observed-same) (noted-bounded (tallyAt f k) x h (b .all k))
+      go : (j : ℕ) (t : Bool) → eqb j k ≡ t → Low (tallyAt (observed f k x) j)
+      go j true e = rw (eqb-true j k e, observed-same) (noted-low (tallyAt f k) x h (b .all k))
       go j false e = rw (observed-other j (eqb-false j k e)) (b .all j)
 
 pub observes : (f : Figures) (k x : ℕ) (t : Tally) → k < 64 → x ≤ 4294967296 → Bounded f → t ≡ noted (tallyAt f k) x

@@ -89,9 +89,15 @@ abbrev pub tallyAt : Figures → ℕ → Tally
 tallyAt f k = getD (f .tallies) k noSettings
 
 -- so no sum is too large
+pub record Low (t : Tally) : Type 0 where
+  pub count : t .count ≤ full
+  pub least : t .least ≤ 4294967296
+  pub greatest : t .greatest ≤ 4294967296
+  pub sum : t .sum ≤ t .count * 4294967296
+
 pub record Bounded (f : Figures) : Type 0 where
   pub size : length (f .tallies) ≡ 64
-  pub all : (k : ℕ) → tallyAt f k .sum ≤ tallyAt f k .count * 4294967296
+  pub all : (k : ℕ) → Low (tallyAt f k)
 
 -- parameter k was set
 unfoldable pub observed : Figures → ℕ → ℕ → Figures

@@ -23,7 +23,7 @@ ghost use Rattle.ascii.specs.Bytes.{isDigit};
 ghost use Rattle.decimal.specs.Decimal.{numeralFrom, numeral};
 ghost use Rattle.emit.specs.Emitted.{Emits};
 ghost use Rattle.figures.specs.Figures.{isNarrow};
-ghost use Rattle.figures.specs.Tally.{Small, above, lower, higher, noted, noSettings, tallyAt, Bounded, Observes, SetTo, Marks, TellsSummed, LimitsNarrow, ScaledNarrow, tallyNumbers, fullText, countText, tallyLine};
+ghost use Rattle.figures.specs.Tally.{Small, above, lower, higher, noted, noSettings, tallyAt, Low, Bounded, Observes, SetTo, Marks, TellsSummed, LimitsNarrow, ScaledNarrow, tallyNumbers, fullText, countText, tallyLine};
 ghost use Rattle.figures.specs.Theorems.{FiguresAreExact};
 
 // The least number that is kept is its negative, 0 in what is kept.
@@ -158,7 +158,7 @@ fn higher(a: u64, b: u64) -> u64
 
 // One setting more; a full tally "keeps the figures of those first 65,535".
 fn noted(t: Tally, x: u64) -> Tally
-    requires { ⌜ (x ≤ 4294967296) × (t .sum ≤ t .count * 4294967296) ⌝ }
+    requires { ⌜ (x ≤ 4294967296) × Low t ⌝ }
     ensures { λ r. ⌜ r ≡ noted t x ⌝ }
 {
     if t.count >= FULL {

@@ -10,6 +10,7 @@ use files::open_argument;
 use libc::STDERR_FILENO;
 use libc::STDOUT_FILENO;
 use replay::begin;
+use summary::figured::put_figures;
 use summary::put_start;
 use summary::put_summary;
 use time::Time;
@@ -45,6 +46,9 @@ fn night(table: &[u8], time: u64, fd: i32) {
     let last = fed.replay;
     let size = put_summary(table, &values, &mut outbox, last);
     io::write_all(STDOUT_FILENO, &outbox[..size]);
+    let figures = last.figures;
+    let more = put_figures(table, &mut outbox, figures);
+    io::write_all(STDOUT_FILENO, &outbox[..more]);
 }
 
 // Both files are opened and the table is read before anything is written.
