@@ -49,7 +49,7 @@ enum jihfasul_number {
     JIHFASUL_ACCEPTED = 0,
     JIHFASUL_BAD_LAYOUT = 1,        /* the table has over 16,384 bytes, or can't be read as records */
     JIHFASUL_BAD_COUNTS = 2,        /* it has no or more than 16 modules, or more than 64 accessibles */
-    JIHFASUL_BAD_NAMES = 3,         /* a name in it is bad or repeated, or a text is bad */
+    JIHFASUL_BAD_NAMES = 3,         /* a name in it is bad or repeated, or a text is bad, or an `ED` record doesn't begin `ISSE,SECoP,` */
     JIHFASUL_BAD_DATAINFO = 4,      /* a datainfo in it breaks its own rules */
     JIHFASUL_BAD_INITIAL = 5,       /* an initial value isn't in stored form, is over 256 bytes, or doesn't fit its datainfo */
     JIHFASUL_LONG_REPORT = 6,       /* its structure report would be over 32,000 bytes */
@@ -145,7 +145,9 @@ struct jihfasul_done jihfasul_close(
  * Takes a client's bytes: those through the first line feed, or all where there is none. `used` says how many; offer the rest again. A line
  * that its line feed ends is carried out at this call's time, and what is to be sent lies in the outbox's first `written` bytes, at
  * most 32,019. A change that is carried out writes the stored form (without spaces outside strings, an enum's members by their numbers)
- * at the front of its parameter's place in the values area, and no other byte. Numbers 0 to 12.
+ * at the front of its parameter's place in the values area, and no other byte. A change of a parameter `target` in a module whose parameter
+ * `status` admits `[300,"target changed"]` writes that too, at the front of the status's place, and the status's updates come before the
+ * target's. Numbers 0 to 12.
  */
 struct jihfasul_done jihfasul_piece(
     const uint8_t *table, size_t table_length,

@@ -57,6 +57,7 @@ fn table(length: usize) -> (Vec<u8>, usize) {
     let mut table = Table {
         equipment_id: b"cost".to_vec(),
         description: Vec::new(),
+        edition: None,
         modules: (0..count / 4).map(module).collect(),
     };
     let missing = length - encode::table(&table).len();

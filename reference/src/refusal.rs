@@ -12,7 +12,8 @@ pub enum Refusal {
     Layout = 1,
     /// Too few or too many modules, or too many accessibles.
     Counts = 2,
-    /// A bad or repeated name, or a bad text.
+    /// A bad or repeated name, a bad text, or an edition that begins otherwise
+    /// than it has to.
     Names = 3,
     /// A datainfo breaks its own rules.
     Datainfo = 4,

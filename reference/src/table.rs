@@ -16,6 +16,9 @@ pub const MAX_MODULES: usize = 16;
 pub const MAX_ACCESSIBLES: usize = 64;
 pub const MAX_REPORT: usize = 32_000;
 
+/// How the text of an `ED` record must begin.
+const EDITION: &[u8] = b"ISSE,SECoP,";
+
 /// A plain type is one level; arrays, tuples and structs add one each.
 const MAX_LEVELS: usize = 4;
 
@@ -24,6 +27,8 @@ const MAX_LEVELS: usize = 4;
 pub struct Table {
     pub equipment_id: Vec<u8>,
     pub description: Vec<u8>,
+    /// The text of an `ED` record, which is the whole identification.
+    pub edition: Option<Vec<u8>>,
     pub modules: Vec<Module>,
 }
 
@@ -160,6 +165,7 @@ impl Table {
     fn has_good_names_and_texts(&self) -> bool {
         is_good_text(&self.equipment_id)
             && is_good_text(&self.description)
+            && self.edition.iter().all(|text| is_good_edition(text))
             && are_good_names(self.modules.iter().map(|module| &module.name[..]))
             && self.modules.iter().all(Module::has_good_names_and_texts)
             && self.datainfos().all(Datainfo::has_good_names)
@@ -185,6 +191,10 @@ impl Table {
     }
 }
 
+fn is_good_edition(text: &[u8]) -> bool {
+    is_good_text(text) && text.starts_with(EDITION)
+}
+
 impl Module {
     /// Parameters and commands of a module share one scope.
     fn has_good_names_and_texts(&self) -> bool {
@@ -205,11 +215,13 @@ struct Layout<'a> {
 }
 
 impl<'a> Layout<'a> {
-    /// `ND`, then modules, then `EN` with nothing after it.
+    /// `ND`, perhaps one `ED` straight after it, then modules, then `EN` with
+    /// nothing after it.
     fn table(mut self) -> Option<Table> {
         self.mark(b"ND")?;
         let equipment_id = self.text()?;
         let description = self.text()?;
+        let edition = self.marked_text(b"ED")?;
         let mut modules = Vec::new();
         while self.next_is(b"MO") {
             modules.push(self.module()?);
@@ -218,6 +230,7 @@ impl<'a> Layout<'a> {
         self.rest.is_empty().then_some(Table {
             equipment_id,
             description,
+            edition,
             modules,
         })
     }
@@ -227,11 +240,7 @@ impl<'a> Layout<'a> {
         self.mark(b"MO")?;
         let name = self.text()?;
         let description = self.text()?;
-        let note = if self.next_is(b"NO") {
-            Some(self.note()?)
-        } else {
-            None
-        };
+        let note = self.marked_text(b"NO")?;
         let mut accessibles = Vec::new();
         while self.next_is(b"PA") || self.next_is(b"CM") {
             accessibles.push(self.accessible()?);
@@ -244,9 +253,13 @@ impl<'a> Layout<'a> {
         })
     }
 
-    fn note(&mut self) -> Option<Vec<u8>> {
-        self.mark(b"NO")?;
-        self.text()
+    /// A text after a mark, or nothing where another mark stands there.
+    fn marked_text(&mut self, mark: &[u8; 2]) -> Option<Option<Vec<u8>>> {
+        if !self.next_is(mark) {
+            return Some(None);
+        }
+        self.mark(mark)?;
+        self.text().map(Some)
     }
 
     fn accessible(&mut self) -> Option<Accessible> {

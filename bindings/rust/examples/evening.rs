@@ -16,7 +16,7 @@ use std::fmt::Write;
 use std::fs::File;
 use std::path::{Path, PathBuf};
 use std::{env, fs, io, process};
-use table::{choice, double, int, Access, Table};
+use table::{choice, double, int, pair, string, Access, Table};
 
 const SCRIPT: &str = concat!(env!("CARGO_MANIFEST_DIR"), "/examples/evening.script");
 
@@ -39,7 +39,9 @@ fn rooms() -> Table {
     let kelvin = double(0, 300);
     let mode = choice(&[("standby", 0), ("running", 1)]);
     let seconds = int(1, 600);
+    let status = pair(&choice(&[("idle", 100), ("busy", 300)]), &string(0, 40));
     Table::new("two_rooms", "two cold stages and their compressor")
+        .edition("ISSE,SECoP,V2021-02-17,v2.0")
         .module("t_east", "stage in the east room")
         .parameter(
             "value",
@@ -49,6 +51,13 @@ fn rooms() -> Table {
             "4.2",
         )
         .parameter("target", "set point in K", Access::Write, &kelvin, "4.2")
+        .parameter(
+            "status",
+            "what it does",
+            Access::ReadOnly,
+            &status,
+            r#"[100,"at rest"]"#,
+        )
         .command("stop", "stay at this temperature", None)
         .module("t_west", "stage in the west room")
         .parameter("value", "temperature in K", Access::ReadOnly, &kelvin, "77")

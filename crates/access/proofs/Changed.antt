@@ -1,13 +1,11 @@
 -- The ways out of a request to change a parameter. Assumes nothing.
 use Prim.Native.Nat.{ℕ, _≤_}
 use mathlib.Core.Path.{_≡_, refl, sym, subst, _∙_}
-use mathlib.Core.Bool.{true, false}
-use mathlib.Core.List.{List, _∷_}
-use lib.ListN.{drop}
+use mathlib.Core.List.{List, _∷_, _++_}
+use lib.ListN.{length, drop}
 use Rattle.ascii.specs.Numbers.{latest}
 use Rattle.datainfo.specs.Layout.{datainfoAt}
-use Rattle.fit.specs.Fit.{isFit, severity, storedForm}
-use Rattle.fit.specs.Fit as Fit
+use Rattle.fit.specs.Fit.{storedForm}
 use Rattle.form.proofs.Stored.{stored}
 use Rattle.table.specs.declared.layout.ParameterAt.{ParameterAt}
 use Rattle.table.specs.Layout.{tableOf}
@@ -21,18 +19,21 @@ use Rattle.message.specs.declared.say.Class.{Class}
 use Rattle.outbox.specs.Outbox.{orderChange}
 use Rattle.plain.specs.Node.{clientNumbers, updatesTo}
 use Rattle.plain.specs.Answer as Plain
-use Rattle.plain.specs.Answer.{refused, letIn, sets, changes}
+use Rattle.plain.specs.Answer.{refused, busy, sets, changes}
 use Rattle.state.specs.declared.State.{State}
 use Rattle.state.specs.View.{clientAt, view}
 use Rattle.outcome.specs.Ready.{Ready}
-use Rattle.outcome.specs.Outcome.{Refuses, OutcomeIs, OfParameter}
+use Rattle.outcome.specs.Outcome.{Refuses, Stores, OutcomeIs, OfParameter}
 use Rattle.outcome.specs.declared.Outcome.{Outcome}
 use Rattle.outcome.specs.declared.Outcome.the-variants.{Refused}
-use Rattle.access.specs.Set.{setRecords, Settable, Accepts, IsSetBy}
-use Rattle.access.specs.Judged.{Lets, JudgesChange}
+use Rattle.access.specs.Busy.{statusUpdates}
+use Rattle.access.specs.Set.{setRecords, Settable, Accepts, IsSet, IsSetBy}
+use Rattle.access.specs.Judged.{JudgesChange}
 use Rattle.access.specs.declared.judge.Judged.{Judged}
 use Rattle.access.specs.declared.judge.Judged.the-variants as J
 use Rattle.access.proofs.Finding.{ParameterKnown, parameter-known, the-parameter}
+use Rattle.access.proofs.Judgements.{judged-refused, judged-let-in, judged-fits, judged-fitting}
+use Rattle.access.proofs.Statuses.{settings-stand, updates-stand, status-holds, area-stands}
 
 module _ (s : List ℕ) (st : State) (values out : List ℕ) (c t : ℕ) (g : Ready s st values out c) (m a xs : List ℕ)
     (k h : ℕ) (q : ParameterAt) (f : ParameterFound s m a k h q) (v : Judged) (j : JudgesChange (datainfoAt (drop (q .info) s)) (q .readonly) xs v) where
@@ -45,26 +46,16 @@ module _ (s : List ℕ) (st : State) (values out : List ℕ) (c t : ℕ) (g : Re
   abbrev setting : Plain.Outcome
   setting = sets (tableOf s) (view s st values) c t (k, p .it) (storedForm (p .it .it .datainfo) xs)
 
-  lets : Lets (q .readonly) (Fit.verdict (p .it .it .datainfo) xs) v
-  lets = j .is (p .info)
-
   pub change-refused : (e : Class) → v ≡ J.Refused e → OfParameter s st values out c t (Refused e) values out m a (λ w n c t. changes w n c t xs)
   unfolding changes
   change-refused e z =
       the-parameter p (λ x. Refuses (tableOf s) (view s st values) c t out out values values (change x) (refused (class (classOf e))))
-      (record { is = rw (p .readonly) (subst (Lets (q .readonly) (Fit.verdict (p .it .it .datainfo) xs)) z lets setting); quiet = refl; area = refl })
+      (record { is = judged-refused s m a xs k h q p v j (view s st values) c t _ e z; quiet = refl; area = refl })
 
   module _ (z : v ≡ J.LetIn) where
-    let-in : (q .readonly ≡ false) × (Fit.verdict (p .it .it .datainfo) xs ≡ Fit.fits)
-    let-in = subst (Lets (q .readonly) (Fit.verdict (p .it .it .datainfo) xs)) z lets
-
-    fits-it : isFit (Fit.verdict (p .it .it .datainfo) xs) ≡ true
-    unfolding isFit severity
-    fits-it = rw (let-in .1)
-
     is-set : change (k, p .it) ≡ setting
-    unfolding changes letIn
-    is-set = rw (p .readonly ∙ let-in .0, let-in .1)
+    unfolding changes
+    is-set = judged-let-in s m a xs k h q p v j (view s st values) c t (sets (tableOf s) (view s st values) c t) z
 
     pub change-settable : t ≤ latest → Settable out k h m a t × Accepts s (q .info) values xs
     change-settable l = (
@@ -77,35 +68,43 @@ module _ (s : List ℕ) (st : State) (values out : List ℕ) (c t : ℕ) (g : Re
         room = g .lent .room;
       },
       record {
-        fitting =
-            record {
-              reads = record { within = p .within; datainfo = p .it .it .datainfo; left = p .left; is = p .info };
-              fits = fits-it;
-            };
+        accepted = g .lent .accepted;
+        fitting = judged-fitting s m a xs k h q p v j z;
         area = g .area;
       },
     )
 
-    pub change-set : (o : Outcome) (stored-values after : List ℕ)
-        → IsSetBy (datainfoAt (drop (q .info) s)) (st .clients) c k h m a xs t values out o stored-values after
-        → OfParameter s st values out c t o stored-values after m a (λ w n c t. changes w n c t xs)
+    abbrev value : List ℕ
+    value = storedForm (p .it .it .datainfo) xs
+
+    was-set : (stored-values after : List ℕ) (o : Outcome) → (i : IsSet s (p .it .it .datainfo) (st .clients) c k h m a xs t values out o stored-values after)
+        → Stores (tableOf s) (view s st values) c t out after values stored-values (change (k, p .it)) (i .first) k (length value) (i .written)
     unfolding sets setRecords view
+    was-set stored-values after o i =
+        let set = settings-stand s m a (g .lent .accepted) (i .first) (i .finds) (p .it) (p .moduleNamed) (p .named) t in
+        let told = updates-stand s m a (g .lent .accepted) (i .first) (i .finds) (p .it) (p .moduleNamed) (p .named) (st .clients) t in
+        record {
+          text = value;
+          status = status-holds s m a (g .lent .accepted) (i .first) (i .finds) (p .it) (p .moduleNamed) (p .named);
+          holds = record { parameter = p .it; there = p .there; fits = stored (p .it .it .datainfo) xs (p .inTable) (judged-fits s m a xs k h q p v j z) };
+          long = refl;
+          carries =
+              record {
+                records =
+                    orderChange c k value
+                    ∷ (statusUpdates (st .clients) (i .first) m busy t ++ updatesTo (clientAt (st .clients)) h (reportOf m a (valued value) t) clientNumbers);
+                reply = changed (reportOf m a (valued value) t);
+                is = is-set ∙ rw (set, told, p .home, p .moduleNamed, p .named);
+                puts = i .puts;
+              };
+          area = i .area ∙ area-stands values (i .first) k value t;
+        }
+
+    pub change-set : (o : Outcome) (stored-values after : List ℕ)
+        → IsSetBy s (datainfoAt (drop (q .info) s)) (st .clients) c k h m a xs t values out o stored-values after
+        → OfParameter s st values out c t o stored-values after m a (λ w n c t. changes w n c t xs)
     change-set o stored-values after by =
         let i = by .is (p .info) in
         the-parameter p (λ x. OutcomeIs (tableOf s) (view s st values) c t out after values stored-values o (change x))
         (subst (λ (r : Outcome). OutcomeIs (tableOf s) (view s st values) c t out after values stored-values r (change (k, p .it))) (sym (i .is))
-        (record {
-          text = storedForm (p .it .it .datainfo) xs;
-          parameter = p .it;
-          there = p .there;
-          fits = stored (p .it .it .datainfo) xs (p .inTable) fits-it;
-          long = refl;
-          carries =
-              record {
-                records = orderChange c k (storedForm (p .it .it .datainfo) xs) ∷ updatesTo (clientAt (st .clients)) h (reportOf m a (valued (storedForm (p .it .it .datainfo) xs)) t) clientNumbers;
-                reply = changed (reportOf m a (valued (storedForm (p .it .it .datainfo) xs)) t);
-                is = is-set ∙ rw (p .home, p .moduleNamed, p .named);
-                puts = i .puts;
-              };
-          area = i .area;
-        }))
+        (was-set stored-values after o i))

@@ -1,9 +1,13 @@
 pub mod Nulls
 pub mod Arguments
+pub mod Taken
 pub mod Orders
 pub mod Finding
 pub mod Executed
 pub mod Showing
+pub mod Statuses
 pub mod Sets
+pub mod Judgements
 pub mod Changed
+pub mod Checked
 pub mod Judging

@@ -1,8 +1,7 @@
 -- The order to carry out a command, and the reply after it: what is written, and that it has room. Assumes nothing.
-use Prim.Native.Nat.{ℕ, _+_, _-_, _≤_}
-use native.Mathlib.Nat.{zero-add}
+use Prim.Native.Nat.{ℕ, _+_, _≤_}
 use native.Mathlib.Omega.{arith}
-use mathlib.Core.Path.{_≡_, _∙_}
+use mathlib.Core.Path.{_≡_}
 use mathlib.Core.Bool.{Bool, true, false, not}
 use mathlib.Core.List.{List, [], _∷_, append-nil}
 use mathlib.Core.Option.{Option, none, some}
@@ -11,10 +10,9 @@ use borrow.Author.Tests.{not-true, not-false}
 use Rattle.ascii.specs.Text.{bytes}
 use Rattle.ascii.specs.Numbers.{twoBytes}
 use Rattle.ascii.specs.Writer.{Puts}
-use Rattle.ascii.proofs.Puts.{puts-length}
 use Rattle.datainfo.specs.Datainfo.{Datainfo}
 use Rattle.datainfo.specs.Layout.{datainfoIn}
-use Rattle.fit.specs.Fit.{storedForm, isFit}
+use Rattle.fit.specs.Fit.{isFit}
 use Rattle.form.specs.Formed.{FitsAt, PutsForm}
 use Rattle.form.proofs.Stored.{stored-short}
 use Rattle.table.specs.Layout.{argumentAt}
@@ -25,9 +23,9 @@ use Rattle.outbox.specs.Written.{RoomFor}
 use Rattle.plain.specs.Answer.{argumentVerdict, argumentForm}
 use Rattle.sound.proofs.Records.{Fine, Written, says-done, written-one, written-append, written-final}
 use Rattle.sound.proofs.Room.{room-after, puts-after}
-use Rattle.state.proofs.Forms.{stands}
 use Rattle.access.specs.Argument.{Ordered, Reported, orderRecords, PutsOrder, IsOrdered}
 use Rattle.access.proofs.Arguments.{none-declared, Declared, some-declared}
+use Rattle.access.proofs.Taken.{taken-within, taken-is, taken-length, taken-short}
 
 form-short : (a : Option Datainfo) (xs : List ℕ) → isFit (argumentVerdict a xs) ≡ true → length (argumentForm a xs) ≤ 256
 unfolding argumentForm argumentVerdict
@@ -67,23 +65,17 @@ module _ (table : List ℕ) (info : ℕ) (out : List ℕ) (k : ℕ) (b : Bool) (
     -- its stored form is written to d, and then taken from there
     module _ (d after : List ℕ) (r : ℕ) (x : PutsForm (datainfoIn 4 (drop info table)) xs d 0 after r) (h : length d ≡ 256) where
       pub form-within : r ≤ length after
-      form-within = let l = puts-length (x .is (argument-fits .reads .is)) in let s = x .short in omega arith
-
-      form : {i : Datainfo} {y : List ℕ} → datainfoIn 4 (drop info table) ≡ some (i, y) → take r after ≡ storedForm i xs
-      form f =
-          let z : r - 0 ≡ r = omega arith in
-          let p = x .is f in
-          rw z at (stands p (let l = puts-length p in let y = form-within in omega arith))
+      form-within = taken-within table info xs argument-fits d after r x h
 
       pub order-slice : r ≡ length (take r after)
-      order-slice = x .is (argument-fits .reads .is) .ends ∙ rw (zero-add, form (argument-fits .reads .is))
+      order-slice = taken-length table info xs argument-fits d after r x h
 
       pub order-room-form : (i j : ℕ) → RoomFor out 0 (orderCommand i j (take r after))
-      order-room-form i j = order-room i j (take r after) (rw (form (argument-fits .reads .is)) (stored-short (argument-fits .reads .datainfo) xs (argument-fits .fits)))
+      order-room-form i j = order-room i j (take r after) (taken-short table info xs argument-fits d after r x h)
 
       pub order-some : (last : List ℕ) (q : ℕ) → Puts out 0 (encode (orderCommand c k (take r after))) last q → PutsOrder read c k xs out last q
       unfolding argumentForm
-      order-some last q p = record { is = λ i. let z = declared i in rw (z .is) (rw (form (z .reads)) at p) }
+      order-some last q p = record { is = λ i. let z = declared i in rw (z .is) (rw (taken-is table info xs argument-fits d after r x h (z .reads)) at p) }
 
 -- ## The order and the reply
 

@@ -1,3 +1,5 @@
 pub mod Argument
+pub mod Busy
 pub mod Set
 pub mod Judged
+pub mod Told

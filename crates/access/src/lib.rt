@@ -1,12 +1,16 @@
-// `read`, `change` and `do`: what is asked of one accessible of a module.
+// `read`, `change`, `check` and `do`: what is asked of one accessible of a module.
+mod busy;
 mod command;
 mod judge;
 mod setting;
+mod telling;
 
 ghost use Prim.Native.Nat.{ℕ, _≤_};
+ghost use mathlib.Core.List.{List};
 ghost use Rattle.ascii.specs.Numbers.{latest};
 ghost use Rattle.search.specs.Found.{ParameterFound, CommandFound};
-ghost use Rattle.plain.specs.Answer.{reads, changes, does};
+ghost use Rattle.plain.specs.Answer.{reads, changes, checks, does};
+ghost use Rattle.state.specs.declared.State.{State};
 ghost use Rattle.outcome.specs.Ready.{Lent, Ready};
 ghost use Rattle.outcome.specs.Outcome.{OfParameter, OfCommand};
 use crate::command::argument_verdict;
@@ -15,6 +19,7 @@ use crate::judge::Judged;
 use crate::judge::judge_change;
 use crate::judge::let_in;
 use crate::setting::set;
+use crate::telling::put_checked;
 use message::say::Sensor;
 use outbox::write::Told;
 use outbox::write::put_final_report;
@@ -95,6 +100,33 @@ pub fn change(
                 name,
                 text,
             )
+        }
+    }
+}
+
+// What a change would store is told, and nothing is stored; or the error that a change would be refused with, and the outbox is as it was. Neither
+// state nor values area is looked at.
+pub fn check(
+    table: &[u8],
+    out: &mut [u8],
+    client: u8,
+    time: u64,
+    k: usize,
+    home: usize,
+    q: ParameterAt,
+    module: &[u8],
+    name: &[u8],
+    text: &[u8],
+) -> Outcome
+    requires { ⌜ Lent (now table) (now out) client × ((time ≤ latest) × ParameterFound (now table) (now «module») (now name) k home q) ⌝ }
+    ensures { λ r. ⌜ ((s : State) (values : List ℕ) → OfParameter (now (table .entry)) s values (now (out .entry)) client time r values (now (out .exit))
+        (now («module» .entry)) (now (name .entry)) (λ w n c t. checks w n c t (now (text .entry)))) ⌝ }
+{
+    match judge_change(table, q, text) {
+        Judged::Refused(class) => Outcome::Refused(class),
+        Judged::LetIn => {
+            let info = q.info;
+            Outcome::Sent(put_checked(table, info, out, client, time, module, name, text))
         }
     }
 }

@@ -1,23 +1,29 @@
-// A parameter is set by a client.
+// A parameter is set by a client, and before it the status of its module, if it is to be.
 ghost use Prim.Native.Nat.{_≤_};
 ghost use lib.ListN.{length, drop};
 ghost use Rattle.ascii.specs.Writer.{Puts};
 ghost use Rattle.datainfo.specs.Layout.{datainfoIn};
 ghost use Rattle.outbox.specs.Outbox.{encodeAll};
-ghost use Rattle.access.specs.Set.{Settable, Accepts, IsSetBy, setRecords};
+ghost use Rattle.access.specs.Set.{Settable, Accepts, Staged, IsSetBy, setRecords};
+use crate::busy::put_status;
+use crate::busy::status_of;
+use crate::busy::store_status;
 use form::put_form;
 use message::say::Sensor;
 use outbox::write::Told;
 use outbox::write::put_final_report;
 use outbox::write::put_order_change;
 use outcome::Outcome;
+use outcome::Status;
 use state::Clients;
 use update::put_updates_to;
 
-// The records of a change: "the driver's order ..", the updates, and `changed`.
+// The records of a change: "the driver's order ..", the updates of the status, those of the parameter, and `changed`.
 fn put_set(
     out: &mut [u8],
     clients: Clients,
+    status: Status,
+    busy: &[u8],
     client: u8,
     time: u64,
     k: usize,
@@ -26,13 +32,15 @@ fn put_set(
     name: &[u8],
     value: &[u8],
 ) -> usize
-    requires { ⌜ Settable (now out) k home (now «module») (now name) time × (length (now value) ≤ 256) ⌝ }
-    ensures { λ r. ⌜ Puts (now (out .entry)) 0 (encodeAll (setRecords clients client k home (now («module» .entry)) (now (name .entry)) (now (value .entry)) time)) (now (out .exit)) r ⌝ }
+    requires { ⌜ Settable (now out) k home (now «module») (now name) time × (Staged status (now busy) × (length (now value) ≤ 256)) ⌝ }
+    ensures { λ r. ⌜ Puts (now (out .entry)) 0 (encodeAll (setRecords clients status (now (busy .entry)) client k home (now («module» .entry))
+        (now (name .entry)) (now (value .entry)) time)) (now (out .exit)) r ⌝ }
 {
     let order = put_order_change(out, 0, client, k as u8, value);
+    let first = put_status(out, order, clients, status, module, busy, time);
     let told = put_updates_to(
         out,
-        order,
+        first,
         clients,
         home,
         module,
@@ -60,11 +68,27 @@ pub fn set(
     text: &[u8],
 ) -> Outcome
     requires { ⌜ Settable (now out) k home (now «module») (now name) time × Accepts (now table) info (now values) (now text) ⌝ }
-    ensures { λ r. ⌜ IsSetBy (datainfoIn 4 (drop info (now (table .entry)))) clients client k home (now («module» .entry)) (now (name .entry)) (now (text .entry)) time (now (values .entry)) (now (out .entry)) r (now (values .exit)) (now (out .exit)) ⌝ }
+    ensures { λ r. ⌜ IsSetBy (now (table .entry)) (datainfoIn 4 (drop info (now (table .entry)))) clients client k home (now («module» .entry))
+        (now (name .entry)) (now (text .entry)) time (now (values .entry)) (now (out .entry)) r (now (values .exit)) (now (out .exit)) ⌝ }
 {
+    let busy = b"[300,\"target changed\"]";
+    let status = status_of(table, module, name, busy);
+    store_status(values, status, busy);
     let at = 256 * k;
     let end = put_form(table, info, values, at, text);
     let value = &values[at..end];
-    let written = put_set(out, clients, client, time, k, home, module, name, value);
-    Outcome::Stored(k, end - at, written)
+    let written = put_set(
+        out,
+        clients,
+        status,
+        busy,
+        client,
+        time,
+        k,
+        home,
+        module,
+        name,
+        value,
+    );
+    Outcome::Stored(status, k, end - at, written)
 }

@@ -26,9 +26,13 @@ kelvin = (1 ∷ []) ++ small 0 ++ (0 ∷ []) ++ small 300 ++ (0 ∷ [])
 unfoldable pub onOff : List ℕ
 onOff = (4 ∷ 2 ∷ []) ++ counted "off" ++ (0 ∷ 0 ∷ 0 ∷ 0 ∷ []) ++ counted "on" ++ (0 ∷ 0 ∷ 0 ∷ 1 ∷ [])
 
--- the node, with some bytes after the module
+-- the node, with some bytes before the module and some after it
+unfoldable pub around : List ℕ → List ℕ → List ℕ
+around front rest =
+    bytes "ND" ++ counted "demo" ++ counted "one stage" ++ front ++ bytes "MO" ++ counted "t1" ++ counted "stage" ++ rest ++ bytes "EN"
+
 unfoldable pub oneModule : List ℕ → List ℕ
-oneModule rest = bytes "ND" ++ counted "demo" ++ counted "one stage" ++ bytes "MO" ++ counted "t1" ++ counted "stage" ++ rest ++ bytes "EN"
+oneModule rest = around [] rest
 
 -- the accessibles of document 01's whole report
 unfoldable pub reported : List ℕ
@@ -58,11 +62,10 @@ demo = oneModule reported
 unfoldable pub noted : List ℕ
 noted = oneModule (bytes "NO" ++ counted "mind the gap" ++ reported)
 
--- the table of the outbox example: target is parameter 1
-unfoldable pub stage : List ℕ
-stage =
-    oneModule
-    (bytes "PA"
+-- the parameters of the outbox example: target is parameter 1
+unfoldable pub valueAndTarget : List ℕ
+valueAndTarget =
+    bytes "PA"
     ++ counted "value"
     ++ counted "reading"
     ++ (1 ∷ [])
@@ -74,7 +77,31 @@ stage =
     ++ (0 ∷ [])
     ++ kelvin
     ++ initial "0"
-    ++ bytes "CM"
-    ++ counted "stop"
-    ++ counted "stop"
-    ++ (0 ∷ []))
+
+-- and its command
+unfoldable pub staged : List ℕ
+staged = valueAndTarget ++ bytes "CM" ++ counted "stop" ++ counted "stop" ++ (0 ∷ [])
+
+-- the table of the outbox example
+unfoldable pub stage : List ℕ
+stage = oneModule staged
+
+-- the same with a readonly status, parameter 2: an enum's number and a string of as many characters as is said
+unfoldable pub ramp : ℕ → List ℕ
+ramp most =
+    oneModule
+    (valueAndTarget
+    ++ bytes "PA"
+    ++ counted "status"
+    ++ counted "state"
+    ++ (1 ∷ 7 ∷ 2 ∷ 4 ∷ 2 ∷ [])
+    ++ counted "idle"
+    ++ (0 ∷ 0 ∷ 0 ∷ 100 ∷ [])
+    ++ counted "busy"
+    ++ (0 ∷ 0 ∷ 1 ∷ 44 ∷ [])
+    ++ (5 ∷ 0 ∷ 0 ∷ 0 ∷ most ∷ [])
+    ++ initial "[100,\"\"]")
+
+-- the table of the outbox example with an edition (M-107)
+unfoldable pub edited : List ℕ
+edited = around (bytes "ED" ++ counted "ISSE,SECoP,V2021-02-17,v2.0") staged

@@ -7,17 +7,17 @@ use Rattle.examples.specs.Told.{History}
 unfoldable pub history-1 : History
 history-1 =
     record {
-      table = bytes "ND\u{1}s\0MO\u{2}t1\u{1}dPA\u{3}pid\0\0\u{8}\u{2}\u{1}p\u{2}\0\0\0\0\0\0\0\0\0\0\0\0\0\0\0\t\u{1}q\u{3}\0\u{10}{\"p\":1,\"q\":true}CM\u{2}go\0\u{1}\u{2}\0\0\0\0\0\0\0\0\0\0\0\0\0\0\0\tMO\u{2}mf\u{1}dPA\u{4}mode\0\0\u{4}\u{2}\u{3}off\0\0\0\0\u{2}on\0\0\0\u{1}\0\u{1}0PA\u{4}pair\0\0\u{7}\u{2}\u{3}\u{2}\0\0\0\0\0\0\0\0\0\0\0\0\0\0\0\t\0\u{8}[true,1]EN";
+      table = bytes "ND\u{1}s\0ED\u{c}ISSE,SECoP,xMO\u{2}t1\u{1}dPA\u{3}pid\0\0\u{8}\u{2}\u{1}p\u{2}\0\0\0\0\0\0\0\0\0\0\0\0\0\0\0\t\u{1}q\u{3}\0\u{10}{\"p\":1,\"q\":true}CM\u{2}go\0\u{1}\u{2}\0\0\0\0\0\0\0\0\0\0\0\0\0\0\0\tMO\u{2}mf\u{1}dPA\u{4}mode\0\0\u{4}\u{2}\u{3}off\0\0\0\0\u{2}on\0\0\0\u{1}\0\u{1}0PA\u{4}pair\0\0\u{7}\u{2}\u{3}\u{2}\0\0\0\0\0\0\0\0\0\0\0\0\0\0\0\t\0\u{8}[true,1]EN";
       area = 16384;
-      time = 1737;
+      time = 1000;
       start = 0;
       calls =
           withArea (Open 0 1000) 16384
-          ∷ withOutbox (Piece 0 (bytes "describe x {\n") 3476) 16384 32768
+          ∷ withOutbox (Piece 0 (bytes "describe .\n") 14) 16384 40000
           ∷ [];
       due =
           record { number = 0; used = 0; written = bytes "" }
-          ∷ record { number = 0; used = 13; written = bytes "RP\0\u{2}\u{8c}describing . {\"modules\":{\"t1\":{\"interface_classes\":[],\"description\":\"d\",\"accessibles\":{\"pid\":{\"description\":\"\",\"readonly\":false,\"datainfo\":{\"type\":\"struct\",\"members\":{\"p\":{\"type\":\"int\",\"min\":0,\"max\":9},\"q\":{\"type\":\"bool\"}}}},\"go\":{\"description\":\"\",\"datainfo\":{\"type\":\"command\",\"argument\":{\"type\":\"int\",\"min\":0,\"max\":9}}}}},\"mf\":{\"interface_classes\":[],\"description\":\"d\",\"accessibles\":{\"mode\":{\"description\":\"\",\"readonly\":false,\"datainfo\":{\"type\":\"enum\",\"members\":{\"off\":0,\"on\":1}}},\"pair\":{\"description\":\"\",\"readonly\":false,\"datainfo\":{\"type\":\"tuple\",\"members\":[{\"type\":\"bool\"},{\"type\":\"int\",\"min\":0,\"max\":9}]}}}}},\"equipment_id\":\"s\",\"description\":\"\"}\n" }
+          ∷ record { number = 0; used = 11; written = bytes "RP\0\u{2}\u{8c}describing . {\"modules\":{\"t1\":{\"interface_classes\":[],\"description\":\"d\",\"accessibles\":{\"pid\":{\"description\":\"\",\"readonly\":false,\"datainfo\":{\"type\":\"struct\",\"members\":{\"p\":{\"type\":\"int\",\"min\":0,\"max\":9},\"q\":{\"type\":\"bool\"}}}},\"go\":{\"description\":\"\",\"datainfo\":{\"type\":\"command\",\"argument\":{\"type\":\"int\",\"min\":0,\"max\":9}}}}},\"mf\":{\"interface_classes\":[],\"description\":\"d\",\"accessibles\":{\"mode\":{\"description\":\"\",\"readonly\":false,\"datainfo\":{\"type\":\"enum\",\"members\":{\"off\":0,\"on\":1}}},\"pair\":{\"description\":\"\",\"readonly\":false,\"datainfo\":{\"type\":\"tuple\",\"members\":[{\"type\":\"bool\"},{\"type\":\"int\",\"min\":0,\"max\":9}]}}}}},\"equipment_id\":\"s\",\"description\":\"\"}\n" }
           ∷ [];
     }
 
@@ -26,16 +26,16 @@ history-2 =
     record {
       table = bytes "ND\u{1}s\0MO\u{2}t1\u{1}dNO\u{1}nPA\u{4}list\0\0\u{6}\0\0\0\u{2}\u{2}\0\0\0\0\0\0\0\0\0\0\0\0\0\0\0\t\0\u{2}[]CM\u{2}go\0\u{1}\u{2}\0\0\0\0\0\0\0\0\0\0\0\0\0\0\0\tMO\u{2}mf\u{1}dCM\u{4}stop\0\0EN";
       area = 16384;
-      time = 0;
+      time = 2500;
       start = 0;
       calls =
           withArea (Open 0 1000) 16384
-          ∷ withOutbox (Piece 0 (bytes "activate\n") 2212) 16384 32768
-          ∷ withOutbox (Piece 0 (bytes "deactivate t1\n") 3089) 16384 32769
+          ∷ withOutbox (Piece 0 (bytes "activate \n") 2878) 16384 32768
+          ∷ withOutbox (Piece 0 (bytes "deactivate t1\n") 4896) 16385 32768
           ∷ [];
       due =
           record { number = 0; used = 0; written = bytes "" }
-          ∷ record { number = 0; used = 9; written = bytes "UP\0\0 update t1:list [[],{\"t\":0.000}]\nRP\0\0\u{7}active\n" }
+          ∷ record { number = 0; used = 10; written = bytes "UP\0\0 update t1:list [[],{\"t\":2.500}]\nRP\0\0\u{7}active\n" }
           ∷ record { number = 0; used = 14; written = bytes "RP\0\0\u{c}inactive t1\n" }
           ∷ [];
     }
@@ -44,24 +44,24 @@ unfoldable pub history-3 : History
 history-3 =
     record {
       table = bytes "ND\u{1}s\0MO\u{2}t1\u{1}dNO\u{1}nPA\u{3}pid\0\0\u{8}\u{2}\u{1}p\u{2}\0\0\0\0\0\0\0\0\0\0\0\0\0\0\0\t\u{1}q\u{3}\0\u{10}{\"p\":1,\"q\":true}MO\u{2}mf\u{1}dPA\u{5}label\0\0\u{5}\0\0\0\u{8}\0\u{4}\"ok\"CM\u{4}stop\0\0PA\u{4}pair\0\0\u{7}\u{2}\u{3}\u{2}\0\0\0\0\0\0\0\0\0\0\0\0\0\0\0\t\0\u{8}[true,1]PA\u{4}mode\0\0\u{4}\u{2}\u{3}off\0\0\0\0\u{2}on\0\0\0\u{1}\0\u{1}0EN";
-      area = 16384;
-      time = 9999999999999;
+      area = 20000;
+      time = 1505396349511;
       start = 0;
       calls =
           withArea (Open 0 1000) 16384
           ∷ withArea (Open 3 1000) 16384
-          ∷ withOutbox (Piece 3 (bytes "activate\n") 9999999999999) 16384 32768
-          ∷ withOutbox (Piece 0 (bytes "activate\n") 1505396350797) 20000 32768
-          ∷ withOutbox (Piece 0 (bytes "change t1:pid {\"p\":7,\"q\":false}\n") 1505396352060) 16385 40000
-          ∷ withOutbox (Piece 3 (bytes "change mf:mode \"off\"\n") 1505396352608) 16384 40000
+          ∷ withOutbox (Piece 3 (bytes "activate\n") 1505396351394) 16384 32768
+          ∷ withOutbox (Piece 0 (bytes "activate\n") 1505396351394) 16384 40000
+          ∷ withOutbox (Piece 0 (bytes "change mf:mode \"on\"\n") 1505396353177) 16384 32768
+          ∷ withOutbox (Piece 3 (bytes "change mf:mode \"on\"\n") 9123043837679) 16384 32769
           ∷ [];
       due =
           record { number = 0; used = 0; written = bytes "" }
           ∷ record { number = 0; used = 0; written = bytes "" }
-          ∷ record { number = 0; used = 9; written = bytes "UP\u{3}\06update t1:pid [{\"p\":1,\"q\":true},{\"t\":9999999999.999}]\nUP\u{3}\0,update mf:label [\"ok\",{\"t\":9999999999.999}]\nUP\u{3}\0/update mf:pair [[true,1],{\"t\":9999999999.999}]\nUP\u{3}\0(update mf:mode [0,{\"t\":9999999999.999}]\nRP\u{3}\0\u{7}active\n" }
-          ∷ record { number = 0; used = 9; written = bytes "UP\0\06update t1:pid [{\"p\":1,\"q\":true},{\"t\":9999999999.999}]\nUP\0\0,update mf:label [\"ok\",{\"t\":9999999999.999}]\nUP\0\0/update mf:pair [[true,1],{\"t\":9999999999.999}]\nUP\0\0(update mf:mode [0,{\"t\":9999999999.999}]\nRP\0\0\u{7}active\n" }
-          ∷ record { number = 0; used = 32; written = bytes "DR\0\0\u{12}\0{\"p\":7,\"q\":false}UP\0\07update t1:pid [{\"p\":7,\"q\":false},{\"t\":1505396352.060}]\nUP\u{3}\07update t1:pid [{\"p\":7,\"q\":false},{\"t\":1505396352.060}]\nRP\0\08changed t1:pid [{\"p\":7,\"q\":false},{\"t\":1505396352.060}]\n" }
-          ∷ record { number = 0; used = 21; written = bytes "DR\u{3}\0\u{2}\u{3}0UP\0\0(update mf:mode [0,{\"t\":1505396352.608}]\nUP\u{3}\0(update mf:mode [0,{\"t\":1505396352.608}]\nRP\u{3}\0)changed mf:mode [0,{\"t\":1505396352.608}]\n" }
+          ∷ record { number = 0; used = 9; written = bytes "UP\u{3}\06update t1:pid [{\"p\":1,\"q\":true},{\"t\":1505396349.511}]\nUP\u{3}\0,update mf:label [\"ok\",{\"t\":1505396349.511}]\nUP\u{3}\0/update mf:pair [[true,1],{\"t\":1505396349.511}]\nUP\u{3}\0(update mf:mode [0,{\"t\":1505396349.511}]\nRP\u{3}\0\u{7}active\n" }
+          ∷ record { number = 0; used = 9; written = bytes "UP\0\06update t1:pid [{\"p\":1,\"q\":true},{\"t\":1505396349.511}]\nUP\0\0,update mf:label [\"ok\",{\"t\":1505396349.511}]\nUP\0\0/update mf:pair [[true,1],{\"t\":1505396349.511}]\nUP\0\0(update mf:mode [0,{\"t\":1505396349.511}]\nRP\0\0\u{7}active\n" }
+          ∷ record { number = 0; used = 20; written = bytes "DR\0\0\u{2}\u{3}1UP\0\0(update mf:mode [1,{\"t\":1505396353.177}]\nUP\u{3}\0(update mf:mode [1,{\"t\":1505396353.177}]\nRP\0\0)changed mf:mode [1,{\"t\":1505396353.177}]\n" }
+          ∷ record { number = 0; used = 20; written = bytes "DR\u{3}\0\u{2}\u{3}1UP\0\0(update mf:mode [1,{\"t\":9123043837.679}]\nUP\u{3}\0(update mf:mode [1,{\"t\":9123043837.679}]\nRP\u{3}\0)changed mf:mode [1,{\"t\":9123043837.679}]\n" }
           ∷ [];
     }
 
@@ -69,45 +69,45 @@ unfoldable pub history-4 : History
 history-4 =
     record {
       table = bytes "ND\u{1}s\0MO\u{2}t1\u{1}dCM\u{4}stop\0\0PA\u{4}mode\0\0\u{4}\u{2}\u{3}off\0\0\0\0\u{2}on\0\0\0\u{1}\0\u{1}0PA\u{3}pid\0\0\u{8}\u{2}\u{1}p\u{2}\0\0\0\0\0\0\0\0\0\0\0\0\0\0\0\t\u{1}q\u{3}\0\u{10}{\"p\":1,\"q\":true}MO\u{2}mf\u{1}dPA\u{4}list\0\0\u{6}\0\0\0\u{2}\u{2}\0\0\0\0\0\0\0\0\0\0\0\0\0\0\0\t\0\u{2}[]EN";
-      area = 16384;
-      time = 2088;
+      area = 16385;
+      time = 1521;
       start = 0;
       calls =
           withArea (Open 0 1000) 16384
-          ∷ withOutbox (Piece 0 (bytes "change t1:mode \"123456789\"\n") 3415) 16384 32768
-          ∷ withOutbox (Piece 0 (bytes "change t1:mode 3e2\n") 5964) 16384 32769
-          ∷ withOutbox (Piece 0 (bytes "change t1:mode [1,2,3]\n") 6870) 16384 32768
-          ∷ withOutbox (Piece 0 (bytes "change t1:mode \"off\" \n") 9601) 20000 32768
+          ∷ withOutbox (Piece 0 (bytes "change t1:pid \"\\u0080\"\n") 3512) 16384 32768
+          ∷ withOutbox (Piece 0 (bytes "change t1:pid 301\n") 6325) 16385 40000
+          ∷ withOutbox (Piece 0 (bytes "change t1:pid [1,true\n") 7564) 16384 32768
+          ∷ withOutbox (Piece 0 (bytes "change mf:list    {\"a\" 1} \n") 8566) 16385 32768
           ∷ [];
       due =
           record { number = 0; used = 0; written = bytes "" }
-          ∷ record { number = 0; used = 27; written = bytes "RP\0\0?error_change t1:mode [\"RangeError\",\"value is out of range\",{}]\n" }
-          ∷ record { number = 0; used = 19; written = bytes "RP\0\0Aerror_change t1:mode [\"WrongType\",\"value has the wrong type\",{}]\n" }
-          ∷ record { number = 0; used = 23; written = bytes "RP\0\0Aerror_change t1:mode [\"WrongType\",\"value has the wrong type\",{}]\n" }
-          ∷ record { number = 0; used = 22; written = bytes "DR\0\0\u{2}\00RP\0\0 changed t1:mode [0,{\"t\":9.601}]\n" }
+          ∷ record { number = 0; used = 23; written = bytes "RP\0\0@error_change t1:pid [\"WrongType\",\"value has the wrong type\",{}]\n" }
+          ∷ record { number = 0; used = 18; written = bytes "RP\0\0@error_change t1:pid [\"WrongType\",\"value has the wrong type\",{}]\n" }
+          ∷ record { number = 0; used = 22; written = bytes "RP\0\06error_change t1:pid [\"BadJSON\",\"data is not JSON\",{}]\n" }
+          ∷ record { number = 0; used = 27; written = bytes "RP\0\07error_change mf:list [\"BadJSON\",\"data is not JSON\",{}]\n" }
           ∷ [];
     }
 
 unfoldable pub history-5 : History
 history-5 =
     record {
-      table = bytes "ND\u{1}s\0MO\u{2}t1\u{1}dCM\u{2}go\0\u{1}\u{2}\0\0\0\0\0\0\0\0\0\0\0\0\0\0\0\tMO\u{2}mf\u{1}dPA\u{5}label\0\0\u{5}\0\0\0\u{8}\0\u{4}\"ok\"PA\u{4}pair\0\0\u{7}\u{2}\u{3}\u{2}\0\0\0\0\0\0\0\0\0\0\0\0\0\0\0\t\0\u{8}[true,1]EN";
+      table = bytes "ND\u{1}s\0ED\u{c}ISSE,SECoP,xMO\u{2}t1\u{1}dCM\u{2}go\0\u{1}\u{2}\0\0\0\0\0\0\0\0\0\0\0\0\0\0\0\tMO\u{2}mf\u{1}dPA\u{5}label\0\0\u{5}\0\0\0\u{8}\0\u{4}\"ok\"PA\u{4}pair\0\0\u{7}\u{2}\u{3}\u{2}\0\0\0\0\0\0\0\0\0\0\0\0\0\0\0\t\0\u{8}[true,1]EN";
       area = 16384;
-      time = 3380;
+      time = 1505396347318;
       start = 0;
       calls =
           withArea (Open 0 1000) 16384
-          ∷ withOutbox (Piece 0 (bytes "read mf:label\n") 1112) 16384 40000
-          ∷ withOutbox (Piece 0 (bytes "read mf:label:x y\n") 1872) 16384 40000
-          ∷ withOutbox (Piece 0 (bytes "read MF:LABEL\n") 0) 16384 40000
-          ∷ withOutbox (Piece 0 (bytes "read :value\n") 1413) 16384 32768
+          ∷ withOutbox (Piece 0 (bytes "read mf:pair\n") 1505396349418) 20000 40000
+          ∷ withOutbox (Piece 0 (bytes "read mf:pair:x y\n") 1505396349717) 20000 32768
+          ∷ withOutbox (Piece 0 (bytes "read MF:PAIR\n") 1505396349817) 20000 32768
+          ∷ withOutbox (Piece 0 (bytes "read t1::value\n") 1505396350642) 16384 32769
           ∷ [];
       due =
           record { number = 0; used = 0; written = bytes "" }
-          ∷ record { number = 0; used = 14; written = bytes "RP\0\0\"reply mf:label [\"ok\",{\"t\":3.380}]\n" }
-          ∷ record { number = 0; used = 18; written = bytes "RP\0\0\"reply mf:label [\"ok\",{\"t\":3.380}]\n" }
-          ∷ record { number = 0; used = 14; written = bytes "RP\0\09error_read MF:LABEL [\"NoSuchModule\",\"no such module\",{}]\n" }
-          ∷ record { number = 0; used = 12; written = bytes "RP\0\0Ferror_read :value [\"ProtocolError\",\"malformed or unknown request\",{}]\n" }
+          ∷ record { number = 0; used = 13; written = bytes "RP\0\0.reply mf:pair [[true,1],{\"t\":1505396347.318}]\n" }
+          ∷ record { number = 0; used = 17; written = bytes "RP\0\0.reply mf:pair [[true,1],{\"t\":1505396347.318}]\n" }
+          ∷ record { number = 0; used = 13; written = bytes "RP\0\08error_read MF:PAIR [\"NoSuchModule\",\"no such module\",{}]\n" }
+          ∷ record { number = 0; used = 15; written = bytes "RP\0\0Ierror_read t1::value [\"ProtocolError\",\"malformed or unknown request\",{}]\n" }
           ∷ [];
     }
 
@@ -115,19 +115,19 @@ unfoldable pub history-6 : History
 history-6 =
     record {
       table = bytes "ND\u{1}s\0MO\u{2}t1\u{1}dPA\u{5}value\0\u{1}\u{1}\0\0\0\0\0\0\0\0\0\0\0\0\0\0\0\0\u{3}\u{2}\0\u{6}295.13MO\u{2}mf\u{1}dPA\u{3}pid\0\0\u{8}\u{2}\u{1}p\u{2}\0\0\0\0\0\0\0\0\0\0\0\0\0\0\0\t\u{1}q\u{3}\0\u{10}{\"p\":1,\"q\":true}PA\u{4}pair\0\0\u{7}\u{2}\u{3}\u{2}\0\0\0\0\0\0\0\0\0\0\0\0\0\0\0\t\0\u{8}[true,1]CM\u{4}stop\0\0EN";
-      area = 16385;
-      time = 1917;
+      area = 16384;
+      time = 572;
       start = 0;
       calls =
           withArea (Open 0 1000) 16384
-          ∷ withOutbox (Piece 0 (bytes "change tx:target 1\n") 1988) 16384 32768
-          ∷ withOutbox (Piece 0 (bytes "do t1:value\n") 906) 20000 32769
-          ∷ withOutbox (Piece 0 (bytes "do t1:9\n") 2571) 16384 32769
+          ∷ withOutbox (Piece 0 (bytes "change tx:target 1\n") 1505396351176) 16384 32768
+          ∷ withOutbox (Piece 0 (bytes "do t1:tx\n") 1505396351277) 16385 32768
+          ∷ withOutbox (Piece 0 (bytes "do t1:9\n") 1505396351931) 16384 32769
           ∷ [];
       due =
           record { number = 0; used = 0; written = bytes "" }
           ∷ record { number = 0; used = 19; written = bytes "RP\0\0<error_change tx:target [\"NoSuchModule\",\"no such module\",{}]\n" }
-          ∷ record { number = 0; used = 12; written = bytes "RP\0\09error_do t1:value [\"NoSuchCommand\",\"no such command\",{}]\n" }
+          ∷ record { number = 0; used = 9; written = bytes "RP\0\06error_do t1:tx [\"NoSuchCommand\",\"no such command\",{}]\n" }
           ∷ record { number = 0; used = 8; written = bytes "RP\0\0Berror_do t1:9 [\"ProtocolError\",\"malformed or unknown request\",{}]\n" }
           ∷ [];
     }
@@ -137,21 +137,21 @@ history-7 =
     record {
       table = bytes "ND\u{1}s\0MO\u{2}t1\u{1}dCM\u{4}stop\0\0PA\u{5}value\0\u{1}\u{1}\0\0\0\0\0\0\0\0\0\0\0\0\0\0\0\0\u{3}\u{2}\0\u{6}295.13MO\u{2}mf\u{1}dPA\u{4}pair\0\0\u{7}\u{2}\u{3}\u{2}\0\0\0\0\0\0\0\0\0\0\0\0\0\0\0\t\0\u{8}[true,1]EN";
       area = 16384;
-      time = 1866;
+      time = 1192;
       start = 0;
       calls =
           withArea (Open 0 1000) 16384
-          ∷ withOutbox (Piece 0 (bytes "do t1:stop\n") 3043) 16384 32768
-          ∷ withOutbox (Piece 0 (bytes "do t1:stop x\n") 5679) 16384 32768
-          ∷ withOutbox (Piece 0 (bytes "do t1:stop:\n") 6318) 16385 40000
-          ∷ withOutbox (Piece 0 (bytes "do t1:stop x\n") 7201) 16385 32768
+          ∷ withOutbox (Piece 0 (bytes "do t1:stop:x 5\n") 3988) 16384 32768
+          ∷ withOutbox (Piece 0 (bytes "do t1:stop\n") 9999999999999) 16384 32768
+          ∷ withOutbox (Piece 0 (bytes "do t1:stop:x 5\n") 4124) 20000 40000
+          ∷ withOutbox (Piece 0 (bytes "do t1:stop:x 5\n") 568) 16384 32769
           ∷ [];
       due =
           record { number = 0; used = 0; written = bytes "" }
-          ∷ record { number = 0; used = 11; written = bytes "DC\0\0\u{1}\0RP\0\0 done t1:stop [null,{\"t\":3.043}]\n" }
-          ∷ record { number = 0; used = 13; written = bytes "RP\0\03error_do t1:stop [\"BadJSON\",\"data is not JSON\",{}]\n" }
-          ∷ record { number = 0; used = 12; written = bytes "DC\0\0\u{1}\0RP\0\0 done t1:stop [null,{\"t\":6.318}]\n" }
-          ∷ record { number = 0; used = 13; written = bytes "RP\0\03error_do t1:stop [\"BadJSON\",\"data is not JSON\",{}]\n" }
+          ∷ record { number = 0; used = 15; written = bytes "RP\0\0?error_do t1:stop:x [\"WrongType\",\"value has the wrong type\",{}]\n" }
+          ∷ record { number = 0; used = 11; written = bytes "DC\0\0\u{1}\0RP\0\0)done t1:stop [null,{\"t\":9999999999.999}]\n" }
+          ∷ record { number = 0; used = 15; written = bytes "RP\0\0?error_do t1:stop:x [\"WrongType\",\"value has the wrong type\",{}]\n" }
+          ∷ record { number = 0; used = 15; written = bytes "RP\0\0?error_do t1:stop:x [\"WrongType\",\"value has the wrong type\",{}]\n" }
           ∷ [];
     }
 
@@ -160,23 +160,23 @@ history-8 =
     record {
       table = bytes "ND\u{1}s\0MO\u{2}t1\u{1}dNO\u{1}nCM\u{2}go\0\u{1}\u{2}\0\0\0\0\0\0\0\0\0\0\0\0\0\0\0\tPA\u{4}mode\0\0\u{4}\u{2}\u{3}off\0\0\0\0\u{2}on\0\0\0\u{1}\0\u{1}0EN";
       area = 16385;
-      time = 463;
+      time = 5;
       start = 0;
       calls =
           withArea (Open 0 1000) 16384
-          ∷ withArea (Open 0 1000) 16384
-          ∷ withArea (Open 5 1345) 16384
-          ∷ withOutbox (Unreadable 0 4 1927) 16384 32767
+          ∷ withArea (Open 8 1000) 16384
+          ∷ withArea (Open 0 18446744073709551615) 16384
+          ∷ withOutbox (Piece 8 (bytes "ping x\n") 3053) 16383 0
           ∷ withOutbox (Piece 0 (bytes "ping\n") 1) 16384 32767
-          ∷ withOutbox (Piece 0 (bytes "ping\n") 2326) 20000 40000
+          ∷ withOutbox (Piece 0 (bytes "ping\n") 3346) 20000 40000
           ∷ [];
       due =
           record { number = 0; used = 0; written = bytes "" }
-          ∷ record { number = 13; used = 0; written = bytes "" }
-          ∷ record { number = 0; used = 0; written = bytes "" }
+          ∷ record { number = 11; used = 0; written = bytes "" }
+          ∷ record { number = 10; used = 0; written = bytes "" }
           ∷ record { number = 7; used = 0; written = bytes "" }
           ∷ record { number = 7; used = 0; written = bytes "" }
-          ∷ record { number = 0; used = 5; written = bytes "RP\0\0\u{19}pong  [null,{\"t\":2.326}]\n" }
+          ∷ record { number = 0; used = 5; written = bytes "RP\0\0\u{19}pong  [null,{\"t\":3.346}]\n" }
           ∷ [];
     }
 
@@ -184,22 +184,22 @@ unfoldable pub history-9 : History
 history-9 =
     record {
       table = bytes "ND\u{1}s\0MO\u{2}t1\u{1}dNO\u{1}nPA\u{6}target\0\0\u{1}\0\0\0\0\0\0\0\0\0\0\0\0\0\0\0\0\u{3}\u{2}\0\u{1}0PA\u{5}value\0\u{1}\u{1}\0\0\0\0\0\0\0\0\0\0\0\0\0\0\0\0\u{3}\u{2}\0\u{6}295.13PA\u{5}label\0\0\u{5}\0\0\0\u{8}\0\u{4}\"ok\"CM\u{4}stop\0\0EN";
-      area = 16384;
-      time = 9999999999999;
+      area = 20000;
+      time = 2983;
       start = 0;
       calls =
           withArea (Open 0 1000) 16384
-          ∷ withOutbox (Piece 0 (bytes "") 73) 16384 40000
-          ∷ withOutbox (Piece 0 (bytes "read t1:value\nping x\npi") 2049) 16384 32768
-          ∷ withOutbox (Piece 0 (bytes "ping x\npi") 9999999999999) 16384 40000
-          ∷ withOutbox (Piece 0 (bytes "pi") 2155) 16384 32768
-          ∷ withOutbox (Piece 0 (bytes "") 3533) 20000 32768
+          ∷ withOutbox (Piece 0 (bytes "read ") 5712) 20000 32769
+          ∷ withOutbox (Piece 0 (bytes "t1:value\nping x\npi") 7020) 16384 32768
+          ∷ withOutbox (Piece 0 (bytes "ping x\npi") 7463) 20000 32768
+          ∷ withOutbox (Piece 0 (bytes "pi") 7472) 16384 32768
+          ∷ withOutbox (Piece 0 (bytes "") 9290) 16384 32769
           ∷ [];
       due =
           record { number = 0; used = 0; written = bytes "" }
-          ∷ record { number = 0; used = 0; written = bytes "" }
-          ∷ record { number = 0; used = 14; written = bytes "RP\0\0-reply t1:value [295.13,{\"t\":9999999999.999}]\n" }
-          ∷ record { number = 0; used = 7; written = bytes "RP\0\0#pong x [null,{\"t\":9999999999.999}]\n" }
+          ∷ record { number = 0; used = 5; written = bytes "" }
+          ∷ record { number = 0; used = 9; written = bytes "RP\0\0$reply t1:value [295.13,{\"t\":2.983}]\n" }
+          ∷ record { number = 0; used = 7; written = bytes "RP\0\0\u{1a}pong x [null,{\"t\":7.463}]\n" }
           ∷ record { number = 0; used = 2; written = bytes "" }
           ∷ record { number = 0; used = 0; written = bytes "" }
           ∷ [];
@@ -210,17 +210,25 @@ history-10 =
     record {
       table = bytes "ND\u{1}s\0MO\u{2}t1\u{1}dNO\u{1}nPA\u{3}pid\0\0\u{8}\u{2}\u{1}p\u{2}\0\0\0\0\0\0\0\0\0\0\0\0\0\0\0\t\u{1}q\u{3}\0\u{10}{\"p\":1,\"q\":true}MO\u{2}mf\u{1}dCM\u{2}go\0\u{1}\u{2}\0\0\0\0\0\0\0\0\0\0\0\0\0\0\0\tEN";
       area = 16384;
-      time = 1505396351143;
+      time = 1242;
       start = 0;
       calls =
           withArea (Open 0 1000) 16384
-          ∷ withOutbox (Piece 0 (bytes "*IDN?\r\n") 1505396351143) 16385 32768
-          ∷ withOutbox (Piece 0 (bytes "*idn?\n") 1505396351318) 16384 32768
+          ∷ withOutbox (Piece 0 (bytes "*IDN? x\n") 3006) 16384 32768
+          ∷ withOutbox (Piece 0 (bytes "check t1:pid {\"p\":5,\"q\":false}\n") 5474) 16385 32768
+          ∷ withOutbox (Piece 0 (bytes "check t1:pid {\"Q\":false,\"p\":9}\n") 1462) 16384 32768
+          ∷ withOutbox (Piece 0 (bytes "check t1:pid    [  ,]\n") 5523841563670) 16384 40000
+          ∷ withOutbox (Piece 0 (bytes "read t1:pid\n") 1953) 16385 40000
+          ∷ withOutbox (Piece 0 (bytes "check tx:value 1\n") 0) 16384 32768
           ∷ [];
       due =
           record { number = 0; used = 0; written = bytes "" }
-          ∷ record { number = 0; used = 7; written = bytes "RP\0\0%ISSE&SINE2020,SECoP,V2019-09-16,v1.0\n" }
-          ∷ record { number = 0; used = 6; written = bytes "RP\0\0Aerror_*idn?  [\"ProtocolError\",\"malformed or unknown request\",{}]\n" }
+          ∷ record { number = 0; used = 8; written = bytes "RP\0\0%ISSE&SINE2020,SECoP,V2019-09-16,v1.0\n" }
+          ∷ record { number = 0; used = 31; written = bytes "RP\0\0Gerror_check t1:pid [\"ProtocolError\",\"malformed or unknown request\",{}]\n" }
+          ∷ record { number = 0; used = 31; written = bytes "RP\0\0Gerror_check t1:pid [\"ProtocolError\",\"malformed or unknown request\",{}]\n" }
+          ∷ record { number = 0; used = 22; written = bytes "RP\0\0Gerror_check t1:pid [\"ProtocolError\",\"malformed or unknown request\",{}]\n" }
+          ∷ record { number = 0; used = 12; written = bytes "RP\0\0,reply t1:pid [{\"p\":1,\"q\":true},{\"t\":1.242}]\n" }
+          ∷ record { number = 0; used = 17; written = bytes "RP\0\0Ierror_check tx:value [\"ProtocolError\",\"malformed or unknown request\",{}]\n" }
           ∷ [];
     }
 
@@ -228,229 +236,104 @@ unfoldable pub history-11 : History
 history-11 =
     record {
       table = bytes "ND\u{1}s\0MO\u{2}t1\u{1}dPA\u{4}mode\0\0\u{4}\u{2}\u{3}off\0\0\0\0\u{2}on\0\0\0\u{1}\0\u{1}0CM\u{2}go\0\u{1}\u{2}\0\0\0\0\0\0\0\0\0\0\0\0\0\0\0\tPA\u{5}ready\0\u{1}\u{3}\0\u{5}falseMO\u{2}mf\u{1}dPA\u{3}pid\0\0\u{8}\u{2}\u{1}p\u{2}\0\0\0\0\0\0\0\0\0\0\0\0\0\0\0\t\u{1}q\u{3}\0\u{10}{\"p\":1,\"q\":true}CM\u{4}stop\0\0EN";
-      area = 16385;
-      time = 209;
+      area = 20000;
+      time = 1505396349473;
       start = 0;
       calls =
           withArea (Open 0 1000) 16384
-          ∷ withArea (Open 3 1000) 16384
-          ∷ withOutbox (Piece 3 (bytes "activate\n") 1225) 16384 32768
-          ∷ withOutbox (Piece 0 (bytes "activate mf\n") 3527) 16384 32769
-          ∷ withOutbox (Piece 0 (bytes "change mf:pid {\"p\":0,\"q\":false}\n") 1108) 16384 32768
-          ∷ withOutbox (Piece 3 (bytes "change mf:pid {\"p\":9,\"q\":true}\n") 5874) 16384 32769
+          ∷ withOutbox (Piece 0 (bytes "activate mf\n") 1505396350018) 16384 32769
+          ∷ withOutbox (Piece 0 (bytes "activate 1\n") 1505396347148) 16384 32768
           ∷ [];
       due =
           record { number = 0; used = 0; written = bytes "" }
-          ∷ record { number = 0; used = 0; written = bytes "" }
-          ∷ record { number = 0; used = 9; written = bytes "UP\u{3}\0\u{1f}update t1:mode [0,{\"t\":0.209}]\nUP\u{3}\0$update t1:ready [false,{\"t\":0.209}]\nUP\u{3}\0-update mf:pid [{\"p\":1,\"q\":true},{\"t\":0.209}]\nRP\u{3}\0\u{7}active\n" }
-          ∷ record { number = 0; used = 12; written = bytes "UP\0\0-update mf:pid [{\"p\":1,\"q\":true},{\"t\":0.209}]\nRP\0\0\nactive mf\n" }
-          ∷ record { number = 0; used = 32; written = bytes "DR\0\0\u{12}\u{2}{\"p\":0,\"q\":false}UP\0\0.update mf:pid [{\"p\":0,\"q\":false},{\"t\":1.108}]\nUP\u{3}\0.update mf:pid [{\"p\":0,\"q\":false},{\"t\":1.108}]\nRP\0\0/changed mf:pid [{\"p\":0,\"q\":false},{\"t\":1.108}]\n" }
-          ∷ record { number = 0; used = 31; written = bytes "DR\u{3}\0\u{11}\u{2}{\"p\":9,\"q\":true}UP\0\0-update mf:pid [{\"p\":9,\"q\":true},{\"t\":5.874}]\nUP\u{3}\0-update mf:pid [{\"p\":9,\"q\":true},{\"t\":5.874}]\nRP\u{3}\0.changed mf:pid [{\"p\":9,\"q\":true},{\"t\":5.874}]\n" }
+          ∷ record { number = 0; used = 12; written = bytes "UP\0\06update mf:pid [{\"p\":1,\"q\":true},{\"t\":1505396349.473}]\nRP\0\0\nactive mf\n" }
+          ∷ record { number = 0; used = 11; written = bytes "RP\0\0Eerror_activate 1 [\"ProtocolError\",\"malformed or unknown request\",{}]\n" }
           ∷ [];
     }
 
 unfoldable pub history-12 : History
 history-12 =
     record {
-      table = bytes "ND\u{1}s\0MO\u{2}t1\u{1}dPA\u{3}pid\0\0\u{8}\u{2}\u{1}p\u{2}\0\0\0\0\0\0\0\0\0\0\0\0\0\0\0\t\u{1}q\u{3}\0\u{10}{\"p\":1,\"q\":true}MO\u{2}mf\u{1}dPA\u{5}label\0\0\u{5}\0\0\0\u{8}\0\u{4}\"ok\"CM\u{4}stop\0\0PA\u{6}target\0\0\u{1}\0\0\0\0\0\0\0\0\0\0\0\0\0\0\0\0\u{3}\u{2}\0\u{1}0PA\u{4}pair\0\0\u{7}\u{2}\u{3}\u{2}\0\0\0\0\0\0\0\0\0\0\0\0\0\0\0\t\0\u{8}[true,1]EN";
-      area = 20000;
-      time = 0;
+      table = bytes "ND\u{1}s\0ED\u{c}ISSE,SECoP,xMO\u{2}t1\u{1}dPA\u{3}pid\0\0\u{8}\u{2}\u{1}p\u{2}\0\0\0\0\0\0\0\0\0\0\0\0\0\0\0\t\u{1}q\u{3}\0\u{10}{\"p\":1,\"q\":true}MO\u{2}mf\u{1}dPA\u{5}label\0\0\u{5}\0\0\0\u{8}\0\u{4}\"ok\"CM\u{4}stop\0\0PA\u{6}target\0\0\u{1}\0\0\0\0\0\0\0\0\0\0\0\0\0\0\0\0\u{3}\u{2}\0\u{1}0PA\u{4}pair\0\0\u{7}\u{2}\u{3}\u{2}\0\0\0\0\0\0\0\0\0\0\0\0\0\0\0\t\0\u{8}[true,1]EN";
+      area = 16384;
+      time = 545595029935;
       start = 0;
       calls =
           withArea (Open 0 1000) 16384
-          ∷ withOutbox (Piece 0 (bytes "change mf:target -0.0000E+0\n") 1699) 16384 32769
-          ∷ withOutbox (Piece 0 (bytes "change mf:label \"\\x;\"\n") 2615) 16385 32768
-          ∷ withOutbox (Piece 0 (bytes "read mf:pair\n") 4533) 16385 32768
+          ∷ withArea (Open 3 1000) 16384
+          ∷ withOutbox (Piece 3 (bytes "activate\n") 1505396349739) 16384 40000
+          ∷ withOutbox (Piece 0 (bytes "activate mf\n") 1505396350197) 16385 32768
+          ∷ withOutbox (Piece 0 (bytes "change mf:target 0.0E+0\n") 9999999999999) 16384 32769
+          ∷ withOutbox (Piece 3 (bytes "change t1:pid {\"p\":6,\"q\":true}\n") 1505396350197) 16384 32769
           ∷ [];
       due =
           record { number = 0; used = 0; written = bytes "" }
-          ∷ record { number = 0; used = 28; written = bytes "DR\0\0\u{b}\u{2}-0.0000E+0RP\0\0+changed mf:target [-0.0000E+0,{\"t\":1.699}]\n" }
-          ∷ record { number = 0; used = 22; written = bytes "RP\0\08error_change mf:label [\"BadJSON\",\"data is not JSON\",{}]\n" }
-          ∷ record { number = 0; used = 13; written = bytes "RP\0\0%reply mf:pair [[true,1],{\"t\":0.000}]\n" }
+          ∷ record { number = 0; used = 0; written = bytes "" }
+          ∷ record { number = 0; used = 9; written = bytes "UP\u{3}\05update t1:pid [{\"p\":1,\"q\":true},{\"t\":545595029.935}]\nUP\u{3}\0+update mf:label [\"ok\",{\"t\":545595029.935}]\nUP\u{3}\0)update mf:target [0,{\"t\":545595029.935}]\nUP\u{3}\0.update mf:pair [[true,1],{\"t\":545595029.935}]\nRP\u{3}\0\u{7}active\n" }
+          ∷ record { number = 0; used = 12; written = bytes "UP\0\0+update mf:label [\"ok\",{\"t\":545595029.935}]\nUP\0\0)update mf:target [0,{\"t\":545595029.935}]\nUP\0\0.update mf:pair [[true,1],{\"t\":545595029.935}]\nRP\0\0\nactive mf\n" }
+          ∷ record { number = 0; used = 24; written = bytes "DR\0\0\u{7}\u{2}0.0E+0UP\0\0/update mf:target [0.0E+0,{\"t\":9999999999.999}]\nUP\u{3}\0/update mf:target [0.0E+0,{\"t\":9999999999.999}]\nRP\0\00changed mf:target [0.0E+0,{\"t\":9999999999.999}]\n" }
+          ∷ record { number = 0; used = 31; written = bytes "DR\u{3}\0\u{11}\0{\"p\":6,\"q\":true}UP\u{3}\06update t1:pid [{\"p\":6,\"q\":true},{\"t\":1505396350.197}]\nRP\u{3}\07changed t1:pid [{\"p\":6,\"q\":true},{\"t\":1505396350.197}]\n" }
           ∷ [];
     }
 
 unfoldable pub history-13 : History
 history-13 =
     record {
-      table = bytes "ND\u{1}s\0MO\u{2}t1\u{1}dNO\u{1}nPA\u{4}pair\0\0\u{7}\u{2}\u{3}\u{2}\0\0\0\0\0\0\0\0\0\0\0\0\0\0\0\t\0\u{8}[true,1]MO\u{2}mf\u{1}dCM\u{2}go\0\u{1}\u{2}\0\0\0\0\0\0\0\0\0\0\0\0\0\0\0\tEN";
+      table = bytes "ND\u{1}s\0ED\u{c}ISSE,SECoP,xMO\u{2}t1\u{1}dNO\u{1}nPA\u{4}pair\0\0\u{7}\u{2}\u{3}\u{2}\0\0\0\0\0\0\0\0\0\0\0\0\0\0\0\t\0\u{8}[true,1]MO\u{2}mf\u{1}dCM\u{2}go\0\u{1}\u{2}\0\0\0\0\0\0\0\0\0\0\0\0\0\0\0\tEN";
       area = 16384;
-      time = 1505396344666;
+      time = 3800;
       start = 0;
       calls =
           withArea (Open 0 1000) 16384
-          ∷ withOutbox (Piece 0 (bytes "do mf:go\n") 1505396344666) 16384 32769
-          ∷ withOutbox (Piece 0 (bytes "do mf:go  null \n") 1505396347224) 16384 32768
-          ∷ withOutbox (Piece 0 (bytes "do mf:go [null]\n") 1505396349837) 16384 32768
-          ∷ withOutbox (Piece 0 (bytes "do mf:go null\n") 1505396351719) 16384 32769
+          ∷ withOutbox (Piece 0 (bytes "read tx:value\n") 3800) 16384 32769
+          ∷ withOutbox (Piece 0 (bytes "do t1:value\n") 6275) 16385 32768
+          ∷ withOutbox (Piece 0 (bytes "do t1:9\n") 7769288106613) 16384 40000
           ∷ [];
       due =
           record { number = 0; used = 0; written = bytes "" }
-          ∷ record { number = 0; used = 9; written = bytes "RP\0\0;error_do mf:go [\"WrongType\",\"value has the wrong type\",{}]\n" }
-          ∷ record { number = 0; used = 16; written = bytes "RP\0\0;error_do mf:go [\"WrongType\",\"value has the wrong type\",{}]\n" }
-          ∷ record { number = 0; used = 16; written = bytes "RP\0\0;error_do mf:go [\"WrongType\",\"value has the wrong type\",{}]\n" }
-          ∷ record { number = 0; used = 14; written = bytes "RP\0\0;error_do mf:go [\"WrongType\",\"value has the wrong type\",{}]\n" }
+          ∷ record { number = 0; used = 14; written = bytes "RP\0\09error_read tx:value [\"NoSuchModule\",\"no such module\",{}]\n" }
+          ∷ record { number = 0; used = 12; written = bytes "RP\0\09error_do t1:value [\"NoSuchCommand\",\"no such command\",{}]\n" }
+          ∷ record { number = 0; used = 8; written = bytes "RP\0\0Berror_do t1:9 [\"ProtocolError\",\"malformed or unknown request\",{}]\n" }
           ∷ [];
     }
 
 unfoldable pub history-14 : History
 history-14 =
     record {
-      table = bytes "ND\u{1}s\0MO\u{2}t1\u{1}dCM\u{4}stop\0\0PA\u{6}target\0\0\u{1}\0\0\0\0\0\0\0\0\0\0\0\0\0\0\0\0\u{3}\u{2}\0\u{1}0MO\u{2}mf\u{1}dPA\u{5}value\0\u{1}\u{1}\0\0\0\0\0\0\0\0\0\0\0\0\0\0\0\0\u{3}\u{2}\0\u{6}295.13PA\u{3}pid\0\0\u{8}\u{2}\u{1}p\u{2}\0\0\0\0\0\0\0\0\0\0\0\0\0\0\0\t\u{1}q\u{3}\0\u{10}{\"p\":1,\"q\":true}PA\u{4}pair\0\0\u{7}\u{2}\u{3}\u{2}\0\0\0\0\0\0\0\0\0\0\0\0\0\0\0\t\0\u{8}[true,1]EN";
-      area = 16385;
-      time = 1717;
+      table = bytes "ND\u{1}s\0ED\u{c}ISSE,SECoP,xMO\u{2}t1\u{1}dCM\u{4}stop\0\0PA\u{6}target\0\0\u{1}\0\0\0\0\0\0\0\0\0\0\0\0\0\0\0\0\u{3}\u{2}\0\u{1}0MO\u{2}mf\u{1}dPA\u{5}value\0\u{1}\u{1}\0\0\0\0\0\0\0\0\0\0\0\0\0\0\0\0\u{3}\u{2}\0\u{6}295.13PA\u{3}pid\0\0\u{8}\u{2}\u{1}p\u{2}\0\0\0\0\0\0\0\0\0\0\0\0\0\0\0\t\u{1}q\u{3}\0\u{10}{\"p\":1,\"q\":true}PA\u{4}pair\0\0\u{7}\u{2}\u{3}\u{2}\0\0\0\0\0\0\0\0\0\0\0\0\0\0\0\t\0\u{8}[true,1]EN";
+      area = 16384;
+      time = 3574;
       start = 0;
       calls =
           withArea (Open 0 1000) 16384
-          ∷ withOutbox (Piece 0 (bytes "activate t1\n") 4294) 16384 32769
-          ∷ withOutbox (Reading 2 (bytes "{\"q\":true,\"p\":-0}") 7146) 16384 32768
-          ∷ withOutbox (Piece 0 (bytes "read mf:pid\n") 9232) 20000 32768
-          ∷ withOutbox (Reading 2 (bytes "{\"p\":9,\"q\":false}") 9392) 16384 32768
-          ∷ withOutbox (Unreadable 2 2 9999999999999) 16384 32768
-          ∷ withOutbox (Piece 0 (bytes "read mf:pid:x\n") 10789) 16385 32768
+          ∷ withOutbox (Piece 0 (bytes "do t1:stop  null \n") 4576) 16384 32768
+          ∷ withOutbox (Piece 0 (bytes "do t1:stop  null \n") 6056) 16385 32768
+          ∷ withOutbox (Piece 0 (bytes "do t1:stop 1.0\n") 7648) 20000 40000
+          ∷ withOutbox (Piece 0 (bytes "do t1:stop:\n") 10569) 16384 40000
           ∷ [];
       due =
           record { number = 0; used = 0; written = bytes "" }
-          ∷ record { number = 0; used = 12; written = bytes "UP\0\0!update t1:target [0,{\"t\":1.717}]\nRP\0\0\nactive t1\n" }
-          ∷ record { number = 0; used = 0; written = bytes "" }
-          ∷ record { number = 0; used = 12; written = bytes "RP\0\0-reply mf:pid [{\"q\":true,\"p\":-0},{\"t\":7.146}]\n" }
-          ∷ record { number = 0; used = 0; written = bytes "" }
-          ∷ record { number = 0; used = 0; written = bytes "" }
-          ∷ record { number = 0; used = 14; written = bytes "RP\0\0Werror_read mf:pid:x [\"CommunicationFailed\",\"CommunicationFailed\",{\"t\":9999999999.999}]\n" }
+          ∷ record { number = 0; used = 18; written = bytes "DC\0\0\u{1}\0RP\0\0 done t1:stop [null,{\"t\":4.576}]\n" }
+          ∷ record { number = 0; used = 18; written = bytes "DC\0\0\u{1}\0RP\0\0 done t1:stop [null,{\"t\":6.056}]\n" }
+          ∷ record { number = 0; used = 15; written = bytes "RP\0\0=error_do t1:stop [\"WrongType\",\"value has the wrong type\",{}]\n" }
+          ∷ record { number = 0; used = 12; written = bytes "DC\0\0\u{1}\0RP\0\0!done t1:stop [null,{\"t\":10.569}]\n" }
           ∷ [];
     }
 
 unfoldable pub history-15 : History
 history-15 =
     record {
-      table = bytes "ND\u{1}s\0MO\u{2}t1\u{1}dNO\u{1}nCM\u{2}go\0\u{1}\u{2}\0\0\0\0\0\0\0\0\0\0\0\0\0\0\0\tMO\u{2}mf\u{1}dPA\u{5}label\0\0\u{5}\0\0\0\u{8}\0\u{4}\"ok\"CM\u{4}stop\0\0PA\u{5}value\0\u{1}\u{1}\0\0\0\0\0\0\0\0\0\0\0\0\0\0\0\0\u{3}\u{2}\0\u{6}295.13PA\u{4}list\0\0\u{6}\0\0\0\u{2}\u{2}\0\0\0\0\0\0\0\0\0\0\0\0\0\0\0\t\0\u{2}[]EN";
-      area = 16385;
-      time = 1732;
-      start = 0;
-      calls =
-          withArea (Open 0 1000) 16384
-          ∷ withArea (Open 8 1000) 16384
-          ∷ withArea (Close 5 1789) 0
-          ∷ withOutbox (Piece 4 (bytes "ping x\n") 9919879936878) 16383 32768
-          ∷ withOutbox (Piece 7 (bytes "ping\n") 9999999999999) 16384 32768
-          ∷ withOutbox (Piece 0 (bytes "ping\n") 9999999999999) 20000 32769
-          ∷ [];
-      due =
-          record { number = 0; used = 0; written = bytes "" }
-          ∷ record { number = 11; used = 0; written = bytes "" }
-          ∷ record { number = 8; used = 0; written = bytes "" }
-          ∷ record { number = 8; used = 0; written = bytes "" }
-          ∷ record { number = 12; used = 0; written = bytes "" }
-          ∷ record { number = 0; used = 5; written = bytes "RP\0\0\"pong  [null,{\"t\":9999999999.999}]\n" }
-          ∷ [];
-    }
-
-unfoldable pub history-16 : History
-history-16 =
-    record {
-      table = bytes "ND\u{1}s\0MO\u{2}t1\u{1}dNO\u{1}nCM\u{4}stop\0\0PA\u{4}pair\0\0\u{7}\u{2}\u{3}\u{2}\0\0\0\0\0\0\0\0\0\0\0\0\0\0\0\t\0\u{8}[true,1]MO\u{2}mf\u{1}dPA\u{6}target\0\0\u{1}\0\0\0\0\0\0\0\0\0\0\0\0\0\0\0\0\u{3}\u{2}\0\u{1}0EN";
-      area = 20000;
-      time = 9732609824785;
-      start = 0;
-      calls =
-          withArea (Open 0 1000) 16384
-          ∷ withOutbox (Piece 0 (bytes " \n") 1505396349031) 16384 32768
-          ∷ withOutbox (Piece 0 (bytes "a\0\n") 1505396351669) 16385 32768
-          ∷ withOutbox (Piece 0 (bytes "_custom\n") 1505396346259) 16384 32768
-          ∷ [];
-      due =
-          record { number = 0; used = 0; written = bytes "" }
-          ∷ record { number = 0; used = 2; written = bytes "RP\0\0<error_  [\"ProtocolError\",\"malformed or unknown request\",{}]\n" }
-          ∷ record { number = 0; used = 3; written = bytes "RP\0\0<error_  [\"ProtocolError\",\"malformed or unknown request\",{}]\n" }
-          ∷ record { number = 0; used = 8; written = bytes "RP\0\0Cerror__custom  [\"ProtocolError\",\"malformed or unknown request\",{}]\n" }
-          ∷ [];
-    }
-
-unfoldable pub history-17 : History
-history-17 =
-    record {
-      table = bytes "ND\u{1}s\0MO\u{2}t1\u{1}dPA\u{5}label\0\0\u{5}\0\0\0\u{8}\0\u{4}\"ok\"PA\u{6}target\0\0\u{1}\0\0\0\0\0\0\0\0\0\0\0\0\0\0\0\0\u{3}\u{2}\0\u{1}0PA\u{4}pair\0\0\u{7}\u{2}\u{3}\u{2}\0\0\0\0\0\0\0\0\0\0\0\0\0\0\0\t\0\u{8}[true,1]CM\u{2}go\0\u{1}\u{2}\0\0\0\0\0\0\0\0\0\0\0\0\0\0\0\tCM\u{4}stop\0\0EN";
+      table = bytes "ND\u{1}s\0ED\u{c}ISSE,SECoP,xMO\u{2}t1\u{1}dNO\u{1}nCM\u{2}go\0\u{1}\u{2}\0\0\0\0\0\0\0\0\0\0\0\0\0\0\0\tMO\u{2}mf\u{1}dPA\u{5}label\0\0\u{5}\0\0\0\u{8}\0\u{4}\"ok\"CM\u{4}stop\0\0PA\u{5}value\0\u{1}\u{1}\0\0\0\0\0\0\0\0\0\0\0\0\0\0\0\0\u{3}\u{2}\0\u{6}295.13PA\u{4}list\0\0\u{6}\0\0\0\u{2}\u{2}\0\0\0\0\0\0\0\0\0\0\0\0\0\0\0\t\0\u{2}[]EN";
       area = 16384;
-      time = 474;
+      time = 970;
       start = 0;
       calls =
           withArea (Open 0 1000) 16384
-          ∷ withOutbox (Piece 0 (bytes "activate\n") 1449) 16384 32769
-          ∷ withOutbox (Reading 2 (bytes "[false,0]") 3892) 16384 32769
-          ∷ withOutbox (Piece 0 (bytes "read t1:pair\n") 5473) 16384 32768
-          ∷ withOutbox (Reading 2 (bytes "[false]") 6634) 16384 32768
-          ∷ withOutbox (Unreadable 2 4 9433) 16384 32769
-          ∷ withOutbox (Piece 0 (bytes "read t1:pair:x\n") 5835988796933) 20000 32769
-          ∷ [];
-      due =
-          record { number = 0; used = 0; written = bytes "" }
-          ∷ record { number = 0; used = 9; written = bytes "UP\0\0#update t1:label [\"ok\",{\"t\":0.474}]\nUP\0\0!update t1:target [0,{\"t\":0.474}]\nUP\0\0&update t1:pair [[true,1],{\"t\":0.474}]\nRP\0\0\u{7}active\n" }
-          ∷ record { number = 0; used = 0; written = bytes "UP\0\0'update t1:pair [[false,0],{\"t\":3.892}]\n" }
-          ∷ record { number = 0; used = 13; written = bytes "RP\0\0&reply t1:pair [[false,0],{\"t\":3.892}]\n" }
-          ∷ record { number = 15; used = 0; written = bytes "" }
-          ∷ record { number = 0; used = 0; written = bytes "UP\0\0=error_update t1:pair [\"OutOfRange\",\"OutOfRange\",{\"t\":9.433}]\n" }
-          ∷ record { number = 0; used = 15; written = bytes "RP\0\0=error_read t1:pair:x [\"OutOfRange\",\"OutOfRange\",{\"t\":9.433}]\n" }
-          ∷ [];
-    }
-
-unfoldable pub history-18 : History
-history-18 =
-    record {
-      table = bytes "ND\u{1}s\0MO\u{2}t1\u{1}dPA\u{4}list\0\0\u{6}\0\0\0\u{2}\u{2}\0\0\0\0\0\0\0\0\0\0\0\0\0\0\0\t\0\u{2}[]MO\u{2}mf\u{1}dCM\u{2}go\0\u{1}\u{2}\0\0\0\0\0\0\0\0\0\0\0\0\0\0\0\tEN";
-      area = 16384;
-      time = 1505396349359;
-      start = 0;
-      calls =
-          withArea (Open 0 1000) 16384
-          ∷ withOutbox (Piece 0 (bytes "\r\r\n") 1505396346367) 16385 40000
-          ∷ withOutbox (Piece 0 (bytes "ping\t1\n") 1505396348483) 20000 32769
-          ∷ withOutbox (Piece 0 (bytes "error_ x\n") 1505396350305) 16384 32768
-          ∷ [];
-      due =
-          record { number = 0; used = 0; written = bytes "" }
-          ∷ record { number = 0; used = 3; written = bytes "RP\0\0<error_  [\"ProtocolError\",\"malformed or unknown request\",{}]\n" }
-          ∷ record { number = 0; used = 7; written = bytes "RP\0\0<error_  [\"ProtocolError\",\"malformed or unknown request\",{}]\n" }
-          ∷ record { number = 0; used = 9; written = bytes "RP\0\0Cerror_error_ x [\"ProtocolError\",\"malformed or unknown request\",{}]\n" }
-          ∷ [];
-    }
-
-unfoldable pub history-19 : History
-history-19 =
-    record {
-      table = bytes "ND\u{1}s\0MO\u{2}t1\u{1}dNO\u{1}nPA\u{5}value\0\u{1}\u{1}\0\0\0\0\0\0\0\0\0\0\0\0\0\0\0\0\u{3}\u{2}\0\u{6}295.13MO\u{2}mf\u{1}dPA\u{3}pid\0\0\u{8}\u{2}\u{1}p\u{2}\0\0\0\0\0\0\0\0\0\0\0\0\0\0\0\t\u{1}q\u{3}\0\u{10}{\"p\":1,\"q\":true}PA\u{6}target\0\0\u{1}\0\0\0\0\0\0\0\0\0\0\0\0\0\0\0\0\u{3}\u{2}\0\u{1}0CM\u{2}go\0\u{1}\u{2}\0\0\0\0\0\0\0\0\0\0\0\0\0\0\0\tEN";
-      area = 16385;
-      time = 1505396350353;
-      start = 0;
-      calls =
-          withArea (Open 0 1000) 16384
-          ∷ withOutbox (Piece 0 (bytes "change mf:pid [true]\n") 1505396351805) 20000 32768
-          ∷ withOutbox (Piece 0 (bytes "change mf:pid [1,true\n") 1505396353399) 20000 32768
-          ∷ withOutbox (Piece 0 (bytes "change mf:pid {\"p\":1}\n") 1505396355659) 16384 40000
-          ∷ withOutbox (Piece 0 (bytes "change mf:target 0.0000000001e0\n") 1505396356280) 16384 40000
-          ∷ [];
-      due =
-          record { number = 0; used = 0; written = bytes "" }
-          ∷ record { number = 0; used = 21; written = bytes "RP\0\0@error_change mf:pid [\"WrongType\",\"value has the wrong type\",{}]\n" }
-          ∷ record { number = 0; used = 22; written = bytes "RP\0\06error_change mf:pid [\"BadJSON\",\"data is not JSON\",{}]\n" }
-          ∷ record { number = 0; used = 22; written = bytes "RP\0\0@error_change mf:pid [\"WrongType\",\"value has the wrong type\",{}]\n" }
-          ∷ record { number = 0; used = 32; written = bytes "DR\0\0\u{f}\u{2}0.0000000001e0RP\0\08changed mf:target [0.0000000001e0,{\"t\":1505396356.280}]\n" }
-          ∷ [];
-    }
-
-unfoldable pub history-20 : History
-history-20 =
-    record {
-      table = bytes "ND\u{1}s\0MO\u{2}t1\u{1}dCM\u{2}go\0\u{1}\u{2}\0\0\0\0\0\0\0\0\0\0\0\0\0\0\0\tPA\u{6}target\0\0\u{1}\0\0\0\0\0\0\0\0\0\0\0\0\0\0\0\0\u{3}\u{2}\0\u{1}0PA\u{5}value\0\u{1}\u{1}\0\0\0\0\0\0\0\0\0\0\0\0\0\0\0\0\u{3}\u{2}\0\u{6}295.13PA\u{5}ready\0\u{1}\u{3}\0\u{5}falsePA\u{4}list\0\0\u{6}\0\0\0\u{2}\u{2}\0\0\0\0\0\0\0\0\0\0\0\0\0\0\0\t\0\u{2}[]EN";
-      area = 20000;
-      time = 1505396349440;
-      start = 0;
-      calls =
-          withArea (Open 0 1000) 16384
-          ∷ withOutbox (Reading 3 (bytes " ") 1505396349286) 16385 32768
-          ∷ withOutbox (Reading 4294967296 (bytes "1") 1505396349779) 16385 32768
-          ∷ withOutbox (Unreadable 3 257 1505396349779) 16385 32769
-          ∷ withOutbox (Unreadable 4294967296 1 9999999999999) 20000 32768
-          ∷ withOutbox (Piece 0 (bytes "read t1:list\n") 1505396347489) 16384 32768
+          ∷ withOutbox (Reading 0 (bytes " ") 3898) 16384 32769
+          ∷ withOutbox (Reading 6 (bytes "1") 5478) 20000 32769
+          ∷ withOutbox (Unreadable 0 5 8132) 20000 32768
+          ∷ withOutbox (Unreadable 6 1 8794) 16384 40000
+          ∷ withOutbox (Piece 0 (bytes "read mf:label\n") 11004) 16384 32768
           ∷ [];
       due =
           record { number = 0; used = 0; written = bytes "" }
@@ -458,7 +341,118 @@ history-20 =
           ∷ record { number = 14; used = 0; written = bytes "" }
           ∷ record { number = 16; used = 0; written = bytes "" }
           ∷ record { number = 14; used = 0; written = bytes "" }
-          ∷ record { number = 0; used = 13; written = bytes "RP\0\0(reply t1:list [[],{\"t\":1505396349.440}]\n" }
+          ∷ record { number = 0; used = 14; written = bytes "RP\0\0\"reply mf:label [\"ok\",{\"t\":0.970}]\n" }
+          ∷ [];
+    }
+
+unfoldable pub history-16 : History
+history-16 =
+    record {
+      table = bytes "ND\u{1}s\0ED\u{c}ISSE,SECoP,xMO\u{2}t1\u{1}dNO\u{1}nCM\u{4}stop\0\0PA\u{4}pair\0\0\u{7}\u{2}\u{3}\u{2}\0\0\0\0\0\0\0\0\0\0\0\0\0\0\0\t\0\u{8}[true,1]MO\u{2}mf\u{1}dPA\u{6}target\0\0\u{1}\0\0\0\0\0\0\0\0\0\0\0\0\0\0\0\0\u{3}\u{2}\0\u{1}0EN";
+      area = 20000;
+      time = 2562;
+      start = 0;
+      calls =
+          withArea (Open 0 1000) 16384
+          ∷ withOutbox (Piece 0 (bytes "") 5151) 16384 32769
+          ∷ withOutbox (Piece 0 (bytes "\r\nping x\npi") 7789) 16385 32768
+          ∷ withOutbox (Piece 0 (bytes "ping x\npi") 9479) 16385 32768
+          ∷ withOutbox (Piece 0 (bytes "pi") 11622) 16384 32768
+          ∷ withOutbox (Piece 0 (bytes "") 11622) 16384 32768
+          ∷ [];
+      due =
+          record { number = 0; used = 0; written = bytes "" }
+          ∷ record { number = 0; used = 0; written = bytes "" }
+          ∷ record { number = 0; used = 2; written = bytes "RP\0\0<error_  [\"ProtocolError\",\"malformed or unknown request\",{}]\n" }
+          ∷ record { number = 0; used = 7; written = bytes "RP\0\0\u{1a}pong x [null,{\"t\":9.479}]\n" }
+          ∷ record { number = 0; used = 2; written = bytes "" }
+          ∷ record { number = 0; used = 0; written = bytes "" }
+          ∷ [];
+    }
+
+unfoldable pub history-17 : History
+history-17 =
+    record {
+      table = bytes "ND\u{1}s\0ED\u{c}ISSE,SECoP,xMO\u{2}t1\u{1}dPA\u{5}label\0\0\u{5}\0\0\0\u{8}\0\u{4}\"ok\"PA\u{6}target\0\0\u{1}\0\0\0\0\0\0\0\0\0\0\0\0\0\0\0\0\u{3}\u{2}\0\u{1}0PA\u{4}pair\0\0\u{7}\u{2}\u{3}\u{2}\0\0\0\0\0\0\0\0\0\0\0\0\0\0\0\t\0\u{8}[true,1]CM\u{2}go\0\u{1}\u{2}\0\0\0\0\0\0\0\0\0\0\0\0\0\0\0\tCM\u{4}stop\0\0EN";
+      area = 20000;
+      time = 538;
+      start = 0;
+      calls =
+          withArea (Open 0 1000) 16384
+          ∷ withOutbox (Piece 0 (bytes "read tx:value\n") 1634) 16385 32768
+          ∷ withOutbox (Piece 0 (bytes "change t1:tx 1\n") 2932) 16385 32768
+          ∷ withOutbox (Piece 0 (bytes "meas:volt?\n") 3688) 16385 32768
+          ∷ [];
+      due =
+          record { number = 0; used = 0; written = bytes "" }
+          ∷ record { number = 0; used = 14; written = bytes "RP\0\09error_read tx:value [\"NoSuchModule\",\"no such module\",{}]\n" }
+          ∷ record { number = 0; used = 15; written = bytes "RP\0\0>error_change t1:tx [\"NoSuchParameter\",\"no such parameter\",{}]\n" }
+          ∷ record { number = 0; used = 11; written = bytes "RP\0\0Ferror_meas:volt?  [\"ProtocolError\",\"malformed or unknown request\",{}]\n" }
+          ∷ [];
+    }
+
+unfoldable pub history-18 : History
+history-18 =
+    record {
+      table = bytes "ND\u{1}s\0ED\u{c}ISSE,SECoP,xMO\u{2}t1\u{1}dPA\u{4}list\0\0\u{6}\0\0\0\u{2}\u{2}\0\0\0\0\0\0\0\0\0\0\0\0\0\0\0\t\0\u{2}[]MO\u{2}mf\u{1}dCM\u{2}go\0\u{1}\u{2}\0\0\0\0\0\0\0\0\0\0\0\0\0\0\0\tEN";
+      area = 16384;
+      time = 1333;
+      start = 0;
+      calls =
+          withArea (Open 0 1000) 16384
+          ∷ withArea (Open 8 1000) 16384
+          ∷ withArea (Open 0 1766) 16384
+          ∷ withArea (Close 6 4542) 16384
+          ∷ withOutbox (Piece 7 (bytes "ping\n") 9999999999999) 16384 32768
+          ∷ withOutbox (Piece 0 (bytes "ping\n") 5646) 16384 32768
+          ∷ [];
+      due =
+          record { number = 0; used = 0; written = bytes "" }
+          ∷ record { number = 11; used = 0; written = bytes "" }
+          ∷ record { number = 13; used = 0; written = bytes "" }
+          ∷ record { number = 12; used = 0; written = bytes "" }
+          ∷ record { number = 12; used = 0; written = bytes "" }
+          ∷ record { number = 0; used = 5; written = bytes "RP\0\0\u{19}pong  [null,{\"t\":5.646}]\n" }
+          ∷ [];
+    }
+
+unfoldable pub history-19 : History
+history-19 =
+    record {
+      table = bytes "ND\u{1}s\0MO\u{2}t1\u{1}dNO\u{1}nPA\u{5}value\0\u{1}\u{1}\0\0\0\0\0\0\0\0\0\0\0\0\0\0\0\0\u{3}\u{2}\0\u{6}295.13MO\u{2}mf\u{1}dPA\u{3}pid\0\0\u{8}\u{2}\u{1}p\u{2}\0\0\0\0\0\0\0\0\0\0\0\0\0\0\0\t\u{1}q\u{3}\0\u{10}{\"p\":1,\"q\":true}PA\u{6}target\0\0\u{1}\0\0\0\0\0\0\0\0\0\0\0\0\0\0\0\0\u{3}\u{2}\0\u{1}0CM\u{2}go\0\u{1}\u{2}\0\0\0\0\0\0\0\0\0\0\0\0\0\0\0\tEN";
+      area = 16384;
+      time = 19;
+      start = 0;
+      calls =
+          withArea (Open 0 1000) 16384
+          ∷ withOutbox (Piece 0 (bytes "activate mf\n") 1471) 20000 32768
+          ∷ withOutbox (Piece 0 (bytes "activate 1\n") 3065) 20000 32768
+          ∷ [];
+      due =
+          record { number = 0; used = 0; written = bytes "" }
+          ∷ record { number = 0; used = 12; written = bytes "UP\0\0-update mf:pid [{\"p\":1,\"q\":true},{\"t\":0.019}]\nUP\0\0!update mf:target [0,{\"t\":0.019}]\nRP\0\0\nactive mf\n" }
+          ∷ record { number = 0; used = 11; written = bytes "RP\0\0Eerror_activate 1 [\"ProtocolError\",\"malformed or unknown request\",{}]\n" }
+          ∷ [];
+    }
+
+unfoldable pub history-20 : History
+history-20 =
+    record {
+      table = bytes "ND\u{1}s\0MO\u{2}t1\u{1}dCM\u{2}go\0\u{1}\u{2}\0\0\0\0\0\0\0\0\0\0\0\0\0\0\0\tPA\u{6}target\0\0\u{1}\0\0\0\0\0\0\0\0\0\0\0\0\0\0\0\0\u{3}\u{2}\0\u{1}0PA\u{5}value\0\u{1}\u{1}\0\0\0\0\0\0\0\0\0\0\0\0\0\0\0\0\u{3}\u{2}\0\u{6}295.13PA\u{5}ready\0\u{1}\u{3}\0\u{5}falsePA\u{4}list\0\0\u{6}\0\0\0\u{2}\u{2}\0\0\0\0\0\0\0\0\0\0\0\0\0\0\0\t\0\u{2}[]EN";
+      area = 16384;
+      time = 9999999999999;
+      start = 0;
+      calls =
+          withArea (Open 0 1000) 16384
+          ∷ withOutbox (Piece 0 (bytes "do tx:stop\n") 0) 16385 32768
+          ∷ withOutbox (Piece 0 (bytes "do t1:tx\n") 493) 16385 32768
+          ∷ withOutbox (Piece 0 (bytes "read 1:2\n") 493) 16385 32769
+          ∷ [];
+      due =
+          record { number = 0; used = 0; written = bytes "" }
+          ∷ record { number = 0; used = 11; written = bytes "RP\0\06error_do tx:stop [\"NoSuchModule\",\"no such module\",{}]\n" }
+          ∷ record { number = 0; used = 9; written = bytes "RP\0\06error_do t1:tx [\"NoSuchCommand\",\"no such command\",{}]\n" }
+          ∷ record { number = 0; used = 9; written = bytes "RP\0\0Cerror_read 1:2 [\"ProtocolError\",\"malformed or unknown request\",{}]\n" }
           ∷ [];
     }
 
@@ -1132,6 +1126,149 @@ history-45 =
 unfoldable pub history-46 : History
 history-46 =
     record {
+      table = bytes "ND\u{1}s\0MO\u{2}t1\0PA\u{6}target\0\0\u{2}\0\0\0\0\0\0\0\0\0\0\0\0\0\0\0\t\0\u{1}0PA\u{6}status\0\u{1}\u{7}\u{2}\u{4}\u{2}\u{4}idle\0\0\0d\u{4}busy\0\0\u{1},\u{5}\0\0\0\u{e}\0\u{8}[100,\"\"]EN";
+      area = 16384;
+      time = 1000;
+      start = 0;
+      calls =
+          withArea (Open 1 2000) 16384
+          ∷ withArea (Open 4 3000) 16384
+          ∷ withOutbox (Piece 4 (bytes "activate t1\n") 4000) 16384 32768
+          ∷ withOutbox (Piece 1 (bytes "change t1:target 5\n") 5000) 16384 32768
+          ∷ withOutbox (Piece 1 (bytes "activate t1\n") 6000) 16384 32768
+          ∷ withOutbox (Piece 4 (bytes "change t1:target 5\n") 7000) 16384 32768
+          ∷ withOutbox (Piece 4 (bytes "change t1:target 10\n") 8000) 16384 32768
+          ∷ withOutbox (Reading 1 (bytes "[100,\"there\"]") 9000) 16384 32768
+          ∷ withOutbox (Reading 0 (bytes "5") 10000) 16384 32768
+          ∷ withOutbox (Piece 1 (bytes "read t1:status\n") 11000) 16384 32768
+          ∷ [];
+      due =
+          record { number = 0; used = 0; written = bytes "" }
+          ∷ record { number = 0; used = 0; written = bytes "" }
+          ∷ record { number = 0; used = 12; written = bytes "UP\u{4}\0!update t1:target [0,{\"t\":1.000}]\nUP\u{4}\0(update t1:status [[100,\"\"],{\"t\":1.000}]\nRP\u{4}\0\nactive t1\n" }
+          ∷ record { number = 0; used = 19; written = bytes "DR\u{1}\0\u{2}\05UP\u{4}\06update t1:status [[300,\"target changed\"],{\"t\":5.000}]\nUP\u{4}\0!update t1:target [5,{\"t\":5.000}]\nRP\u{1}\0\"changed t1:target [5,{\"t\":5.000}]\n" }
+          ∷ record { number = 0; used = 12; written = bytes "UP\u{1}\0!update t1:target [5,{\"t\":5.000}]\nUP\u{1}\06update t1:status [[300,\"target changed\"],{\"t\":5.000}]\nRP\u{1}\0\nactive t1\n" }
+          ∷ record { number = 0; used = 19; written = bytes "DR\u{4}\0\u{2}\05UP\u{1}\06update t1:status [[300,\"target changed\"],{\"t\":7.000}]\nUP\u{4}\06update t1:status [[300,\"target changed\"],{\"t\":7.000}]\nUP\u{1}\0!update t1:target [5,{\"t\":7.000}]\nUP\u{4}\0!update t1:target [5,{\"t\":7.000}]\nRP\u{4}\0\"changed t1:target [5,{\"t\":7.000}]\n" }
+          ∷ record { number = 0; used = 20; written = bytes "RP\u{4}\0Aerror_change t1:target [\"RangeError\",\"value is out of range\",{}]\n" }
+          ∷ record { number = 0; used = 0; written = bytes "UP\u{1}\0-update t1:status [[100,\"there\"],{\"t\":9.000}]\nUP\u{4}\0-update t1:status [[100,\"there\"],{\"t\":9.000}]\n" }
+          ∷ record { number = 0; used = 0; written = bytes "UP\u{1}\0\"update t1:target [5,{\"t\":10.000}]\nUP\u{4}\0\"update t1:target [5,{\"t\":10.000}]\n" }
+          ∷ record { number = 0; used = 15; written = bytes "RP\u{1}\0,reply t1:status [[100,\"there\"],{\"t\":9.000}]\n" }
+          ∷ [];
+    }
+
+unfoldable pub history-47 : History
+history-47 =
+    record {
+      table = bytes "ND\u{1}s\0MO\u{1}a\0PA\u{6}target\0\0\u{2}\0\0\0\0\0\0\0\0\0\0\0\0\0\0\0\t\0\u{1}0PA\u{6}status\0\u{1}\u{7}\u{2}\u{4}\u{2}\u{4}idle\0\0\0d\u{4}busy\0\0\u{1},\u{5}\0\0\0\r\0\u{8}[100,\"\"]MO\u{1}b\0PA\u{6}status\0\u{1}\u{7}\u{2}\u{4}\u{1}\u{4}idle\0\0\0d\u{5}\0\0\0\u{14}\0\u{8}[100,\"\"]PA\u{6}target\0\0\u{2}\0\0\0\0\0\0\0\0\0\0\0\0\0\0\0\t\0\u{1}0MO\u{1}c\0PA\u{6}target\0\0\u{2}\0\0\0\0\0\0\0\0\0\0\0\0\0\0\0\t\0\u{1}0PA\u{6}status\0\u{1}\u{8}\u{2}\u{4}code\u{4}\u{2}\u{4}idle\0\0\0d\u{4}busy\0\0\u{1},\u{4}text\u{5}\0\0\0\u{14}\0\u{16}{\"code\":100,\"text\":\"\"}EN";
+      area = 16384;
+      time = 1000;
+      start = 0;
+      calls =
+          withArea (Open 0 2000) 16384
+          ∷ withOutbox (Piece 0 (bytes "activate\n") 3000) 16384 32768
+          ∷ withOutbox (Piece 0 (bytes "change a:target 1\n") 4000) 16384 32768
+          ∷ withOutbox (Piece 0 (bytes "change b:target 1\n") 5000) 16384 32768
+          ∷ withOutbox (Piece 0 (bytes "change c:target 1\n") 6000) 16384 32768
+          ∷ withOutbox (Piece 0 (bytes "read a:status\n") 7000) 16384 32768
+          ∷ withOutbox (Piece 0 (bytes "read b:status\n") 8000) 16384 32768
+          ∷ withOutbox (Piece 0 (bytes "read c:status\n") 9000) 16384 32768
+          ∷ [];
+      due =
+          record { number = 0; used = 0; written = bytes "" }
+          ∷ record { number = 0; used = 9; written = bytes "UP\0\0 update a:target [0,{\"t\":1.000}]\nUP\0\0'update a:status [[100,\"\"],{\"t\":1.000}]\nUP\0\0'update b:status [[100,\"\"],{\"t\":1.000}]\nUP\0\0 update b:target [0,{\"t\":1.000}]\nUP\0\0 update c:target [0,{\"t\":1.000}]\nUP\0\05update c:status [{\"code\":100,\"text\":\"\"},{\"t\":1.000}]\nRP\0\0\u{7}active\n" }
+          ∷ record { number = 0; used = 18; written = bytes "DR\0\0\u{2}\01UP\0\0 update a:target [1,{\"t\":4.000}]\nRP\0\0!changed a:target [1,{\"t\":4.000}]\n" }
+          ∷ record { number = 0; used = 18; written = bytes "DR\0\0\u{2}\u{3}1UP\0\0 update b:target [1,{\"t\":5.000}]\nRP\0\0!changed b:target [1,{\"t\":5.000}]\n" }
+          ∷ record { number = 0; used = 18; written = bytes "DR\0\0\u{2}\u{4}1UP\0\0 update c:target [1,{\"t\":6.000}]\nRP\0\0!changed c:target [1,{\"t\":6.000}]\n" }
+          ∷ record { number = 0; used = 14; written = bytes "RP\0\0&reply a:status [[100,\"\"],{\"t\":1.000}]\n" }
+          ∷ record { number = 0; used = 14; written = bytes "RP\0\0&reply b:status [[100,\"\"],{\"t\":1.000}]\n" }
+          ∷ record { number = 0; used = 14; written = bytes "RP\0\04reply c:status [{\"code\":100,\"text\":\"\"},{\"t\":1.000}]\n" }
+          ∷ [];
+    }
+
+unfoldable pub history-48 : History
+history-48 =
+    record {
+      table = bytes "ND\u{1}s\0MO\u{1}a\0PA\u{6}target\0\0\u{2}\0\0\0\0\0\0\0\0\0\0\0\0\0\0\0\t\0\u{1}0PA\u{6}status\0\0\u{7}\u{2}\u{2}\0\0\0\0\0\0\u{1},\0\0\0\0\0\0\u{1},\u{5}\0\u{e}\0\u{e}\0\u{16}[300,\"aaaaaaaaaaaaaa\"]MO\u{1}b\0PA\u{6}target\0\0\u{2}\0\0\0\0\0\0\0\0\0\0\0\0\0\0\0\t\0\u{1}0PA\u{6}status\0\0\u{7}\u{2}\u{2}\0\0\0\0\0\0\0\0\0\0\0\0\0\0\u{1}+\u{5}\0\0\0\u{14}\0\u{6}[0,\"\"]MO\u{1}c\0PA\u{6}target\0\0\u{2}\0\0\0\0\0\0\0\0\0\0\0\0\0\0\0\t\0\u{1}0PA\u{6}status\0\0\u{7}\u{2}\u{4}\u{2}\u{4}idle\0\0\0d\u{4}busy\0\0\u{1},\u{4}\u{2}\u{6}target\0\0\0\u{1}\u{7}changed\0\0\0\u{2}\0\u{7}[100,1]EN";
+      area = 16384;
+      time = 1000;
+      start = 0;
+      calls =
+          withArea (Open 0 2000) 16384
+          ∷ withOutbox (Piece 0 (bytes "activate\n") 3000) 16384 32768
+          ∷ withOutbox (Piece 0 (bytes "change a:target 1\n") 4000) 16384 32768
+          ∷ withOutbox (Piece 0 (bytes "change b:target 1\n") 5000) 16384 32768
+          ∷ withOutbox (Piece 0 (bytes "change c:target 1\n") 6000) 16384 32768
+          ∷ withOutbox (Piece 0 (bytes "change a:status [300,\"bbbbbbbbbbbbbb\"]\n") 7000) 16384 32768
+          ∷ [];
+      due =
+          record { number = 0; used = 0; written = bytes "" }
+          ∷ record { number = 0; used = 9; written = bytes "UP\0\0 update a:target [0,{\"t\":1.000}]\nUP\0\05update a:status [[300,\"aaaaaaaaaaaaaa\"],{\"t\":1.000}]\nUP\0\0 update b:target [0,{\"t\":1.000}]\nUP\0\0%update b:status [[0,\"\"],{\"t\":1.000}]\nUP\0\0 update c:target [0,{\"t\":1.000}]\nUP\0\0&update c:status [[100,1],{\"t\":1.000}]\nRP\0\0\u{7}active\n" }
+          ∷ record { number = 0; used = 18; written = bytes "DR\0\0\u{2}\01UP\0\05update a:status [[300,\"target changed\"],{\"t\":4.000}]\nUP\0\0 update a:target [1,{\"t\":4.000}]\nRP\0\0!changed a:target [1,{\"t\":4.000}]\n" }
+          ∷ record { number = 0; used = 18; written = bytes "DR\0\0\u{2}\u{2}1UP\0\0 update b:target [1,{\"t\":5.000}]\nRP\0\0!changed b:target [1,{\"t\":5.000}]\n" }
+          ∷ record { number = 0; used = 18; written = bytes "DR\0\0\u{2}\u{4}1UP\0\0 update c:target [1,{\"t\":6.000}]\nRP\0\0!changed c:target [1,{\"t\":6.000}]\n" }
+          ∷ record { number = 0; used = 39; written = bytes "DR\0\0\u{17}\u{1}[300,\"bbbbbbbbbbbbbb\"]UP\0\05update a:status [[300,\"bbbbbbbbbbbbbb\"],{\"t\":7.000}]\nRP\0\06changed a:status [[300,\"bbbbbbbbbbbbbb\"],{\"t\":7.000}]\n" }
+          ∷ [];
+    }
+
+unfoldable pub history-49 : History
+history-49 =
+    record {
+      table = bytes "ND\u{1}s\0MO\u{1}a\0PA\u{6}Target\0\0\u{2}\0\0\0\0\0\0\0\0\0\0\0\0\0\0\0\t\0\u{1}0PA\u{6}status\0\0\u{7}\u{2}\u{4}\u{2}\u{4}idle\0\0\0d\u{4}busy\0\0\u{1},\u{5}\0\0\0\u{e}\0\u{8}[100,\"\"]MO\u{1}b\0PA\u{6}target\0\0\u{2}\0\0\0\0\0\0\0\0\0\0\0\0\0\0\0\t\0\u{1}0PA\u{6}Status\0\0\u{7}\u{2}\u{4}\u{2}\u{4}idle\0\0\0d\u{4}busy\0\0\u{1},\u{5}\0\0\0\u{e}\0\u{8}[100,\"\"]MO\u{1}c\0PA\u{6}target\0\0\u{2}\0\0\0\0\0\0\0\0\0\0\0\0\0\0\0\t\0\u{1}0CM\u{6}status\0\0MO\u{1}d\0PA\u{6}target\0\0\u{2}\0\0\0\0\0\0\0\0\0\0\0\0\0\0\0\t\0\u{1}0EN";
+      area = 16384;
+      time = 1000;
+      start = 0;
+      calls =
+          withArea (Open 0 2000) 16384
+          ∷ withOutbox (Piece 0 (bytes "activate\n") 3000) 16384 32768
+          ∷ withOutbox (Piece 0 (bytes "change a:Target 1\n") 4000) 16384 32768
+          ∷ withOutbox (Piece 0 (bytes "change b:target 1\n") 5000) 16384 32768
+          ∷ withOutbox (Piece 0 (bytes "change c:target 1\n") 6000) 16384 32768
+          ∷ withOutbox (Piece 0 (bytes "change d:target 1\n") 7000) 16384 32768
+          ∷ withOutbox (Piece 0 (bytes "change a:status [\"busy\",\"\"]\n") 8000) 16384 32768
+          ∷ [];
+      due =
+          record { number = 0; used = 0; written = bytes "" }
+          ∷ record { number = 0; used = 9; written = bytes "UP\0\0 update a:Target [0,{\"t\":1.000}]\nUP\0\0'update a:status [[100,\"\"],{\"t\":1.000}]\nUP\0\0 update b:target [0,{\"t\":1.000}]\nUP\0\0'update b:Status [[100,\"\"],{\"t\":1.000}]\nUP\0\0 update c:target [0,{\"t\":1.000}]\nUP\0\0 update d:target [0,{\"t\":1.000}]\nRP\0\0\u{7}active\n" }
+          ∷ record { number = 0; used = 18; written = bytes "DR\0\0\u{2}\01UP\0\0 update a:Target [1,{\"t\":4.000}]\nRP\0\0!changed a:Target [1,{\"t\":4.000}]\n" }
+          ∷ record { number = 0; used = 18; written = bytes "DR\0\0\u{2}\u{2}1UP\0\0 update b:target [1,{\"t\":5.000}]\nRP\0\0!changed b:target [1,{\"t\":5.000}]\n" }
+          ∷ record { number = 0; used = 18; written = bytes "DR\0\0\u{2}\u{4}1UP\0\0 update c:target [1,{\"t\":6.000}]\nRP\0\0!changed c:target [1,{\"t\":6.000}]\n" }
+          ∷ record { number = 0; used = 18; written = bytes "DR\0\0\u{2}\u{5}1UP\0\0 update d:target [1,{\"t\":7.000}]\nRP\0\0!changed d:target [1,{\"t\":7.000}]\n" }
+          ∷ record { number = 0; used = 28; written = bytes "DR\0\0\t\u{1}[300,\"\"]UP\0\0'update a:status [[300,\"\"],{\"t\":8.000}]\nRP\0\0(changed a:status [[300,\"\"],{\"t\":8.000}]\n" }
+          ∷ [];
+    }
+
+unfoldable pub history-50 : History
+history-50 =
+    record {
+      table = bytes "ND\u{1}s\0MO\u{1}a\0PA\u{6}target\0\0\u{2}\0\0\0\0\0\0\0\0\0\0\0\0\0\0\0\t\0\u{1}0PA\u{6}status\0\u{1}\u{7}\u{2}\u{4}\u{2}\u{4}idle\0\0\0d\u{4}busy\0\0\u{1},\u{5}\0\0\0\u{e}\0\u{8}[100,\"\"]MO\u{1}b\0PA\u{6}target\0\0\u{2}\0\0\0\0\0\0\0\0\0\0\0\0\0\0\0\t\0\u{1}0PA\u{6}status\0\u{1}\u{7}\u{2}\u{4}\u{2}\u{4}idle\0\0\0d\u{4}busy\0\0\u{1},\u{5}\0\0\0\r\0\u{8}[100,\"\"]EN";
+      area = 16384;
+      time = 1000;
+      start = 0;
+      calls =
+          withArea (Open 0 2000) 16384
+          ∷ withOutbox (Piece 0 (bytes "activate\n") 3000) 16384 32768
+          ∷ withOutbox (Unreadable 1 1 4000) 16384 32768
+          ∷ withOutbox (Unreadable 3 2 5000) 16384 32768
+          ∷ withOutbox (Piece 0 (bytes "change a:target 1\n") 6000) 16384 32768
+          ∷ withOutbox (Piece 0 (bytes "change b:target 1\n") 7000) 16384 32768
+          ∷ withOutbox (Piece 0 (bytes "read a:status\n") 8000) 16384 32768
+          ∷ withOutbox (Piece 0 (bytes "read b:status\n") 9000) 16384 32768
+          ∷ [];
+      due =
+          record { number = 0; used = 0; written = bytes "" }
+          ∷ record { number = 0; used = 9; written = bytes "UP\0\0 update a:target [0,{\"t\":1.000}]\nUP\0\0'update a:status [[100,\"\"],{\"t\":1.000}]\nUP\0\0 update b:target [0,{\"t\":1.000}]\nUP\0\0'update b:status [[100,\"\"],{\"t\":1.000}]\nRP\0\0\u{7}active\n" }
+          ∷ record { number = 0; used = 0; written = bytes "UP\0\0Derror_update a:status [\"HardwareError\",\"HardwareError\",{\"t\":4.000}]\n" }
+          ∷ record { number = 0; used = 0; written = bytes "UP\0\0Perror_update b:status [\"CommunicationFailed\",\"CommunicationFailed\",{\"t\":5.000}]\n" }
+          ∷ record { number = 0; used = 18; written = bytes "DR\0\0\u{2}\01UP\0\05update a:status [[300,\"target changed\"],{\"t\":6.000}]\nUP\0\0 update a:target [1,{\"t\":6.000}]\nRP\0\0!changed a:target [1,{\"t\":6.000}]\n" }
+          ∷ record { number = 0; used = 18; written = bytes "DR\0\0\u{2}\u{2}1UP\0\0 update b:target [1,{\"t\":7.000}]\nRP\0\0!changed b:target [1,{\"t\":7.000}]\n" }
+          ∷ record { number = 0; used = 14; written = bytes "RP\0\04reply a:status [[300,\"target changed\"],{\"t\":6.000}]\n" }
+          ∷ record { number = 0; used = 14; written = bytes "RP\0\0Nerror_read b:status [\"CommunicationFailed\",\"CommunicationFailed\",{\"t\":5.000}]\n" }
+          ∷ [];
+    }
+
+unfoldable pub history-51 : History
+history-51 =
+    record {
       table = bytes "ND\u{1}s\0MO\u{2}t1\0PA\u{1}p\0\0\u{2}\0\0\0\0\0\0\0\0\0\0\0\0\0\0\0\t\0\u{1}3EN";
       area = 16384;
       time = 1000;
@@ -1158,8 +1295,8 @@ history-46 =
           ∷ [];
     }
 
-unfoldable pub history-47 : History
-history-47 =
+unfoldable pub history-52 : History
+history-52 =
     record {
       table = bytes "ND\u{1}s\0MO\u{2}t1\0PA\u{1}p\0\0\u{2}\0\0\0\0\0\0\0\0\0\0\0\0\0\0\0\t\0\u{1}3EN";
       area = 16384;
@@ -1177,8 +1314,8 @@ history-47 =
           ∷ [];
     }
 
-unfoldable pub history-48 : History
-history-48 =
+unfoldable pub history-53 : History
+history-53 =
     record {
       table = bytes "ND\u{1}s\0MO\u{2}t1\0PA\u{1}p\0\0\u{2}\0\0\0\0\0\0\0\0\0\0\0\0\0\0\0\t\0\u{1}3EN";
       area = 16383;
@@ -1196,8 +1333,8 @@ history-48 =
           ∷ [];
     }
 
-unfoldable pub history-49 : History
-history-49 =
+unfoldable pub history-54 : History
+history-54 =
     record {
       table = bytes "ND\u{1}s\0MO\u{2}t1\0EN";
       area = 16384;
@@ -1219,8 +1356,8 @@ history-49 =
           ∷ [];
     }
 
-unfoldable pub history-50 : History
-history-50 =
+unfoldable pub history-55 : History
+history-55 =
     record {
       table = bytes "ND\u{1}s\0MO\u{2}t1\0EN";
       area = 16384;
@@ -1242,8 +1379,8 @@ history-50 =
           ∷ [];
     }
 
-unfoldable pub history-51 : History
-history-51 =
+unfoldable pub history-56 : History
+history-56 =
     record {
       table = bytes "ND\u{1}s\0MO\u{2}t1\0PA\u{1}p\0\0\u{2}\0\0\0\0\0\0\0\0\0\0\0\0\0\0\0\t\0\u{1}3EN";
       area = 16384;
@@ -1269,8 +1406,8 @@ history-51 =
           ∷ [];
     }
 
-unfoldable pub history-52 : History
-history-52 =
+unfoldable pub history-57 : History
+history-57 =
     record {
       table = bytes "ND\u{1}s\0MO\u{2}t1\0NO\u{c}mind the gapPA\u{1}p\0\0\u{2}\0\0\0\0\0\0\0\0\0\0\0\0\0\0\0\t\0\u{1}3MO\u{2}mf\0NO\0EN";
       area = 16384;
@@ -1290,8 +1427,141 @@ history-52 =
           ∷ [];
     }
 
-unfoldable pub history-53 : History
-history-53 =
+unfoldable pub history-58 : History
+history-58 =
+    record {
+      table = bytes "ND\u{1}s\0ED\u{1b}ISSE,SECoP,V2021-02-17,v2.0MO\u{2}t1\0PA\u{1}p\0\0\u{2}\0\0\0\0\0\0\0\0\0\0\0\0\0\0\0\t\0\u{1}3EN";
+      area = 16384;
+      time = 1000;
+      start = 0;
+      calls =
+          withArea (Open 0 2000) 16384
+          ∷ withOutbox (Piece 0 (bytes "*IDN?\n") 3000) 16384 32768
+          ∷ withOutbox (Piece 0 (bytes "*IDN? x\n") 4000) 16384 32768
+          ∷ withOutbox (Piece 0 (bytes "check t1:p 4\n") 5000) 16384 32768
+          ∷ withOutbox (Piece 0 (bytes "describe\n") 6000) 16384 32768
+          ∷ withOutbox (Piece 0 (bytes "checks t1:p 4\n") 7000) 16384 32768
+          ∷ withOutbox (Piece 0 (bytes "Check t1:p 4\n") 8000) 16384 32768
+          ∷ [];
+      due =
+          record { number = 0; used = 0; written = bytes "" }
+          ∷ record { number = 0; used = 6; written = bytes "RP\0\0\u{1c}ISSE,SECoP,V2021-02-17,v2.0\n" }
+          ∷ record { number = 0; used = 8; written = bytes "RP\0\0\u{1c}ISSE,SECoP,V2021-02-17,v2.0\n" }
+          ∷ record { number = 0; used = 13; written = bytes "RP\0\0\u{1d}checked t1:p [4,{\"t\":5.000}]\n" }
+          ∷ record { number = 0; used = 9; written = bytes "RP\0\0Ðdescribing . {\"modules\":{\"t1\":{\"interface_classes\":[],\"description\":\"\",\"accessibles\":{\"p\":{\"description\":\"\",\"readonly\":false,\"datainfo\":{\"type\":\"int\",\"min\":0,\"max\":9}}}}},\"equipment_id\":\"s\",\"description\":\"\"}\n" }
+          ∷ record { number = 0; used = 14; written = bytes "RP\0\0Ferror_checks t1:p [\"ProtocolError\",\"malformed or unknown request\",{}]\n" }
+          ∷ record { number = 0; used = 13; written = bytes "RP\0\0Eerror_Check t1:p [\"ProtocolError\",\"malformed or unknown request\",{}]\n" }
+          ∷ [];
+    }
+
+unfoldable pub history-59 : History
+history-59 =
+    record {
+      table = bytes "ND\u{1}s\0ED\u{1b}ISSE,SECoP,V2021-02-17,v2.0MO\u{2}t1\0PA\u{5}value\0\u{1}\u{2}\0\0\0\0\0\0\0\0\0\0\0\0\0\0\0\t\0\u{1}3PA\u{1}p\0\0\u{2}\0\0\0\0\0\0\0\0\0\0\0\0\0\0\0\t\0\u{1}3CM\u{4}stop\0\0EN";
+      area = 16384;
+      time = 1000;
+      start = 0;
+      calls =
+          withArea (Open 0 2000) 16384
+          ∷ withOutbox (Piece 0 (bytes "check\n") 3000) 16384 32768
+          ∷ withOutbox (Piece 0 (bytes "check t1 4\n") 4000) 16384 32768
+          ∷ withOutbox (Piece 0 (bytes "check t1:9 4\n") 5000) 16384 32768
+          ∷ withOutbox (Piece 0 (bytes "check tx:p 4\n") 6000) 16384 32768
+          ∷ withOutbox (Piece 0 (bytes "check t1:stop\n") 7000) 16384 32768
+          ∷ withOutbox (Piece 0 (bytes "check t1:value {\n") 8000) 16384 32768
+          ∷ withOutbox (Piece 0 (bytes "check t1:p {\n") 9000) 16384 32768
+          ∷ withOutbox (Piece 0 (bytes "check t1:p\n") 10000) 16384 32768
+          ∷ withOutbox (Piece 0 (bytes "check t1:p:x 10\n") 11000) 16384 32768
+          ∷ [];
+      due =
+          record { number = 0; used = 0; written = bytes "" }
+          ∷ record { number = 0; used = 6; written = bytes "RP\0\0Aerror_check  [\"ProtocolError\",\"malformed or unknown request\",{}]\n" }
+          ∷ record { number = 0; used = 11; written = bytes "RP\0\0Cerror_check t1 [\"ProtocolError\",\"malformed or unknown request\",{}]\n" }
+          ∷ record { number = 0; used = 13; written = bytes "RP\0\0Eerror_check t1:9 [\"ProtocolError\",\"malformed or unknown request\",{}]\n" }
+          ∷ record { number = 0; used = 13; written = bytes "RP\0\06error_check tx:p [\"NoSuchModule\",\"no such module\",{}]\n" }
+          ∷ record { number = 0; used = 14; written = bytes "RP\0\0?error_check t1:stop [\"NoSuchParameter\",\"no such parameter\",{}]\n" }
+          ∷ record { number = 0; used = 17; written = bytes "RP\0\0>error_check t1:value [\"ReadOnly\",\"parameter is read only\",{}]\n" }
+          ∷ record { number = 0; used = 13; written = bytes "RP\0\03error_check t1:p [\"BadJSON\",\"data is not JSON\",{}]\n" }
+          ∷ record { number = 0; used = 11; written = bytes "RP\0\0=error_check t1:p [\"WrongType\",\"value has the wrong type\",{}]\n" }
+          ∷ record { number = 0; used = 16; written = bytes "RP\0\0=error_check t1:p:x [\"RangeError\",\"value is out of range\",{}]\n" }
+          ∷ [];
+    }
+
+unfoldable pub history-60 : History
+history-60 =
+    record {
+      table = bytes "ND\u{1}s\0ED\u{1b}ISSE,SECoP,V2021-02-17,v2.0MO\u{2}t1\0PA\u{4}pair\0\0\u{7}\u{2}\u{4}\u{2}\u{3}off\0\0\0\0\u{2}on\0\0\0\u{1}\u{2}\0\0\0\0\0\0\0\0\0\0\0\0\0\0\0\t\0\u{5}[0,1]EN";
+      area = 16384;
+      time = 1000;
+      start = 0;
+      calls =
+          withArea (Open 0 2000) 16384
+          ∷ withOutbox (Piece 0 (bytes "check t1:pair:x  [ \"on\" , 7 ] \n") 3000) 16384 32768
+          ∷ withOutbox (Piece 0 (bytes "check t1:pair [\"On\",7]\n") 4000) 16384 32768
+          ∷ withOutbox (Piece 0 (bytes "read t1:pair\n") 5000) 16384 32768
+          ∷ [];
+      due =
+          record { number = 0; used = 0; written = bytes "" }
+          ∷ record { number = 0; used = 31; written = bytes "RP\0\0$checked t1:pair [[1,7],{\"t\":3.000}]\n" }
+          ∷ record { number = 0; used = 23; written = bytes "RP\0\0>error_check t1:pair [\"RangeError\",\"value is out of range\",{}]\n" }
+          ∷ record { number = 0; used = 13; written = bytes "RP\0\0\"reply t1:pair [[0,1],{\"t\":1.000}]\n" }
+          ∷ [];
+    }
+
+unfoldable pub history-61 : History
+history-61 =
+    record {
+      table = bytes "ND\u{1}s\0ED\u{1b}ISSE,SECoP,V2021-02-17,v2.0MO\u{2}t1\0PA\u{1}p\0\0\u{2}\0\0\0\0\0\0\0\0\0\0\0\0\0\0\0\t\0\u{1}3EN";
+      area = 16384;
+      time = 1000;
+      start = 0;
+      calls =
+          withArea (Open 0 2000) 16384
+          ∷ withArea (Open 1 3000) 16384
+          ∷ withOutbox (Piece 1 (bytes "activate\n") 4000) 16384 32768
+          ∷ withOutbox (Piece 0 (bytes "check t1:p 4\n") 5000) 16384 32768
+          ∷ withOutbox (Piece 0 (bytes "read t1:p\n") 6000) 16384 32768
+          ∷ withOutbox (Unreadable 0 2 7000) 16384 32768
+          ∷ withOutbox (Piece 1 (bytes "check t1:p 5\n") 8000) 16384 32768
+          ∷ withOutbox (Piece 0 (bytes "read t1:p\n") 9000) 16384 32768
+          ∷ [];
+      due =
+          record { number = 0; used = 0; written = bytes "" }
+          ∷ record { number = 0; used = 0; written = bytes "" }
+          ∷ record { number = 0; used = 9; written = bytes "UP\u{1}\0\u{1c}update t1:p [3,{\"t\":1.000}]\nRP\u{1}\0\u{7}active\n" }
+          ∷ record { number = 0; used = 13; written = bytes "RP\0\0\u{1d}checked t1:p [4,{\"t\":5.000}]\n" }
+          ∷ record { number = 0; used = 10; written = bytes "RP\0\0\u{1b}reply t1:p [3,{\"t\":1.000}]\n" }
+          ∷ record { number = 0; used = 0; written = bytes "UP\u{1}\0Lerror_update t1:p [\"CommunicationFailed\",\"CommunicationFailed\",{\"t\":7.000}]\n" }
+          ∷ record { number = 0; used = 13; written = bytes "RP\u{1}\0\u{1d}checked t1:p [5,{\"t\":8.000}]\n" }
+          ∷ record { number = 0; used = 10; written = bytes "RP\0\0Jerror_read t1:p [\"CommunicationFailed\",\"CommunicationFailed\",{\"t\":7.000}]\n" }
+          ∷ [];
+    }
+
+unfoldable pub history-62 : History
+history-62 =
+    record {
+      table = bytes "ND\u{1}s\0MO\u{2}t1\0PA\u{1}p\0\0\u{2}\0\0\0\0\0\0\0\0\0\0\0\0\0\0\0\t\0\u{1}3EN";
+      area = 16384;
+      time = 1000;
+      start = 0;
+      calls =
+          withArea (Open 0 2000) 16384
+          ∷ withOutbox (Piece 0 (bytes "*IDN?\n") 3000) 16384 32768
+          ∷ withOutbox (Piece 0 (bytes "check t1:p 4\n") 4000) 16384 32768
+          ∷ withOutbox (Piece 0 (bytes "check tx:p {\n") 5000) 16384 32768
+          ∷ withOutbox (Piece 0 (bytes "check\n") 6000) 16384 32768
+          ∷ [];
+      due =
+          record { number = 0; used = 0; written = bytes "" }
+          ∷ record { number = 0; used = 6; written = bytes "RP\0\0%ISSE&SINE2020,SECoP,V2019-09-16,v1.0\n" }
+          ∷ record { number = 0; used = 13; written = bytes "RP\0\0Eerror_check t1:p [\"ProtocolError\",\"malformed or unknown request\",{}]\n" }
+          ∷ record { number = 0; used = 13; written = bytes "RP\0\0Eerror_check tx:p [\"ProtocolError\",\"malformed or unknown request\",{}]\n" }
+          ∷ record { number = 0; used = 6; written = bytes "RP\0\0Aerror_check  [\"ProtocolError\",\"malformed or unknown request\",{}]\n" }
+          ∷ [];
+    }
+
+unfoldable pub history-63 : History
+history-63 =
     record {
       table = bytes "ND\u{1}s\0MO\u{2}t1\0ENEN";
       area = 16384;
@@ -1305,8 +1575,8 @@ history-53 =
           ∷ [];
     }
 
-unfoldable pub history-54 : History
-history-54 =
+unfoldable pub history-64 : History
+history-64 =
     record {
       table = bytes "ND\u{1}s\0EN";
       area = 16384;
@@ -1320,8 +1590,8 @@ history-54 =
           ∷ [];
     }
 
-unfoldable pub history-55 : History
-history-55 =
+unfoldable pub history-65 : History
+history-65 =
     record {
       table = bytes "ND\u{1}s\0MO\u{2}9x\0EN";
       area = 16384;
@@ -1335,8 +1605,68 @@ history-55 =
           ∷ [];
     }
 
-unfoldable pub history-56 : History
-history-56 =
+unfoldable pub history-66 : History
+history-66 =
+    record {
+      table = bytes "ND\u{1}s\0MO\u{2}t1\0ED\u{b}ISSE,SECoP,EN";
+      area = 16384;
+      time = 1000;
+      start = 1;
+      calls =
+          withArea (Open 0 2000) 16384
+          ∷ [];
+      due =
+          record { number = 1; used = 0; written = bytes "" }
+          ∷ [];
+    }
+
+unfoldable pub history-67 : History
+history-67 =
+    record {
+      table = bytes "ND\u{1}s\0ED\u{b}ISSE,SECoP,ED\u{b}ISSE,SECoP,MO\u{2}t1\0EN";
+      area = 16384;
+      time = 1000;
+      start = 1;
+      calls =
+          withArea (Open 0 2000) 16384
+          ∷ [];
+      due =
+          record { number = 1; used = 0; written = bytes "" }
+          ∷ [];
+    }
+
+unfoldable pub history-68 : History
+history-68 =
+    record {
+      table = bytes "ND\u{1}s\0ED$ISSE&SINE2020,SECoP,V2019-09-16,v1.0MO\u{2}t1\0EN";
+      area = 16384;
+      time = 1000;
+      start = 3;
+      calls =
+          withArea (Open 0 2000) 16384
+          ∷ [];
+      due =
+          record { number = 3; used = 0; written = bytes "" }
+          ∷ [];
+    }
+
+unfoldable pub history-69 : History
+history-69 =
+    record {
+      table = bytes "ND\u{1}s\0ED\u{c}ISSE,SECoP,\"MO\u{2}t1\0EN";
+      area = 16384;
+      time = 1000;
+      start = 3;
+      calls =
+          withArea (Open 0 2000) 16384
+          ∷ [];
+      due =
+          record { number = 3; used = 0; written = bytes "" }
+          ∷ [];
+    }
+
+unfoldable pub history-70 : History
+history-70 =
     record {
       table = bytes "ND\u{1}s\0MO\u{2}t1\0CM\u{1}c\0\u{1}\u{2}\0\0\0\0\0\0\0\u{1}\0\0\0\0\0\0\0\0EN";
       area = 16384;
@@ -1350,8 +1680,8 @@ history-56 =
           ∷ [];
     }
 
-unfoldable pub history-57 : History
-history-57 =
+unfoldable pub history-71 : History
+history-71 =
     record {
       table = bytes "ND\u{1}s\0MO\u{2}t1\0CM\u{1}c\0\u{1}\t\0\0\0\0\0\0\0\0\0\0\0\0\0\0\0\0\0\0\0\0\0\0\0\0\u{1}EN";
       area = 16384;
@@ -1365,8 +1695,8 @@ history-57 =
           ∷ [];
     }
 
-unfoldable pub history-58 : History
-history-58 =
+unfoldable pub history-72 : History
+history-72 =
     record {
       table = bytes "ND\u{1}s\0MO\u{2}t1\0PA\u{1}p\0\0\u{2}\0\0\0\0\0\0\0\0\0\0\0\0\0\0\0\t\0\u{2}3 EN";
       area = 16384;
@@ -1380,8 +1710,8 @@ history-58 =
           ∷ [];
     }
 
-unfoldable pub history-59 : History
-history-59 =
+unfoldable pub history-73 : History
+history-73 =
     record {
       table = bytes "ND\u{1}s\0MO\u{2}9x\0CM\u{1}c\0\u{2}EN";
       area = 16384;
@@ -1395,8 +1725,8 @@ history-59 =
           ∷ [];
     }
 
-unfoldable pub history-60 : History
-history-60 =
+unfoldable pub history-74 : History
+history-74 =
     record {
       table = bytes "ND\u{1}s\u{1}\"EN";
       area = 16384;
@@ -1410,8 +1740,8 @@ history-60 =
           ∷ [];
     }
 
-unfoldable pub history-61 : History
-history-61 =
+unfoldable pub history-75 : History
+history-75 =
     record {
       table = bytes "ND\u{1}s\0MO\u{2}t1\0CM\u{1}c\0\u{1}\u{4}\u{2}\u{1}a\0\0\0\0\u{1}A\0\0\0\0EN";
       area = 16384;
@@ -1425,8 +1755,8 @@ history-61 =
           ∷ [];
     }
 
-unfoldable pub history-62 : History
-history-62 =
+unfoldable pub history-76 : History
+history-76 =
     record {
       table = bytes "ND\u{1}s\0MO\u{2}t1\0PA\u{1}p\0\0\u{5}\0\u{1}\0\0\0\u{1}2EN";
       area = 16384;
@@ -1440,8 +1770,8 @@ history-62 =
           ∷ [];
     }
 
-unfoldable pub history-63 : History
-history-63 =
+unfoldable pub history-77 : History
+history-77 =
     record {
       table = bytes "ND\u{1}s\0MO\u{2}t1\0PA\u{1}m\0\0\u{4}\u{2}\u{3}off\0\0\0\0\u{2}on\0\0\u{3}è\0\u{4}\"on\"EN";
       area = 16384;
@@ -1455,8 +1785,8 @@ history-63 =
           ∷ [];
     }
 
-unfoldable pub history-64 : History
-history-64 =
+unfoldable pub history-78 : History
+history-78 =
     record {
       table = bytes "ND\u{1}s\0MO\u{2}t1\0PA\u{1}p\0\0\u{2}\0\0\0\0\0\0\0\0\0\0\0\0\0\0\0\t\0\u{2}3 EN";
       area = 16383;
@@ -1471,4 +1801,4 @@ history-64 =
     }
 
 unfoldable pub histories : List History
-histories = history-1 ∷ history-2 ∷ history-3 ∷ history-4 ∷ history-5 ∷ history-6 ∷ history-7 ∷ history-8 ∷ history-9 ∷ history-10 ∷ history-11 ∷ history-12 ∷ history-13 ∷ history-14 ∷ history-15 ∷ history-16 ∷ history-17 ∷ history-18 ∷ history-19 ∷ history-20 ∷ history-21 ∷ history-22 ∷ history-23 ∷ history-24 ∷ history-25 ∷ history-26 ∷ history-27 ∷ history-28 ∷ history-29 ∷ history-30 ∷ history-31 ∷ history-32 ∷ history-33 ∷ history-34 ∷ history-35 ∷ history-36 ∷ history-37 ∷ history-38 ∷ history-39 ∷ history-40 ∷ history-41 ∷ history-42 ∷ history-43 ∷ history-44 ∷ history-45 ∷ history-46 ∷ history-47 ∷ history-48 ∷ history-49 ∷ history-50 ∷ history-51 ∷ history-52 ∷ history-53 ∷ history-54 ∷ history-55 ∷ history-56 ∷ history-57 ∷ history-58 ∷ history-59 ∷ history-60 ∷ history-61 ∷ history-62 ∷ history-63 ∷ history-64 ∷ []
+histories = history-1 ∷ history-2 ∷ history-3 ∷ history-4 ∷ history-5 ∷ history-6 ∷ history-7 ∷ history-8 ∷ history-9 ∷ history-10 ∷ history-11 ∷ history-12 ∷ history-13 ∷ history-14 ∷ history-15 ∷ history-16 ∷ history-17 ∷ history-18 ∷ history-19 ∷ history-20 ∷ history-21 ∷ history-22 ∷ history-23 ∷ history-24 ∷ history-25 ∷ history-26 ∷ history-27 ∷ history-28 ∷ history-29 ∷ history-30 ∷ history-31 ∷ history-32 ∷ history-33 ∷ history-34 ∷ history-35 ∷ history-36 ∷ history-37 ∷ history-38 ∷ history-39 ∷ history-40 ∷ history-41 ∷ history-42 ∷ history-43 ∷ history-44 ∷ history-45 ∷ history-46 ∷ history-47 ∷ history-48 ∷ history-49 ∷ history-50 ∷ history-51 ∷ history-52 ∷ history-53 ∷ history-54 ∷ history-55 ∷ history-56 ∷ history-57 ∷ history-58 ∷ history-59 ∷ history-60 ∷ history-61 ∷ history-62 ∷ history-63 ∷ history-64 ∷ history-65 ∷ history-66 ∷ history-67 ∷ history-68 ∷ history-69 ∷ history-70 ∷ history-71 ∷ history-72 ∷ history-73 ∷ history-74 ∷ history-75 ∷ history-76 ∷ history-77 ∷ history-78 ∷ []

@@ -17,7 +17,7 @@ use Rattle.plain.specs.Node.{begin}
 use Rattle.plain.specs.Calls.{Open, Piece, Reading, Unreadable, Call, withArea, withOutbox}
 use Rattle.plain.specs.History.{answers, sent, sentBytes}
 use Rattle.rule.specs.Records.{repliesFor}
-use Rattle.examples.specs.Demo.{demo, noted, stage}
+use Rattle.examples.specs.Demo.{demo, noted, stage, ramp, edited}
 use Rattle.examples.specs.Told.{AllAsDue}
 use Rattle.examples.specs.Histories.{histories}
 
@@ -51,12 +51,16 @@ examples =
     ∷ replied (bytes "ping x\r" ∷ bytes "\n" ∷ []) (bytes "pong x [null,{\"t\":1.500}]" ∷ [])
     ∷ []
 
--- a client opens and sends the pieces, at 1500, to the node of the outbox example
+-- a client opens and sends the pieces, at 1500, to a node
 unfoldable pub pieceCalls : List (List ℕ) → List Call
 pieceCalls ps = withArea (Open 2 0) 16384 ∷ map (λ p. withOutbox (Piece 2 p 1500) 16384 32768) ps
 
+unfoldable pub repliesOf : List ℕ → List (List ℕ) → List (List ℕ)
+repliesOf table ps = map replyLine (repliesFor 2 (sent (answers table (begin (tableOf table) 0) (pieceCalls ps))))
+
+-- the node of the outbox example
 unfoldable pub repliesTo : List (List ℕ) → List (List ℕ)
-repliesTo ps = map replyLine (repliesFor 2 (sent (answers stage (begin (tableOf stage) 0) (pieceCalls ps))))
+repliesTo ps = repliesOf stage ps
 
 abbrev pub Right : Example → Type 0
 Right (judged d x v) = verdict d x ≡ v
@@ -87,7 +91,9 @@ NotedReport =
 
 -- the tables of the examples are accepted
 abbrev pub TablesAreGood : Type 0
-TablesAreGood = (tableNumber demo ≡ 0) × (tableNumber noted ≡ 0) × (tableNumber stage ≡ 0)
+TablesAreGood =
+    (tableNumber demo ≡ 0) × (tableNumber noted ≡ 0) × (tableNumber stage ≡ 0) × (tableNumber (ramp 14) ≡ 0) × (tableNumber (ramp 13) ≡ 0)
+    × (tableNumber edited ≡ 0)
 
 -- ## The outbox example: "client 2 sends `change t1:target 12` at 1500"
 
@@ -100,12 +106,12 @@ changing =
     ∷ withOutbox (Piece 2 (bytes "change t1:target 12\n") 1500) 16384 32768
     ∷ []
 
--- what the calls after the first four write
-unfoldable pub lastWritten : List Call → List ℕ
-lastWritten h = sentBytes (drop 4 (answers stage (begin (tableOf stage) 0) h))
+-- what the calls after the first four write, on a table
+unfoldable pub lastWritten : List ℕ → List Call → List ℕ
+lastWritten table h = sentBytes (drop 4 (answers table (begin (tableOf table) 0) h))
 
 abbrev pub OutboxExample : Type 0
-OutboxExample = lastWritten changing
+OutboxExample = lastWritten stage changing
     ≡ (0x44 ∷ 0x52 ∷ 0x02 ∷ 0x00 ∷ 0x03 ∷ 0x01 ∷ 0x31 ∷ 0x32 ∷ [])
     ++ (0x55 ∷ 0x50 ∷ 0x02 ∷ 0x00 ∷ 0x22 ∷ [])
     ++ bytes "update t1:target [12,{\"t\":1.500}]\n"
@@ -130,7 +136,7 @@ failing =
     ∷ []
 
 abbrev pub BrokenSensor : Type 0
-BrokenSensor = lastWritten failing
+BrokenSensor = lastWritten stage failing
     ≡ (0x55 ∷ 0x50 ∷ 0x05 ∷ 0x00 ∷ 0x44 ∷ [])
     ++ bytes "error_update t1:value [\"HardwareError\",\"HardwareError\",{\"t\":1.500}]\n"
     ++ (0x52 ∷ 0x50 ∷ 0x02 ∷ 0x00 ∷ 0x44 ∷ [])
@@ -139,6 +145,65 @@ BrokenSensor = lastWritten failing
     ++ bytes "update t1:value [12,{\"t\":2.500}]\n"
     ++ (0x52 ∷ 0x50 ∷ 0x02 ∷ 0x00 ∷ 0x20 ∷ [])
     ++ bytes "reply t1:value [12,{\"t\":2.500}]\n"
+
+-- ## Busy before changed (M-100): the outbox example where the module has a status, whose string may have 14 characters; and where it may have
+-- 13, "status stays as it is"
+
+unfoldable pub ramping : List Call
+ramping = changing ++ (withOutbox (Piece 5 (bytes "read t1:status\n") 2000) 16384 32768 ∷ [])
+
+abbrev pub Ramp : Type 0
+Ramp = lastWritten (ramp 14) ramping
+    ≡ (0x44 ∷ 0x52 ∷ 0x02 ∷ 0x00 ∷ 0x03 ∷ 0x01 ∷ 0x31 ∷ 0x32 ∷ [])
+    ++ (0x55 ∷ 0x50 ∷ 0x02 ∷ 0x00 ∷ 0x36 ∷ [])
+    ++ bytes "update t1:status [[300,\"target changed\"],{\"t\":1.500}]\n"
+    ++ (0x55 ∷ 0x50 ∷ 0x05 ∷ 0x00 ∷ 0x36 ∷ [])
+    ++ bytes "update t1:status [[300,\"target changed\"],{\"t\":1.500}]\n"
+    ++ (0x55 ∷ 0x50 ∷ 0x02 ∷ 0x00 ∷ 0x22 ∷ [])
+    ++ bytes "update t1:target [12,{\"t\":1.500}]\n"
+    ++ (0x55 ∷ 0x50 ∷ 0x05 ∷ 0x00 ∷ 0x22 ∷ [])
+    ++ bytes "update t1:target [12,{\"t\":1.500}]\n"
+    ++ (0x52 ∷ 0x50 ∷ 0x02 ∷ 0x00 ∷ 0x23 ∷ [])
+    ++ bytes "changed t1:target [12,{\"t\":1.500}]\n"
+    ++ (0x52 ∷ 0x50 ∷ 0x05 ∷ 0x00 ∷ 0x35 ∷ [])
+    ++ bytes "reply t1:status [[300,\"target changed\"],{\"t\":1.500}]\n"
+
+abbrev pub NoRamp : Type 0
+NoRamp = lastWritten (ramp 13) ramping
+    ≡ (0x44 ∷ 0x52 ∷ 0x02 ∷ 0x00 ∷ 0x03 ∷ 0x01 ∷ 0x31 ∷ 0x32 ∷ [])
+    ++ (0x55 ∷ 0x50 ∷ 0x02 ∷ 0x00 ∷ 0x22 ∷ [])
+    ++ bytes "update t1:target [12,{\"t\":1.500}]\n"
+    ++ (0x55 ∷ 0x50 ∷ 0x05 ∷ 0x00 ∷ 0x22 ∷ [])
+    ++ bytes "update t1:target [12,{\"t\":1.500}]\n"
+    ++ (0x52 ∷ 0x50 ∷ 0x02 ∷ 0x00 ∷ 0x23 ∷ [])
+    ++ bytes "changed t1:target [12,{\"t\":1.500}]\n"
+    ++ (0x52 ∷ 0x50 ∷ 0x05 ∷ 0x00 ∷ 0x27 ∷ [])
+    ++ bytes "reply t1:status [[100,\"\"],{\"t\":0.000}]\n"
+
+abbrev pub Ramps : Type 0
+Ramps = Ramp × NoRamp
+
+-- ## The next edition (M-107): the same lines to two tables, of which one has an `ED` record
+
+unfoldable pub visiting : List (List ℕ)
+visiting = bytes "*IDN?\n" ∷ bytes "check t1:target:x  12 \n" ∷ bytes "check t1:target 301\n" ∷ bytes "check t1:value 1\n" ∷ bytes "read t1:target\n" ∷ []
+
+abbrev pub NextEdition : Type 0
+NextEdition =
+    (repliesOf edited visiting
+    ≡ bytes "ISSE,SECoP,V2021-02-17,v2.0"
+    ∷ bytes "checked t1:target [12,{\"t\":1.500}]"
+    ∷ bytes "error_check t1:target [\"RangeError\",\"value is out of range\",{}]"
+    ∷ bytes "error_check t1:value [\"ReadOnly\",\"parameter is read only\",{}]"
+    ∷ bytes "reply t1:target [0,{\"t\":0.000}]"
+    ∷ [])
+    × (repliesOf stage visiting
+    ≡ bytes "ISSE&SINE2020,SECoP,V2019-09-16,v1.0"
+    ∷ bytes "error_check t1:target:x [\"ProtocolError\",\"malformed or unknown request\",{}]"
+    ∷ bytes "error_check t1:target [\"ProtocolError\",\"malformed or unknown request\",{}]"
+    ∷ bytes "error_check t1:value [\"ProtocolError\",\"malformed or unknown request\",{}]"
+    ∷ bytes "reply t1:target [0,{\"t\":0.000}]"
+    ∷ [])
 
 -- ## Exchanges of SECoP 1.0, with document 01's error texts and times
 

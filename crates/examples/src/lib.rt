@@ -1,6 +1,7 @@
 ghost use mathlib.Core.Bool.{true};
 ghost use mathlib.Core.Path.{_≡_};
-ghost use Rattle.examples.specs.Theorems.{ExamplesAreRight, OutboxExample, BrokenSensor, WholeReport, NotedReport, TablesAreGood, FiveMilliseconds, ExchangesAreRight, HistoriesAreAsDue};
+ghost use Rattle.examples.specs.Theorems.{Ramps};
+ghost use Rattle.examples.specs.Theorems.{ExamplesAreRight, OutboxExample, BrokenSensor, NextEdition, WholeReport, NotedReport, TablesAreGood, FiveMilliseconds, ExchangesAreRight, HistoriesAreAsDue};
 
 // Each function here promises a theorem about the definitions. Nothing is run.
 
@@ -21,6 +22,13 @@ pub fn outbox_example() -> bool
 // A sensor breaks, its clients are told, and the next reading clears it.
 pub fn broken_sensor() -> bool
     ensures { λ r. ⌜ (r ≡ true) × BrokenSensor ⌝ }
+{
+    true
+}
+
+// Busy before changed, and a status that doesn't admit it, byte for byte.
+pub fn ramps() -> bool
+    ensures { λ r. ⌜ (r ≡ true) × Ramps ⌝ }
 {
     true
 }
@@ -49,6 +57,13 @@ pub fn tables_are_good() -> bool
 // 5 milliseconds are written as 0.005.
 pub fn five_milliseconds() -> bool
     ensures { λ r. ⌜ (r ≡ true) × FiveMilliseconds ⌝ }
+{
+    true
+}
+
+// A table with an `ED` record and one without answer the same lines, each by its edition.
+pub fn next_edition() -> bool
+    ensures { λ r. ⌜ (r ≡ true) × NextEdition ⌝ }
 {
     true
 }

@@ -32,7 +32,7 @@ use Rattle.form.proofs.Stored.{short-stored}
 use Rattle.state.specs.declared.Clients.{Clients}
 use Rattle.state.specs.declared.Settings.{Settings}
 use Rattle.state.specs.declared.State.{State}
-use Rattle.state.specs.View.{view, withHeld, withSetting, areaWith, settingsWith}
+use Rattle.state.specs.View.{view, withLength, withSetting, areaWith, settingsWith}
 use Rattle.state.specs.Fit.{settingsUnfit, clientUnfit, isUnfit}
 use Rattle.ascii.proofs.Lists.{neither}
 use Rattle.state.proofs.Flags.{nor}
@@ -40,15 +40,17 @@ use Rattle.state.proofs.Becomes.{Sized}
 use Rattle.state.proofs.Cells.{active-becomes}
 use Rattle.state.proofs.Kept.{still-fit}
 use Rattle.state.proofs.Settled as Settled
-use Rattle.state.proofs.Sets.{all-set}
+use Rattle.state.proofs.Sets.{Settable, AllSettable, all-set}
 use Rattle.sound.proofs.Lists.{there-low}
 use Rattle.state.proofs.Views.{client-view}
-use Rattle.outcome.specs.Outcome.{Carries, Refuses, Sends, Activates, Stores, OutcomeIs, Comes, Answers}
+use Rattle.outcome.specs.Outcome.{statusSettings, storedBy, Holds, StatusHolds, Carries, Refuses, Sends, Activates, Stores, OutcomeIs, Comes, Answers}
 use Rattle.outcome.specs.Ready.{Ready}
+use Rattle.outcome.specs.declared.Status.{Status}
+use Rattle.outcome.specs.declared.Status.the-variants.{Stays, Busy}
 use Rattle.outcome.specs.declared.Outcome.{Outcome}
 use Rattle.outcome.specs.declared.Outcome.the-variants.{Refused, Unreadable, Sent, Active, Stored}
 use Rattle.outcome.specs.declared.Answered.{Answered}
-use Rattle.line.specs.Concluded.{Concludable, Denies, Keeps, Passes, Switches, Sets, Concludes}
+use Rattle.line.specs.Concluded.{StatusNumbered, Concludable, Denies, Keeps, Passes, Switches, Sets, Concludes}
 use Rattle.line.proofs.Carried.{part-short}
 
 -- one record, written at the front
@@ -137,15 +139,30 @@ module _ (table : List ℕ) (s : State) (values before : List ℕ) (c t : ℕ) (
         (x .unstored)
         (k .settings)
 
+    -- what is set is settable: a status, if there is one, and the parameter
+    settable : t ≤ latest → {p : ℕ} {x : List ℕ} → Holds w p x → Settable w (record { parameter = p; held = valued x; time = t })
+    settable h y = record { it = y .parameter; there = y .there; fits = y .fits; inTime = h }
+
+    all-settable : t ≤ latest → (f : Status) → StatusHolds w f → {k : ℕ} {x : List ℕ} → Holds w k x → AllSettable w (storedBy f k x t)
+    all-settable h Stays i y = (settable h y, tt)
+    all-settable h (Busy j b) i y = (settable h i, (settable h y, tt))
+
+    -- lengths and times, of a status and then of the parameter
+    settings-are : (g : Settings) (f : Status) (k : ℕ) (x : List ℕ)
+        → withLength (settingsWith g (statusSettings f t)) k (length x) t ≡ settingsWith g (storedBy f k x t)
+    unfolding settingsWith withSetting
+    settings-are g Stays k x = refl
+    settings-are g (Busy j b) k x = refl
+
     stored-answered : Settled.Sized (s .settings) → t ≤ latest
-        → (k size written : ℕ) → Stores w n c t before mid values stored o k size written → Sets mid after s c t r k size written
+        → (f : Status) (k size written : ℕ) → Stores w n c t before mid values stored o f k size written → Sets mid after s c t r f k size written
         → Answers table (s .settings) values before r stored after (conclude w n c t p o) (settingsOf o)
-    unfolding isUnfit areaWith settingsWith withHeld withSetting
-    stored-answered z h k size written x y =
-        let set : List Setting = record { parameter = k; held = valued (x .text); time = t } ∷ [] in
-        let settings : r .state .settings ≡ settingsWith (s .settings) set = rw (← (x .long)) (y .settings) in
+    unfolding isUnfit
+    stored-answered z h f k size written x y =
+        let set : List Setting = storedBy f k (x .text) t in
+        let settings : r .state .settings ≡ settingsWith (s .settings) set = rw (x .long) at (y .settings) ∙ settings-are (s .settings) f k (x .text) in
         let is = all-set table (accepted table (given .lent .accepted) .few) set s values z (given .area) settings-fit
-        (record { it = x .parameter; there = x .there; fits = x .fits; inTime = h }, tt) in
+        (all-settable h f (x .status) (x .holds)) in
         carried-answered _ written set (x .carries) (y .keeps)
         (rw (x .area) (parts-view table (areaWith values set) (r .state) (y .clients) settings ∙ is .node))
         (rw (x .area, settings, y .clients) (nor (is .fit) clients-fit))
@@ -159,7 +176,7 @@ module _ (table : List ℕ) (s : State) (values before : List ℕ) (c t : ℕ) (
     answered y z h (Unreadable f since) x k = refused-answered (fault (faultAs f) since) x k
     answered y z h (Sent written) x k = sent-answered written x k
     answered y z h (Active mask written) x k = active-answered y mask written x k
-    answered i z h (Stored k size written) x y = stored-answered z h k size written x y
+    answered i z h (Stored f k size written) x y = stored-answered z h f k size written x y
 
   -- ## A whole line
 
@@ -172,8 +189,16 @@ module _ (table : List ℕ) (s : State) (values before : List ℕ) (c t : ℕ) (
   unfolding answerParts partsSet settingsOf partsOf beforeSpace afterSpace takeWhile dropWhile tail request same bytes outcome
   bad-answered xs e after r same puts = rw e (error-answered (record { action = []; specifier = []; payload = [] }) after r (class (classOf ProtocolError)) same puts)
 
+  -- a number of a parameter that is there
+  holds-low : {k : ℕ} {x : List ℕ} → Holds w k x → k < 64
+  holds-low {k} y = omega (arith, there-low (parameters w) k (y .parameter) (y .there), accepted table (given .lent .accepted) .few)
+
+  status-numbered : (f : Status) → StatusHolds w f → StatusNumbered f
+  status-numbered Stays x = tt
+  status-numbered (Busy k b) x = holds-low x
+
   module _ (xs : List ℕ) (short : length xs ≤ 1024) (a p d : Part) (h : Parted xs a p d) where
-    -- room for an error; a parameter's number and a stored length
+    -- room for an error; numbers of parameters and a stored length
     pub concludable :
         (mid stored : List ℕ) (o : Plain.Outcome) (came : Outcome) → OutcomeIs w n c t before mid values stored came o
         → Concludable mid (part xs a) (part xs p) came
@@ -191,8 +216,9 @@ module _ (table : List ℕ) (s : State) (values before : List ℕ) (c t : ℕ) (
         }
     concludable mid stored o (Sent written) x = tt
     concludable mid stored o (Active mask written) x = tt
-    concludable mid stored o (Stored k size written) x =
-        (omega (arith, there-low (parameters w) k (x .parameter) (x .there), accepted table (given .lent .accepted) .few), rw (x .long) (short-stored (x .parameter .it .datainfo) (x .text) (x .fits)))
+    concludable mid stored o (Stored f k size written) x =
+        let y = x .holds in
+        (status-numbered f (x .status), (holds-low y, rw (x .long) (short-stored (y .parameter .it .datainfo) (x .text) (y .fits))))
 
     pub line-answered :
         (asked : Request) → Asks xs a p asked → Sized (s .clients) → Settled.Sized (s .settings) → t ≤ latest

@@ -1,9 +1,10 @@
 -- Laws of requests that are carried out: replies of one record, data that is missing, and a client's active modules. Assumes nothing.
 use Prim.Native.Nat.{ℕ, _^_, _≤_, _<_}
 use native.Mathlib.Omega.{arith}
-use mathlib.Core.Path.{_≡_, refl, sym, _∙_}
+use mathlib.Core.Path.{_≡_, refl, sym, subst, _∙_}
 use mathlib.Core.Bool.{Bool, true, false}
 use mathlib.Core.List.{List, []}
+use mathlib.Core.Option.{Option, none, some}
 use lib.ListN.{length, getD, length-append, length-take}
 use Rattle.ascii.specs.Numbers.{twoBytes, latest}
 use Rattle.ascii.specs.Text.{bytes}
@@ -11,7 +12,7 @@ use Rattle.ascii.specs.Bytes.{all, isSpace}
 use Rattle.ascii.specs.Writer.{Puts}
 use Rattle.ascii.proofs.Decimal.{seconds-low, seconds-latest}
 use Rattle.message.specs.Error.{Class, Fault, Denial, class, fault}
-use Rattle.message.specs.Reply.{Reply, identification, pong, error, errorReport, replyLine}
+use Rattle.message.specs.Reply.{Reply, identification, pong, error, errorReport, identity, replyLine}
 use Rattle.message.specs.Request as R
 use Rattle.message.specs.Request.{orNull}
 use Rattle.message.specs.Parsed.{part, Within}
@@ -19,6 +20,11 @@ use Rattle.message.specs.declared.line.Part.{Part}
 use Rattle.message.proofs.Said.{data-length, pong-length, error-length, class-short, fault-short}
 use Rattle.table.specs.Table.{Table}
 use Rattle.table.specs.Layout.{tableOf}
+use Rattle.table.specs.At.{bytesOf, Inside, EditionIs}
+use Rattle.table.specs.declared.edition.Edition as E
+use Rattle.table.specs.declared.layout.Part as TablePart
+use Rattle.report.specs.Judge.{tableNumber}
+use Rattle.sound.proofs.Accepted.{GoodEdition, accepted}
 use Rattle.outbox.specs.Outbox.{final, mark, client, body, encode}
 use Rattle.outbox.specs.Written.{RoomFor}
 use Rattle.plain.specs.Node.{Node}
@@ -34,6 +40,18 @@ use Rattle.outcome.specs.Outcome.{Sends, ComesAtAny}
 use Rattle.outcome.specs.Ready.{Ready}
 use Rattle.outcome.specs.declared.Outcome.the-variants.{Sent}
 
+-- ## Where the text of an edition lies
+
+module _ (s : List ℕ) (r : E.Edition) (h : EditionIs s r) (p : TablePart.Part) (z : r ≡ E.the-variants.Given p) where
+  given-inside : Inside s p
+  given-inside = subst (EditionIs s) z h .inside
+
+  pub given-order : p .from ≤ p .to
+  given-order = given-inside .order
+
+  pub given-within : p .to ≤ length s
+  given-within = given-inside .within
+
 -- ## Room for one reply
 
 module _ (d : List ℕ) (c : ℕ) (room : 32768 ≤ length d) where
@@ -41,9 +59,16 @@ module _ (d : List ℕ) (c : ℕ) (room : 32768 ≤ length d) where
   unfolding encode mark client body twoBytes bytes
   final-room r h = record { fits = simp length-append (omega arith); short = simp length-append (omega arith) }
 
-  pub identification-room : RoomFor d 0 (final c identification)
-  unfolding replyLine bytes
-  identification-room = final-room identification (omega arith)
+  pub identification-room : RoomFor d 0 (final c (identification none))
+  unfolding replyLine identity bytes
+  identification-room = final-room (identification none) (omega arith)
+
+  pub edition-room : (s : List ℕ) → tableNumber s ≡ 0 → (r : E.Edition) → EditionIs s r → (p : TablePart.Part) → r ≡ E.the-variants.Given p
+      → RoomFor d 0 (final c (identification (some (bytesOf s p))))
+  unfolding replyLine identity
+  edition-room s e r h p z =
+      let x = subst GoodEdition (subst (EditionIs s) z h .is) (accepted s e .edition) .short in
+      final-room (identification (some (bytesOf s p))) (omega arith)
 
   pub pong-room : (t : ℕ) → t ≤ latest → (token : List ℕ) → length token ≤ 1024 → RoomFor d 0 (final c (pong token t))
   unfolding bytes
@@ -80,10 +105,21 @@ module _ {before after : List ℕ} {c written : ℕ} where
         unstored = refl;
       }
 
-  pub identified : Puts before 0 (encode (final c identification)) after written → (table : List ℕ) (t : ℕ)
-      → ComesAtAny table before c t (Sent written) after R.identify
-  unfolding outcome
-  identified x table t n values = sends (tableOf table) n t values _ identification refl x
+  -- by the edition that the code finds in the table
+  module _ (table : List ℕ) (r : E.Edition) (h : EditionIs table r) where
+    identified : (e : Option (List ℕ)) → tableOf table .edition ≡ e → Puts before 0 (encode (final c (identification e))) after written
+        → (t : ℕ) → ComesAtAny table before c t (Sent written) after R.identify
+    unfolding outcome
+    identified e i x t n values = sends (tableOf table) n t values _ (identification e) (rw i refl) x
+
+    pub identified-first : r ≡ E.the-variants.First → Puts before 0 (encode (final c (identification none))) after written → (t : ℕ)
+        → ComesAtAny table before c t (Sent written) after R.identify
+    identified-first z x = identified none (subst (EditionIs table) z h) x
+
+    pub identified-given : (p : TablePart.Part) → r ≡ E.the-variants.Given p
+        → Puts before 0 (encode (final c (identification (some (bytesOf table p))))) after written → (t : ℕ)
+        → ComesAtAny table before c t (Sent written) after R.identify
+    identified-given p z x = identified (some (bytesOf table p)) (subst (EditionIs table) z h .is) x
 
   pub ponged : (token : List ℕ) (t : ℕ) → Puts before 0 (encode (final c (pong token t))) after written → (table : List ℕ)
       → ComesAtAny table before c t (Sent written) after (R.ping token)

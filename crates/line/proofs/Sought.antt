@@ -1,16 +1,20 @@
 -- Laws of what a line's names find, and of the errors that come first. Assumes nothing.
 use Prim.Native.Nat.{ℕ}
 use mathlib.Core.Path.{_≡_, refl, sym, subst, _∙_}
-use mathlib.Core.Bool.{Bool, true, false≢true}
+use mathlib.Core.Bool.{Bool, true, false, not, false≢true}
 use mathlib.Core.List.{List}
 use mathlib.Core.Option.{Option, none, some}
 use lib.Dec.{eqb}
+use borrow.Author.Tests.{not-true, not-false}
 use lib.ListN.{length}
 use Rattle.ascii.specs.Bytes.{isSome}
 use Rattle.ascii.specs.Names.{isName}
 use Rattle.table.specs.Table.{Parameter, Command, Table}
 use Rattle.table.specs.Layout.{tableOf}
 use Rattle.table.specs.Search.{Placed, findModule, findParameter, findCommand}
+use Rattle.table.specs.At.{EditionIs}
+use Rattle.table.specs.declared.edition.Edition as E
+use Rattle.table.specs.declared.layout.Part.{Part}
 use Rattle.table.specs.declared.layout.ParameterAt.{ParameterAt}
 use Rattle.table.specs.declared.layout.CommandAt.{CommandAt}
 use Rattle.report.specs.Judge.{tableNumber}
@@ -27,7 +31,7 @@ use Rattle.message.specs.declared.line.Verb.the-variants as Verb
 use Rattle.message.specs.declared.line.Switch.{Switch}
 use Rattle.message.specs.declared.line.Switch.the-variants.{On, Off}
 use Rattle.plain.specs.Node.{Node}
-use Rattle.plain.specs.Answer.{Outcome, refused, found, activates, deactivates, inScope, reads, changes, does, atParameter, atCommand, outcome}
+use Rattle.plain.specs.Answer.{Outcome, refused, found, activates, deactivates, inScope, reads, changes, checks, does, atParameter, atCommand, outcome}
 use Rattle.sound.proofs.Lists.{each-at, there-low}
 use Rattle.sound.proofs.Accepted.{GoodModule, accepted}
 use Rattle.state.specs.declared.State.{State}
@@ -36,7 +40,7 @@ use Rattle.outcome.specs.Outcome.{Refuses, OutcomeIs, ComesTo, Comes, OfParamet
 use Rattle.outcome.specs.declared.Outcome as Code
 use Rattle.switch.specs.Scoped.{Scoped}
 use Rattle.switch.proofs.Switches.{few}
-use Rattle.line.specs.Asked.{missingOf}
+use Rattle.line.specs.Asked.{missingOf, isBuilt}
 
 -- ## Names
 
@@ -71,37 +75,54 @@ module _ (s m a : List ℕ) where
   Lacks Verb.Read = findParameter (tableOf s) m a ≡ none
   Lacks Verb.Change = findParameter (tableOf s) m a ≡ none
   Lacks Verb.Execute = findCommand (tableOf s) m a ≡ none
+  Lacks Verb.Check = findParameter (tableOf s) m a ≡ none
 
   -- the errors, in their order
   module _ (v : Verb) (xs : List ℕ) (n : Node) (c t : ℕ) (before values : List ℕ) where
     abbrev RefusedWith : Class → Type 0
     RefusedWith e = Refuses (tableOf s) n c t before before values values (outcome (tableOf s) n c t (verbRequest v xs m a)) (refused (Error.class (classOf e)))
 
-    pub homeless : findModule (tableOf s) m ≡ none → RefusedWith K.NoSuchModule
+    -- first of all, that the edition doesn't have the verb, by the answer r
+    pub unbuilt : (r : Bool) → r ≡ isBuilt (tableOf s) v → not r ≡ true → RefusedWith K.ProtocolError
     unfolding outcome
-    homeless z = record { is = go v; quiet = refl; area = refl }
+    unbuilt r e z = record { is = go v (sym e ∙ not-true r z); quiet = refl; area = refl }
       where
-        go : (v : Verb) → outcome (tableOf s) n c t (verbRequest v xs m a) ≡ refused (Error.class Error.NoSuchModule)
-        go Verb.Read = none-found Error.NoSuchModule (findModule (tableOf s) m) _ z
-        go Verb.Change = none-found Error.NoSuchModule (findModule (tableOf s) m) _ z
-        go Verb.Execute = none-found Error.NoSuchModule (findModule (tableOf s) m) _ z
+        go : (v : Verb) → isBuilt (tableOf s) v ≡ false → outcome (tableOf s) n c t (verbRequest v xs m a) ≡ refused (Error.class Error.ProtocolError)
+        go Verb.Read b = absurd (false≢true (sym b))
+        go Verb.Change b = absurd (false≢true (sym b))
+        go Verb.Execute b = absurd (false≢true (sym b))
+        go Verb.Check b = rw b
 
-    pub lacks : isSome (findModule (tableOf s) m) ≡ true → Lacks v → RefusedWith (missingOf v)
-    unfolding outcome
-    lacks h z = record { is = go v z; quiet = refl; area = refl }
-      where
-        go : (v : Verb) → Lacks v → outcome (tableOf s) n c t (verbRequest v xs m a) ≡ refused (Error.class (classOf (missingOf v)))
-        go Verb.Read z = lacking Error.NoSuchParameter (findParameter (tableOf s) m a) (reads (tableOf s) n c t) h z
-        go Verb.Change z = lacking Error.NoSuchParameter (findParameter (tableOf s) m a) (changes (tableOf s) n c t xs) h z
-        go Verb.Execute z = lacking Error.NoSuchCommand (findCommand (tableOf s) m a) (does (tableOf s) n c t xs) h z
+    module _ (b : isBuilt (tableOf s) v ≡ true) where
+      pub homeless : findModule (tableOf s) m ≡ none → RefusedWith K.NoSuchModule
+      unfolding outcome
+      homeless z = record { is = go v b; quiet = refl; area = refl }
+        where
+          go : (v : Verb) → isBuilt (tableOf s) v ≡ true → outcome (tableOf s) n c t (verbRequest v xs m a) ≡ refused (Error.class Error.NoSuchModule)
+          go Verb.Read b = none-found Error.NoSuchModule (findModule (tableOf s) m) _ z
+          go Verb.Change b = none-found Error.NoSuchModule (findModule (tableOf s) m) _ z
+          go Verb.Execute b = none-found Error.NoSuchModule (findModule (tableOf s) m) _ z
+          go Verb.Check b = rw b (none-found Error.NoSuchModule (findModule (tableOf s) m) _ z)
 
-    pub nothing : NothingLocated s m a → RefusedWith (missingOf v)
-    nothing l = lacks (l .home) (go v)
-      where
-        go : (v : Verb) → Lacks v
-        go Verb.Read = l .parameter
-        go Verb.Change = l .parameter
-        go Verb.Execute = l .command
+      pub lacks : isSome (findModule (tableOf s) m) ≡ true → Lacks v → RefusedWith (missingOf v)
+      unfolding outcome
+      lacks h z = record { is = go v b z; quiet = refl; area = refl }
+        where
+          go : (v : Verb) → isBuilt (tableOf s) v ≡ true → Lacks v
+              → outcome (tableOf s) n c t (verbRequest v xs m a) ≡ refused (Error.class (classOf (missingOf v)))
+          go Verb.Read b z = lacking Error.NoSuchParameter (findParameter (tableOf s) m a) (reads (tableOf s) n c t) h z
+          go Verb.Change b z = lacking Error.NoSuchParameter (findParameter (tableOf s) m a) (changes (tableOf s) n c t xs) h z
+          go Verb.Execute b z = lacking Error.NoSuchCommand (findCommand (tableOf s) m a) (does (tableOf s) n c t xs) h z
+          go Verb.Check b z = rw b (lacking Error.NoSuchParameter (findParameter (tableOf s) m a) (checks (tableOf s) n c t xs) h z)
+
+      pub nothing : NothingLocated s m a → RefusedWith (missingOf v)
+      nothing l = lacks (l .home) (go v)
+        where
+          go : (v : Verb) → Lacks v
+          go Verb.Read = l .parameter
+          go Verb.Change = l .parameter
+          go Verb.Execute = l .command
+          go Verb.Check = l .parameter
 
   -- what is located is what the request is about
   module _ (k h : ℕ) where
@@ -120,6 +141,22 @@ module _ (s m a : List ℕ) where
         subst (λ (x : Outcome). OutcomeIs (tableOf s) n c t before after values values o x)
         (sym (there Error.NoSuchCommand (findCommand (tableOf s) m a) (f (tableOf s) n c t) (l .home) _ (l .command .is)))
         (y n values _ (l .command .is))
+
+-- ## The edition
+
+module _ (s : List ℕ) (r : E.Edition) (h : EditionIs s r) where
+  pub edited : (p : Part) → r ≡ E.the-variants.Given p → true ≡ isSome (tableOf s .edition)
+  edited p z = rw (subst (EditionIs s) z h .is)
+
+  pub unedited : r ≡ E.the-variants.First → false ≡ isSome (tableOf s .edition)
+  unedited z = rw (subst (EditionIs s) z h)
+
+module _ (w : Table) (v : Verb) where
+  pub built-check : (r : Bool) → v ≡ Verb.Check → r ≡ isSome (w .edition) → r ≡ isBuilt w v
+  built-check r z e = rw z e
+
+  pub built : (r : Bool) → r ≡ isBuilt w v → not r ≡ false → isBuilt w v ≡ true
+  built r e z = sym e ∙ not-false r z
 
 -- ## Modules
 

@@ -1,7 +1,10 @@
 -- What the code that carries out a request is given of its line. Assumes nothing.
 use Prim.Native.Nat.{ℕ, _≤_}
+use mathlib.Core.Bool.{Bool, true}
 use mathlib.Core.List.{List}
 use lib.ListN.{length}
+use Rattle.ascii.specs.Bytes.{isSome}
+use Rattle.table.specs.Table.{Table}
 use Rattle.message.specs.Parsed.{Within, Inside}
 use Rattle.message.specs.declared.line.Part.{Part}
 use Rattle.message.specs.declared.line.Request.{Request}
@@ -22,3 +25,11 @@ abbrev pub missingOf : Verb → Class
 missingOf Verb.Read = Class.NoSuchParameter
 missingOf Verb.Change = Class.NoSuchParameter
 missingOf Verb.Execute = Class.NoSuchCommand
+missingOf Verb.Check = Class.NoSuchParameter
+
+-- whether the table's edition has a verb
+abbrev pub isBuilt : Table → Verb → Bool
+isBuilt w Verb.Read = true
+isBuilt w Verb.Change = true
+isBuilt w Verb.Execute = true
+isBuilt w Verb.Check = isSome (w .edition)

@@ -10,8 +10,11 @@ use Rattle.message.specs.Reply.{error}
 use Rattle.message.specs.Said.{classOf, faultAs}
 use Rattle.outbox.specs.Outbox.{final, encode}
 use Rattle.state.specs.declared.State.{State}
-use Rattle.state.specs.View.{withLength}
+use Rattle.state.specs.View.{withLength, settingsWith}
 use Rattle.state.specs.Changed.{withActive}
+use Rattle.outcome.specs.Outcome.{statusSettings}
+use Rattle.outcome.specs.declared.Status.{Status}
+use Rattle.outcome.specs.declared.Status.the-variants.{Stays, Busy}
 use Rattle.outcome.specs.declared.Outcome.{Outcome}
 use Rattle.outcome.specs.declared.Outcome.the-variants.{Refused, Unreadable, Sent, Active, Stored}
 use Rattle.outcome.specs.declared.Answered.{Answered}
@@ -22,13 +25,18 @@ pub record Deniable (out action specifier : List ℕ) : Type 0 where
   pub action-short : length action ≤ 1024
   pub specifier-short : length specifier ≤ 1024
 
--- what an outcome asks for: an error, that it can be answered; a stored value, a parameter's number and a length that it may have
+-- the number of a status is that of a parameter that a table may have
+abbrev pub StatusNumbered : Status → Type 0
+StatusNumbered Stays = Unit {0}
+StatusNumbered (Busy k h) = k < 64
+
+-- what an outcome asks for: an error, that it can be answered; a stored value, numbers of parameters and a length that it may have
 abbrev pub Concludable : List ℕ → List ℕ → List ℕ → Outcome → Type 0
 Concludable out action specifier (Refused e) = Deniable out action specifier
 Concludable out action specifier (Unreadable f since) = Deniable out action specifier
 Concludable out action specifier (Sent written) = Unit
 Concludable out action specifier (Active mask written) = Unit
-Concludable out action specifier (Stored k size written) = (k < 64) × (size ≤ 256)
+Concludable out action specifier (Stored first k size written) = StatusNumbered first × ((k < 64) × (size ≤ 256))
 
 -- Handed the state s, for client c at the time t: the outbox held `before` and holds `after`, and the answer is r.
 module _ (before after : List ℕ) (s : State) (c t : ℕ) (r : Answered) where
@@ -53,15 +61,15 @@ module _ (before after : List ℕ) (s : State) (c t : ℕ) (r : Answered) where
     pub settings : r .state .settings ≡ s .settings
     pub clients : r .state .clients ≡ withActive (s .clients) c mask
 
-  -- parameter k has a stored value of so many bytes, from this time on
-  pub record Sets (k size written : ℕ) : Type 0 where
+  -- after a status parameter k has a stored value of so many bytes, from this time on
+  pub record Sets (first : Status) (k size written : ℕ) : Type 0 where
     pub keeps : Keeps written
     pub clients : r .state .clients ≡ s .clients
-    pub settings : r .state .settings ≡ withLength (s .settings) k size t
+    pub settings : r .state .settings ≡ withLength (settingsWith (s .settings) (statusSettings first t)) k size t
 
   abbrev pub Concludes : List ℕ → List ℕ → Outcome → Type 0
   Concludes action specifier (Refused e) = Denies action specifier (class (classOf e))
   Concludes action specifier (Unreadable f since) = Denies action specifier (fault (faultAs f) since)
   Concludes action specifier (Sent written) = Passes written
   Concludes action specifier (Active mask written) = Switches mask written
-  Concludes action specifier (Stored k size written) = Sets k size written
+  Concludes action specifier (Stored first k size written) = Sets first k size written

@@ -2,12 +2,16 @@
 ghost use Prim.Native.Nat.{_<_};
 ghost use mathlib.Core.Path.{_≡_};
 ghost use Rattle.message.specs.Parsed.{part, Within};
-ghost use Rattle.line.specs.Concluded.{Concludable, Concludes};
+ghost use Rattle.state.specs.View.{settingsWith};
+ghost use Rattle.outcome.specs.Outcome.{statusSettings};
+ghost use Rattle.line.specs.Concluded.{StatusNumbered, Concludable, Concludes};
 use message::line::Part;
 use message::say::Denial;
 use outbox::write::put_final_error;
 use outcome::Answered;
 use outcome::Outcome;
+use outcome::Status;
+use state::Settings;
 use state::State;
 use state::client::with_active;
 use state::setting::stored;
@@ -20,6 +24,20 @@ pub fn bytes_of(line: &[u8], p: Part) -> &[u8]
     let from = p.from;
     let to = p.to;
     &line[from..to]
+}
+
+// The length of the text `[300,"target changed"]`.
+const BUSY_LENGTH: usize = 22;
+
+// The settings with those of a status that a change sets first (M-100).
+fn with_status(settings: Settings, status: Status, time: u64) -> Settings
+    requires { ⌜ StatusNumbered status ⌝ }
+    ensures { λ r. ⌜ r ≡ settingsWith settings (statusSettings status time) ⌝ }
+{
+    match status {
+        Status::Stays => settings,
+        Status::Busy(k, _) => stored(settings, k, BUSY_LENGTH, time),
+    }
 }
 
 // "Errors: `error_ACTION SPECIFIER [..]`, action and specifier as sent."; what is carried out has been answered
@@ -59,8 +77,9 @@ pub fn conclude(
                 written,
             }
         }
-        Outcome::Stored(k, size, written) => {
-            let next = stored(settings, k, size, time);
+        Outcome::Stored(status, k, size, written) => {
+            let first = with_status(settings, status, time);
+            let next = stored(first, k, size, time);
             Answered {
                 state: State {
                     clients,

@@ -1,13 +1,17 @@
-// `read`, `change` and `do`: the accessible of two names is located, and what the verb does with it is carried out.
+// `read`, `change`, `do` and `check`: the accessible of two names is located, and what the verb does with it is carried out.
 ghost use Prim.Native.Nat.{_≤_};
 ghost use mathlib.Core.Path.{_≡_};
+ghost use mathlib.Core.Bool.{true};
+ghost use Rattle.ascii.specs.Bytes.{isSome};
 ghost use Rattle.ascii.specs.Numbers.{latest};
 ghost use Rattle.search.specs.Found.{ParameterLocated, CommandLocated};
 ghost use Rattle.message.specs.Parsed.{verbRequest};
 ghost use Rattle.outcome.specs.Ready.{Lent, Ready};
 ghost use Rattle.outcome.specs.Outcome.{Comes, ComesAtAny};
-ghost use Rattle.line.specs.Asked.{missingOf};
+ghost use Rattle.table.specs.Layout.{Readable, tableOf};
+ghost use Rattle.line.specs.Asked.{missingOf, isBuilt};
 use access::change;
+use access::check;
 use access::execute;
 use access::read;
 use message::line::Verb;
@@ -16,6 +20,8 @@ use outcome::Outcome;
 use search::locate::Located;
 use search::locate::locate;
 use state::State;
+use table::edition::Edition;
+use table::edition::edition_of;
 use table::layout::CommandAt;
 use table::layout::ParameterAt;
 
@@ -27,6 +33,31 @@ fn missing(verb: Verb) -> Class
         Verb::Read => Class::NoSuchParameter,
         Verb::Change => Class::NoSuchParameter,
         Verb::Execute => Class::NoSuchCommand,
+        Verb::Check => Class::NoSuchParameter,
+    }
+}
+
+// Whether a table has an `ED` record.
+fn is_edited(table: &[u8]) -> bool
+    requires { ⌜ Readable (now table) ⌝ }
+    ensures { λ r. ⌜ r ≡ isSome (tableOf (now (table .entry)) .edition) ⌝ }
+{
+    match edition_of(table) {
+        Edition::Given(_) => true,
+        Edition::First => false,
+    }
+}
+
+// Whether the table's edition has a verb: `check` came with the next one.
+fn is_built(table: &[u8], verb: Verb) -> bool
+    requires { ⌜ Readable (now table) ⌝ }
+    ensures { λ r. ⌜ r ≡ isBuilt (tableOf (now (table .entry))) verb ⌝ }
+{
+    match verb {
+        Verb::Check => is_edited(table),
+        Verb::Read => true,
+        Verb::Change => true,
+        Verb::Execute => true,
     }
 }
 
@@ -46,7 +77,8 @@ fn at_parameter(
     name: &[u8],
     text: &[u8],
 ) -> Outcome
-    requires { ⌜ Ready (now table) state (now values) (now out) client × ((time ≤ latest) × ParameterLocated (now table) (now «module») (now name) k home q) ⌝ }
+    requires { ⌜ Ready (now table) state (now values) (now out) client × ((time ≤ latest) × (ParameterLocated (now table) (now «module») (now name) k home q
+        × (isBuilt (tableOf (now table)) verb ≡ true))) ⌝ }
     ensures { λ r. ⌜ Comes (now (table .entry)) state (now (values .entry)) (now (out .entry)) client time r (now (values .exit)) (now (out .exit))
         (verbRequest verb (now (text .entry)) (now («module» .entry)) (now (name .entry))) ⌝ }
 {
@@ -67,6 +99,7 @@ fn at_parameter(
             text,
         ),
         Verb::Execute => Outcome::Refused(Class::NoSuchCommand),
+        Verb::Check => check(table, out, client, time, k, home, q, module, name, text),
     }
 }
 
@@ -84,7 +117,8 @@ fn at_command(
     name: &[u8],
     text: &[u8],
 ) -> Outcome
-    requires { ⌜ Lent (now table) (now out) client × ((time ≤ latest) × CommandLocated (now table) (now «module») (now name) k home q) ⌝ }
+    requires { ⌜ Lent (now table) (now out) client × ((time ≤ latest) × (CommandLocated (now table) (now «module») (now name) k home q
+        × (isBuilt (tableOf (now table)) verb ≡ true))) ⌝ }
     ensures { λ r. ⌜ ComesAtAny (now (table .entry)) (now (out .entry)) client time r (now (out .exit))
         (verbRequest verb (now (text .entry)) (now («module» .entry)) (now (name .entry))) ⌝ }
 {
@@ -92,11 +126,12 @@ fn at_command(
         Verb::Execute => execute(table, out, client, time, k, home, q, module, name, text),
         Verb::Read => Outcome::Refused(Class::NoSuchParameter),
         Verb::Change => Outcome::Refused(Class::NoSuchParameter),
+        Verb::Check => Outcome::Refused(Class::NoSuchParameter),
     }
 }
 
-// "Order: .., NoSuchModule, NoSuchParameter or NoSuchCommand, .."
-pub fn named(
+// "Order: .., NoSuchModule, NoSuchParameter or NoSuchCommand, ..", of a verb that the table's edition has
+fn located(
     table: &[u8],
     values: &mut [u8],
     out: &mut [u8],
@@ -108,7 +143,7 @@ pub fn named(
     name: &[u8],
     text: &[u8],
 ) -> Outcome
-    requires { ⌜ Ready (now table) state (now values) (now out) client × (time ≤ latest) ⌝ }
+    requires { ⌜ Ready (now table) state (now values) (now out) client × ((time ≤ latest) × (isBuilt (tableOf (now table)) verb ≡ true)) ⌝ }
     ensures { λ r. ⌜ Comes (now (table .entry)) state (now (values .entry)) (now (out .entry)) client time r (now (values .exit)) (now (out .exit))
         (verbRequest verb (now (text .entry)) (now («module» .entry)) (now (name .entry))) ⌝ }
 {
@@ -134,4 +169,38 @@ pub fn named(
             at_command(table, out, client, time, verb, k, h, q, module, name, text)
         }
     }
+}
+
+// "Without the record both stay as in document 01.": a verb that the edition doesn't have is "Anything else: ProtocolError."
+pub fn named(
+    table: &[u8],
+    values: &mut [u8],
+    out: &mut [u8],
+    state: State,
+    client: u8,
+    time: u64,
+    verb: Verb,
+    module: &[u8],
+    name: &[u8],
+    text: &[u8],
+) -> Outcome
+    requires { ⌜ Ready (now table) state (now values) (now out) client × (time ≤ latest) ⌝ }
+    ensures { λ r. ⌜ Comes (now (table .entry)) state (now (values .entry)) (now (out .entry)) client time r (now (values .exit)) (now (out .exit))
+        (verbRequest verb (now (text .entry)) (now («module» .entry)) (now (name .entry))) ⌝ }
+{
+    if !is_built(table, verb) {
+        return Outcome::Refused(Class::ProtocolError);
+    }
+    located(
+        table,
+        values,
+        out,
+        state,
+        client,
+        time,
+        verb,
+        module,
+        name,
+        text,
+    )
 }

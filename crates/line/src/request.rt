@@ -8,7 +8,7 @@ ghost use Rattle.ascii.specs.Text.{bytes};
 ghost use Rattle.message.specs.Request as R;
 ghost use Rattle.message.specs.Request.{orNull};
 ghost use Rattle.message.specs.Parsed.{part, Within, meaning};
-ghost use Rattle.outcome.specs.Ready.{Ready};
+ghost use Rattle.outcome.specs.Ready.{Lent, Ready};
 ghost use Rattle.outcome.specs.Outcome.{Comes, ComesAtAny};
 ghost use Rattle.line.specs.Asked.{Carriable};
 use crate::conclude::bytes_of;
@@ -20,16 +20,27 @@ use message::line::Part;
 use message::line::Request;
 use message::line::is_null;
 use message::say::Class;
+use outbox::write::put_final_edition;
 use outbox::write::put_final_identification;
 use outbox::write::put_final_pong;
 use outcome::Outcome;
 use state::State;
+use table::edition::Edition;
+use table::edition::edition_of;
 
-fn identify(out: &mut [u8], client: u8) -> Outcome
-    requires { ⌜ 32768 ≤ length (now out) ⌝ }
-    ensures { λ r. ⌜ ((table : List ℕ) (t : ℕ) → ComesAtAny table (now (out .entry)) client t r (now (out .exit)) R.identify) ⌝ }
+// The identification of the first edition, or the one that the table gives.
+fn identify(table: &[u8], out: &mut [u8], client: u8) -> Outcome
+    requires { ⌜ Lent (now table) (now out) client ⌝ }
+    ensures { λ r. ⌜ ((t : ℕ) → ComesAtAny (now (table .entry)) (now (out .entry)) client t r (now (out .exit)) R.identify) ⌝ }
 {
-    Outcome::Sent(put_final_identification(out, 0, client))
+    match edition_of(table) {
+        Edition::First => Outcome::Sent(put_final_identification(out, 0, client)),
+        Edition::Given(text) => {
+            let from = text.from;
+            let to = text.to;
+            Outcome::Sent(put_final_edition(out, 0, client, &table[from..to]))
+        }
+    }
 }
 
 // "`pong T [null,{"t":now}]`; no token leaves two spaces.": the token is the specifier
@@ -69,7 +80,7 @@ pub fn outcome(
         (meaning (now (line .entry)) (part (now (line .entry)) specifier) (part (now (line .entry)) payload) asked) ⌝ }
 {
     match asked {
-        Request::Identify => identify(out, client),
+        Request::Identify => identify(table, out, client),
         Request::Describe => describe(table, out, client),
         Request::Ping => ping(out, client, time, bytes_of(line, specifier)),
         Request::All(switch) => switch_all(table, values, out, state, client, switch),

@@ -93,9 +93,16 @@ module _ (xs : List ℕ) {t : Bool} (e : t ≡ same xs (bytes "*IDN?")) where
                 unfolding actionOf
                 is-do h = simp (sym e ∙ n, sym e2 ∙ n2, sym e3 ∙ n3, sym e4 ∙ n4, sym e5 ∙ n5, sym e6 ∙ n6, sym e7 ∙ n7, sym e8 ∙ h)
 
-                pub is-unknown : t8 ≡ false → Unknown ≡ actionOf xs
-                unfolding actionOf
-                is-unknown h = simp (sym e ∙ n, sym e2 ∙ n2, sym e3 ∙ n3, sym e4 ∙ n4, sym e5 ∙ n5, sym e6 ∙ n6, sym e7 ∙ n7, sym e8 ∙ h)
+                module _ (n8 : t8 ≡ false) {t9 : Bool} (e9 : t9 ≡ same xs (bytes "check")) where
+                  pub is-check : t9 ≡ true → Named Verb.Check ≡ actionOf xs
+                  unfolding actionOf
+                  is-check h =
+                      simp (sym e ∙ n, sym e2 ∙ n2, sym e3 ∙ n3, sym e4 ∙ n4, sym e5 ∙ n5, sym e6 ∙ n6, sym e7 ∙ n7, sym e8 ∙ n8, sym e9 ∙ h)
+
+                  pub is-unknown : t9 ≡ false → Unknown ≡ actionOf xs
+                  unfolding actionOf
+                  is-unknown h =
+                      simp (sym e ∙ n, sym e2 ∙ n2, sym e3 ∙ n3, sym e4 ∙ n4, sym e5 ∙ n5, sym e6 ∙ n6, sym e7 ∙ n7, sym e8 ∙ n8, sym e9 ∙ h)
 
 -- what a word asks for
 pub asked : Action → Parts → R.Request

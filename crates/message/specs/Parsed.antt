@@ -106,7 +106,8 @@ actionOf xs =
     (cond (same xs (bytes "read")) (Named Verb.Read)
     (cond (same xs (bytes "change")) (Named Verb.Change)
     (cond (same xs (bytes "do")) (Named Verb.Execute)
-    Unknown)))))))
+    (cond (same xs (bytes "check")) (Named Verb.Check)
+    Unknown))))))))
 
 -- the requests on modules, and on accessibles with the data x
 abbrev pub switchRequest : Switch → Option (List ℕ) → R.Request
@@ -117,6 +118,7 @@ abbrev pub verbRequest : Verb → List ℕ → List ℕ → List ℕ → R.Reque
 verbRequest Verb.Read x m a = R.read m a
 verbRequest Verb.Change x m a = R.change m a x
 verbRequest Verb.Execute x m a = R.execute m a x
+verbRequest Verb.Check x m a = R.check m a x
 
 -- what the code's answer stands for, on a line xs with the specifier s and the data x
 abbrev pub meaning : List ℕ → List ℕ → List ℕ → Request → R.Request

@@ -45,6 +45,7 @@ pub enum Verb {
     Read,
     Change,
     Execute,
+    Check,
 }
 
 // The words that an action may be.
@@ -184,6 +185,9 @@ fn action_of(word: &[u8]) -> Action
     }
     if same(word, b"do") {
         return Action::Named(Verb::Execute);
+    }
+    if same(word, b"check") {
+        return Action::Named(Verb::Check);
     }
     Action::Unknown
 }

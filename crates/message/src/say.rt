@@ -234,9 +234,10 @@ fn put_error_report(out: &mut [u8], at: usize, denial: Denial) -> usize
     }
 }
 
+// The identification of the first edition.
 pub fn put_identification(out: &mut [u8], at: usize) -> usize
-    requires { ⌜ at + length (replyLine identification) ≤ length (now out) ⌝ }
-    ensures { λ r. ⌜ Puts (now (out .entry)) at (replyLine identification) (now (out .exit)) r ⌝ }
+    requires { ⌜ at + length (replyLine (identification none)) ≤ length (now out) ⌝ }
+    ensures { λ r. ⌜ Puts (now (out .entry)) at (replyLine (identification none)) (now (out .exit)) r ⌝ }
 {
     put(out, at, b"ISSE&SINE2020,SECoP,V2019-09-16,v1.0")
 }

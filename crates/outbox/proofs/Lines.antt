@@ -12,9 +12,9 @@ use Rattle.ascii.specs.Names.{isName, isNameByte}
 use Rattle.ascii.specs.Numbers.{seconds}
 use Rattle.ascii.proofs.Lists.{both, Lacks, lacks, before, beyond, before-at, beyond-at}
 use Rattle.message.specs.Error.{Class, ProtocolError, NoSuchModule, NoSuchParameter, NoSuchCommand, ReadOnly, BadJSON, WrongType, RangeError, className, classText, Fault, HardwareError, CommunicationFailed, ReadFailed, OutOfRange, faultName, Denial, class, fault}
-use Rattle.message.specs.Reply.{Held, valued, failed, Report, Reply, identification, describing, pong, active, inactive, reply, changed, done, error, dataReport, faultReport, heldReport, reportText, classReport, errorReport, optionally, replyLine, updateWord, updateLine}
+use Rattle.message.specs.Reply.{Held, valued, failed, Report, Reply, identification, describing, pong, active, inactive, reply, changed, done, checked, error, dataReport, faultReport, heldReport, reportText, classReport, errorReport, optionally, identity, replyLine, updateWord, updateLine}
 use Rattle.message.specs.Said.{faultFront}
-use Rattle.outbox.specs.Theorems.{Word, NamedReport, IsValue, ValueReport, WellFormedReply}
+use Rattle.outbox.specs.Theorems.{Word, NamedReport, IsValue, ValueReport, Edition, WellFormedReply}
 use Rattle.outbox.proofs.Lists.{beforeLast, beyondLast, before-last-eq, beyond-last-eq, without, without-eq}
 use Rattle.outbox.proofs.Numbers.{numberFrom, seconds-read, seconds-lacks}
 
@@ -199,7 +199,8 @@ error-read a s d h k = simp (append-assoc, before-at, beyond-at, denial-read)
 
 pub readReply : List ℕ → Reply
 readReply xs =
-    cond (begins (bytes "ISSE") xs) identification
+    cond (begins (bytes "ISSE,SECoP,") xs) (identification (some xs))
+    (cond (begins (bytes "ISSE") xs) (identification none)
     (cond (begins (bytes "describing") xs) (describing (drop 13 xs))
     (cond (begins (bytes "pong") xs) (readPong (drop 5 xs))
     (cond (begins (bytes "active") xs) (active (readScope (drop 6 xs)))
@@ -207,11 +208,18 @@ readReply xs =
     (cond (begins (bytes "reply") xs) (reply (readReport readValued (drop 6 xs)))
     (cond (begins (bytes "changed") xs) (changed (readReport readValued (drop 8 xs)))
     (cond (begins (bytes "done") xs) (done (readReport readValued (drop 5 xs)))
-    (readError (drop 6 xs)))))))))
+    (cond (begins (bytes "checked") xs) (checked (readReport readValued (drop 8 xs)))
+    (readError (drop 6 xs)))))))))))
+
+-- what a table gives begins as no other line does
+given-read : (x : List ℕ) (r : Reply) → Edition (some x) → cond (begins (bytes "ISSE,SECoP,") x) (identification (some x)) r ≡ identification (some x)
+unfolding begins
+given-read x r h = rw h
 
 pub reply-read : (r : Reply) → WellFormedReply r → readReply (replyLine r) ≡ r
-unfolding readReply readScope begins after replyLine optionally bytes
-reply-read identification h = refl
+unfolding readReply readScope begins after replyLine identity optionally bytes
+reply-read (identification none) h = refl
+reply-read (identification (some x)) h = given-read x _ h
 reply-read (describing r) h = refl
 reply-read (pong token now) h = pong-read token now h
 reply-read (active none) h = refl
@@ -221,4 +229,5 @@ reply-read (inactive (some m)) h = refl
 reply-read (reply r) h = ap reply (report-read r h)
 reply-read (changed r) h = ap changed (report-read r h)
 reply-read (done r) h = ap done (report-read r h)
+reply-read (checked r) h = ap checked (report-read r h)
 reply-read (error a s c) h = error-read a s c (h .0) (h .1)

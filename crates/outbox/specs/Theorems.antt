@@ -4,9 +4,10 @@ use mathlib.Core.Bool.{true, not}
 use mathlib.Core.List.{List, [], _∷_}
 use mathlib.Core.Option.{Option, none, some}
 use mathlib.Core.Path.{_≡_}
-use Rattle.ascii.specs.Bytes.{all, isSpace}
+use Rattle.ascii.specs.Text.{bytes}
+use Rattle.ascii.specs.Bytes.{isSome, after, all, isSpace}
 use Rattle.ascii.specs.Names.{isName}
-use Rattle.message.specs.Reply.{Held, valued, failed, Report, Reply, identification, describing, pong, active, inactive, reply, changed, done, error}
+use Rattle.message.specs.Reply.{Held, valued, failed, Report, Reply, identification, describing, pong, active, inactive, reply, changed, done, checked, error}
 use Rattle.outbox.specs.Outbox.{Record, final, update, orderChange, orderCommand, encodeAll}
 
 -- a word of a line: no space in it
@@ -29,9 +30,15 @@ IsValue (failed f) = ⊥
 abbrev pub ValueReport : Report → Type 0
 ValueReport r = NamedReport r × IsValue (r .held)
 
--- records as a node writes them: names are names, what was sent as a word is a word, and a reply with a report tells a value
+-- an identification that a table gives: no other line begins so
+abbrev pub Edition : Option (List ℕ) → Type 0
+Edition none = Unit {0}
+Edition (some x) = isSome (after (bytes "ISSE,SECoP,") x) ≡ true
+
+-- records as a node writes them: names are names, what was sent as a word is a word, a reply with a report tells a value, and an identification
+-- that a table gives begins as its edition has to
 abbrev pub WellFormedReply : Reply → Type 0
-WellFormedReply identification = Unit {0}
+WellFormedReply (identification e) = Edition e
 WellFormedReply (describing r) = Unit {0}
 WellFormedReply (pong token now) = Word token
 WellFormedReply (active m) = Named m
@@ -39,6 +46,7 @@ WellFormedReply (inactive m) = Named m
 WellFormedReply (reply r) = ValueReport r
 WellFormedReply (changed r) = ValueReport r
 WellFormedReply (done r) = ValueReport r
+WellFormedReply (checked r) = ValueReport r
 WellFormedReply (error a s d) = Word a × Word s
 
 abbrev pub WellFormed : Record → Type 0

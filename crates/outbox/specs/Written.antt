@@ -5,7 +5,7 @@ use mathlib.Core.Option.{Option}
 use lib.ListN.{length}
 use Rattle.ascii.specs.Text.{bytes}
 use Rattle.ascii.specs.Numbers.{twoBytes}
-use Rattle.message.specs.Reply.{Report, Reply, active, inactive, reply, changed, done}
+use Rattle.message.specs.Reply.{Report, Reply, active, inactive, reply, changed, done, checked}
 use Rattle.outbox.specs.Outbox.{Record, body, encode}
 use Rattle.outbox.specs.declared.write.Told.{Told}
 use Rattle.outbox.specs.declared.write.Told.the-variants as Told
@@ -39,6 +39,7 @@ abbrev pub toldReply : Told → Report → Reply
 toldReply Told.Reply = reply
 toldReply Told.Changed = changed
 toldReply Told.Done = done
+toldReply Told.Checked = checked
 
 abbrev pub switchedReply : Switched → Option (List ℕ) → Reply
 switchedReply Active = active

@@ -30,6 +30,7 @@ pub enum Told {
     Reply,
     Changed,
     Done,
+    Checked,
 }
 
 // The final replies to `activate` and `deactivate`.
@@ -49,13 +50,24 @@ fn put_header(out: &mut [u8], at: usize, mark: &[u8], client: u8, size: usize) -
     put_byte(out, fourth, (size % 256) as u8)
 }
 
-// The line has 36 bytes, and its line feed is the 37th.
+// The identification of the first edition. The line has 36 bytes, and its line feed is the 37th.
 pub fn put_final_identification(out: &mut [u8], at: usize, client: u8) -> usize
-    requires { ⌜ RoomFor (now out) at (final client identification) ⌝ }
-    ensures { λ r. ⌜ Puts (now (out .entry)) at (encode (final client identification)) (now (out .exit)) r ⌝ }
+    requires { ⌜ RoomFor (now out) at (final client (identification none)) ⌝ }
+    ensures { λ r. ⌜ Puts (now (out .entry)) at (encode (final client (identification none))) (now (out .exit)) r ⌝ }
 {
     let line = put_header(out, at, b"RP", client, 37);
     let end = put_identification(out, line);
+    put_byte(out, end, 10)
+}
+
+// The identification that a table gives. "a text that is the whole identification reply"
+pub fn put_final_edition(out: &mut [u8], at: usize, client: u8, text: &[u8]) -> usize
+    requires { ⌜ RoomFor (now out) at (final client (identification (some (now text)))) ⌝ }
+    ensures { λ r. ⌜ Puts (now (out .entry)) at (encode (final client (identification (some (now (text .entry)))))) (now (out .exit)) r ⌝ }
+{
+    let size = text.len();
+    let line = put_header(out, at, b"RP", client, size + 1);
+    let end = put(out, line, text);
     put_byte(out, end, 10)
 }
 
@@ -209,6 +221,18 @@ pub fn put_final_report(
             b"RP",
             client,
             b"done ",
+            module,
+            accessible,
+            Sensor::Works,
+            value,
+            time,
+        ),
+        Told::Checked => put_named_record(
+            out,
+            at,
+            b"RP",
+            client,
+            b"checked ",
             module,
             accessible,
             Sensor::Works,

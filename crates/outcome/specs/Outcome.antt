@@ -16,15 +16,35 @@ use Rattle.message.specs.Reply.{valued, Reply}
 use Rattle.outbox.specs.Outbox.{Record, final, encodeAll}
 use Rattle.plain.specs.Node.{Node, withClient, Setting, withSettings, activated}
 use Rattle.plain.specs.Answer as Plain
-use Rattle.plain.specs.Answer.{refused, carried, outcome}
+use Rattle.plain.specs.Answer.{refused, carried, busy, outcome}
 use Rattle.message.specs.Request.{Request}
 use Rattle.state.specs.declared.Settings.{Settings}
 use Rattle.state.specs.declared.State.{State}
-use Rattle.state.specs.View.{bit, view, withStored, areaWith, settingsWith}
+use Rattle.state.specs.View.{bit, view, areaWith, settingsWith}
 use Rattle.state.specs.Fit.{isUnfit, pastLast}
+use Rattle.outcome.specs.declared.Status.{Status}
+use Rattle.outcome.specs.declared.Status.the-variants.{Stays, Busy}
 use Rattle.outcome.specs.declared.Outcome.{Outcome}
 use Rattle.outcome.specs.declared.Outcome.the-variants.{Refused, Unreadable, Sent, Active, Stored}
 use Rattle.outcome.specs.declared.Answered.{Answered}
+
+-- what is set of a status at a time, and then of the parameter of number p
+abbrev pub statusSettings : Status → ℕ → List Setting
+statusSettings Stays t = []
+statusSettings (Busy k h) t = record { parameter = k; held = valued busy; time = t } ∷ []
+
+abbrev pub storedBy : Status → ℕ → List ℕ → ℕ → List Setting
+storedBy first p text t = statusSettings first t ++ (record { parameter = p; held = valued text; time = t } ∷ [])
+
+-- the parameter of number p is there, and a text is in stored form and fits it
+pub record Holds (w : Table) (p : ℕ) (text : List ℕ) : Type 0 where
+  pub parameter : Placed Parameter
+  pub there : getElem? (parameters w) p ≡ some parameter
+  pub fits : isStored (parameter .it .datainfo) text ≡ true
+
+abbrev pub StatusHolds : Table → Status → Type 0
+StatusHolds w Stays = Unit {0}
+StatusHolds w (Busy k h) = Holds w k busy
 
 -- On the table w, at the plain node n, for client c at the time t: the outbox held `before` and holds `after`, the values area held `values` and
 -- holds `stored`.
@@ -53,15 +73,14 @@ module _ (w : Table) (n : Node) (c t : ℕ) (before after values stored : List �
     pub unstored : stored ≡ values
     pub low : pastLast mask (length (w .modules)) ≡ false
 
-  -- the parameter of number p has a value of so many bytes that fits it
-  pub record Stores (o : Plain.Outcome) (p size written : ℕ) : Type 0 where
+  -- after a status the parameter of number p has a value of so many bytes that fits it
+  pub record Stores (o : Plain.Outcome) (first : Status) (p size written : ℕ) : Type 0 where
     pub text : List ℕ
-    pub parameter : Placed Parameter
-    pub there : getElem? (parameters w) p ≡ some parameter
-    pub fits : isStored (parameter .it .datainfo) text ≡ true
+    pub status : StatusHolds w first
+    pub holds : Holds w p text
     pub long : size ≡ length text
-    pub carries : let s : List Setting = record { parameter = p; held = valued text; time = t } ∷ [] in Carries o (withSettings n s) written s
-    pub area : stored ≡ withStored values p text
+    pub carries : Carries o (withSettings n (storedBy first p text t)) written (storedBy first p text t)
+    pub area : stored ≡ areaWith values (storedBy first p text t)
 
   -- the code's outcome r stands for the plain node's outcome o. Two may stand for one: what alters nothing may be told with the mask that is there
   -- already
@@ -70,7 +89,7 @@ module _ (w : Table) (n : Node) (c t : ℕ) (before after values stored : List �
   OutcomeIs (Unreadable f since) o = Refuses o (refused (fault (faultAs f) since))
   OutcomeIs (Sent written) o = Sends o written
   OutcomeIs (Active mask written) o = Activates o mask written
-  OutcomeIs (Stored p size written) o = Stores o p size written
+  OutcomeIs (Stored first p size written) o = Stores o first p size written
 
 -- On the table's bytes, handed the state s, the values area and the outbox, the code's outcome r stands for what f makes of table, node, client c
 -- and time t.

@@ -3,6 +3,14 @@ use message::say::Class;
 use message::say::Fault;
 use state::State;
 
+// The status that a change sets before its own parameter (M-100).
+pub enum Status {
+    // None, or it stays as it is.
+    Stays,
+    // The parameter of this number, in the module of this number, is busy.
+    Busy(usize, usize),
+}
+
 pub enum Outcome {
     // An error: nothing is written yet, and nothing is altered.
     Refused(Class),
@@ -12,8 +20,8 @@ pub enum Outcome {
     Sent(usize),
     // The client's active modules are those of a mask; so many bytes are written.
     Active(u16, usize),
-    // A parameter has a stored value of so many bytes; so many bytes are written.
-    Stored(usize, usize, usize),
+    // After a status a parameter has a stored value of so many bytes; so many bytes are written.
+    Stored(Status, usize, usize, usize),
 }
 
 // The next state, and how many bytes are written.

@@ -9,18 +9,19 @@ use mathlib.Core.Path.{_≡_, refl, sym, ap, ap₂, subst}
 use lib.Dec.{eqb}
 use lib.ListN.{getElem?}
 use Rattle.ascii.specs.Text.{bytes}
+use Rattle.ascii.specs.Bytes.{isSome}
 use Rattle.fit.specs.Fit.{Verdict, fits, rangeError, wrongType, badJSON, verdict, storedForm}
 use Rattle.table.specs.Table.{Parameter, Command, Module, Table}
 use Rattle.table.specs.Search.{Placed, parameters, commands, findModule, findParameter, findCommand}
 use Rattle.table.proofs.Search.{parameter-there, parameter-named, command-there, command-named}
 use Rattle.report.specs.Report.{report}
 use Rattle.message.specs.Line.{Parts}
-use Rattle.message.specs.Request.{Request, identify, describe, ping, activate, deactivate, read, change, execute, malformed}
+use Rattle.message.specs.Request.{Request, identify, describe, ping, activate, deactivate, read, change, execute, check, malformed}
 use Rattle.message.specs.Error.{Fault, class, fault, Class, ProtocolError, NoSuchModule, NoSuchParameter, NoSuchCommand, ReadOnly, BadJSON, WrongType, RangeError}
-use Rattle.message.specs.Reply.{Held, valued, failed, Report, Reply, identification, describing, pong, reply, done, error}
+use Rattle.message.specs.Reply.{Held, valued, failed, Report, Reply, identification, describing, pong, reply, done, checked, error}
 use Rattle.outbox.specs.Outbox.{Record, final, orderCommand}
 use Rattle.plain.specs.Node.{Value, holding, showing, Node, reportOf}
-use Rattle.plain.specs.Answer.{Outcome, refused, carried, found, letIn, argumentVerdict, argumentForm, activates, deactivates, inScope, tells, reads, sets, changes, does, outcome, conclude}
+use Rattle.plain.specs.Answer.{Outcome, refused, carried, found, letIn, argumentVerdict, argumentForm, activates, deactivates, inScope, tells, reads, sets, shows, judging, changes, checks, does, outcome, conclude}
 
 -- ## What an outcome leaves and sends
 
@@ -45,24 +46,26 @@ concluded w n c now p (carried m ss rs r) = refl
 
 -- ## Kinds of outcome
 
+-- a change that is let in, or a check: of parameter k, to the text v
+pub record LetIn (w : Table) (k : ℕ × Placed Parameter) (v : List ℕ) : Type 0 where
+  pub there : getElem? (parameters w) (k .0) ≡ some (k .1)
+  pub writable : k .1 .it .readonly ≡ false
+  pub fitting : verdict (k .1 .it .datainfo) v ≡ fits
+
 -- requests that are answered by a reply alone, with the reply, where these values are held
 pub data Tells (w : Table) (now : ℕ) (values : ℕ → Value) : Request → Reply → Type 0 where
-  by-identify : Tells w now values identify identification
+  by-identify : Tells w now values identify (identification (w .edition))
   by-describe : Tells w now values describe (describing (report w))
   by-ping : {token : List ℕ} → Tells w now values (ping token) (pong token now)
   by-read : (k : ℕ × Placed Parameter) → getElem? (parameters w) (k .0) ≡ some (k .1) → (v : List ℕ) (t : ℕ) → values (k .0) ≡ showing v t
       → Tells w now values (read (k .1 .moduleName) (k .1 .it .name)) (reply (reportOf (k .1) (showing v t)))
+  by-check : (k : ℕ × Placed Parameter) (v : List ℕ) → LetIn w k v → isSome (w .edition) ≡ true
+      → Tells w now values (check (k .1 .moduleName) (k .1 .it .name) v) (checked (reportOf (k .1) (showing (storedForm (k .1 .it .datainfo) v) now)))
 
 -- the modules that an activation is about: all, or the one that is named
 pub data Scope (w : Table) : Option (List ℕ) → (ℕ → Bool) → Type 0 where
   of-all : Scope w none (λ i. true)
   of-one : {m : List ℕ} (x : ℕ × Module) → findModule w m ≡ some x → Scope w (some m) (λ i. eqb i (x .0))
-
--- a change that is let in: of parameter k, to the text v
-pub record LetIn (w : Table) (k : ℕ × Placed Parameter) (v : List ℕ) : Type 0 where
-  pub there : getElem? (parameters w) (k .0) ≡ some (k .1)
-  pub writable : k .1 .it .readonly ≡ false
-  pub fitting : verdict (k .1 .it .datainfo) v ≡ fits
 
 -- a command that is let in, with the argument v
 pub record Allowed (w : Table) (k : ℕ × Placed Command) (v : List ℕ) : Type 0 where
@@ -146,13 +149,34 @@ module _ (w : Table) (m n : Node) (same : m .values ≡ n .values) (c now : ℕ)
       go (valued v) i = h .telling q _ (by-read k e v t (ap (λ x. holding x t) i))
       go (failed f) i = h .failing k f t e (ap (λ x. holding x t) i)
 
+  -- what is let in, by what f and g make of its stored form
+  judged-hold : (f g : ℕ × Placed Parameter → List ℕ → Outcome) (q : Request) (v : List ℕ) (k : ℕ × Placed Parameter)
+      → getElem? (parameters w) (k .0) ≡ some (k .1)
+      → (LetIn w k v → Q q (f k (storedForm (k .1 .it .datainfo) v)) (g k (storedForm (k .1 .it .datainfo) v)))
+      → Q q (judging w m c now f v k) (judging w n c now g v k)
+  unfolding judging
+  judged-hold f g q v k t i =
+      writable-hold q (k .1 .it .readonly) _ _ (λ o.
+      let-in-hold q (verdict (k .1 .it .datainfo) v) _ _ (λ e. i (record { there = t; writable = o; fitting = e })))
+
   change-hold : (v : List ℕ) (k : ℕ × Placed Parameter) → getElem? (parameters w) (k .0) ≡ some (k .1)
       → Q (change (k .1 .moduleName) (k .1 .it .name) v) (changes w m c now v k) (changes w n c now v k)
   unfolding changes
-  change-hold v k t =
-      let q : Request = change (k .1 .moduleName) (k .1 .it .name) v in
-      writable-hold q (k .1 .it .readonly) _ _ (λ o.
-      let-in-hold q (verdict (k .1 .it .datainfo) v) _ _ (λ f. h .setting k v (record { there = t; writable = o; fitting = f })))
+  change-hold v k t = judged-hold (sets w m c now) (sets w n c now) _ v k t (λ l. h .setting k v l)
+
+  check-hold : isSome (w .edition) ≡ true → (v : List ℕ) (k : ℕ × Placed Parameter) → getElem? (parameters w) (k .0) ≡ some (k .1)
+      → Q (check (k .1 .moduleName) (k .1 .it .name) v) (checks w m c now v k) (checks w n c now v k)
+  unfolding checks shows
+  check-hold e v k t = judged-hold (shows w m c now) (shows w n c now) _ v k t (λ l. h .telling _ _ (by-check k v l e))
+
+  -- a request of the next edition
+  edition-hold : (q : Request) (o p : Outcome) → (isSome (w .edition) ≡ true → Q q o p)
+      → Q q (cond (isSome (w .edition)) o (refused (class ProtocolError))) (cond (isSome (w .edition)) p (refused (class ProtocolError)))
+  edition-hold q o p i = go (isSome (w .edition)) i
+    where
+      go : (b : Bool) → (b ≡ true → Q q o p) → Q q (cond b o (refused (class ProtocolError))) (cond b p (refused (class ProtocolError)))
+      go true i = i refl
+      go false i = h .bad q ProtocolError
 
   do-hold : (v : List ℕ) (k : ℕ × Placed Command) → getElem? (commands w) (k .0) ≡ some (k .1)
       → Q (execute (k .1 .moduleName) (k .1 .it .name) v) (does w m c now v k) (does w n c now v k)
@@ -178,6 +202,10 @@ module _ (w : Table) (m n : Node) (same : m .values ≡ n .values) (c now : ℕ)
   outcomes-hold (execute s a v) =
       named-hold (λ (x : Command). x .name) (λ x y. execute x y v) s a NoSuchCommand (findCommand w s a) _ _ (command-named w s a)
       (λ k e. do-hold v k (command-there w s a k e))
+  outcomes-hold (check s a v) =
+      edition-hold (check s a v) _ _ (λ t.
+      named-hold (λ (x : Parameter). x .name) (λ x y. check x y v) s a NoSuchParameter (findParameter w s a) _ _ (parameter-named w s a)
+      (λ k e. check-hold t v k (parameter-there w s a k e)))
   outcomes-hold malformed = h .bad malformed ProtocolError
 
 -- The same at one node.

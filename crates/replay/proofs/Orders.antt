@@ -3,7 +3,7 @@ use Prim.Native.Nat.{ℕ, suc}
 use native.Mathlib.Omega.{arith}
 use mathlib.Core.Bool.{Bool, true, false, cond}
 use mathlib.Core.List.{List, [], _∷_, _++_, append-assoc}
-use mathlib.Core.Option.{some}
+use mathlib.Core.Option.{Option, none, some}
 use mathlib.Core.Path.{_≡_, refl, sym, ap, ap₂, subst, _∙_}
 use lib.Dec.{eqb}
 use lib.ListN.{length, drop, getElem?}
@@ -18,8 +18,9 @@ use Rattle.message.specs.Request.{Request, request}
 use Rattle.message.specs.Reply.{valued, Report}
 use Rattle.outbox.specs.Outbox.{Record, final, update, orderChange, orderCommand, mark, client, body, encode, encodeAll}
 use Rattle.plain.specs.Node.{Client, Value, Node, Setting, settingValue, setValues, isActive, updatesTo, updatesOf, reportOf}
-use Rattle.plain.specs.Answer.{Outcome, activates, deactivates, sets, outcome, answerParts, answer}
+use Rattle.plain.specs.Answer.{busySettings, busyUpdates, statusOf, Outcome, activates, deactivates, sets, outcome, answerParts, answer}
 use Rattle.plain.specs.Calls.{ended, pieceEffect, hasFeed}
+use Rattle.plain.proofs.Busy.{set-more}
 use Rattle.plain.proofs.Put.{put-at}
 use Rattle.plain.proofs.Outcomes.{nodeAfter, before, replyTo, concluded, outcome-holds}
 use Rattle.replay.specs.declared.Chosen.the-variants.{Of, Nothing}
@@ -59,15 +60,26 @@ updates-of c wanted values i (p ∷ ps) k =
     go true j = refl
     go false j = refl
 
+busy-updates : (f : ℕ → Client) (o : Option (ℕ × Placed Parameter)) (t : ℕ) → NoOrders (busyUpdates f o t)
+unfolding busyUpdates ordersOf
+busy-updates f none t k = refl
+busy-updates f (some s) t k = updates-to f (s .1 .home) _ _ k
+
+-- what is set last is held
+set-last : (f : ℕ → Value) (xs : List Setting) (s : Setting) → setValues f (xs ++ (s ∷ [])) (s .parameter) .held ≡ s .held
+set-last f xs s =
+    ap (λ (g : ℕ → Value). g (s .parameter) .held) (set-more f xs (s ∷ []))
+    ∙ ap (λ (x : Value). x .held) (put-at (setValues f xs) (s .parameter) (settingValue s))
+
 -- no order, or one at the front, after which the node m holds what it orders
 pub data Ordered (w : Table) (m : Node) : List Record → Type 0 where
   no-order : {rs : List Record} → NoOrders rs → Ordered w m rs
   one-order : {rs : List Record} (c k : ℕ) (p : Placed Parameter) (v : List ℕ) → getElem? (parameters w) k ≡ some p → m .values k .held ≡ valued v
       → NoOrders rs → Ordered w m (orderChange c k v ∷ rs)
 
-none : NoOrders []
+no-records : NoOrders []
 unfolding ordersOf
-none k = refl
+no-records k = refl
 
 one-reply : (c : ℕ) (o : Outcome) (p : Parts) → NoOrders (final c (replyTo p o) ∷ [])
 unfolding ordersOf
@@ -86,12 +98,15 @@ unfolding activates deactivates sets
 outcome-ordered w n c now =
     outcome-holds (λ q o. Ordered w (nodeAfter n o) (before o)) w n c now
     (record {
-      bad = λ q x. no-order none;
-      failing = λ k f t h e. no-order none;
-      telling = λ q f h. no-order none;
+      bad = λ q x. no-order no-records;
+      failing = λ k f t h e. no-order no-records;
+      telling = λ q f h. no-order no-records;
       activating = λ m f h. no-order (updates-of c f (n .values) 0 (parameters w));
-      deactivating = λ m f h. no-order none;
-      setting = λ k v h. one-order c (k .0) (k .1) _ (h .there) (ap (λ (x : Value). x .held) (put-at (n .values) (k .0) _)) (updates-to (n .clients) (k .1 .home) _ _);
+      deactivating = λ m f h. no-order no-records;
+      setting = λ k v h.
+          one-order c (k .0) (k .1) _ (h .there) (set-last (n .values) (busySettings (statusOf w (k .1)) now) _)
+          (no-both (busyUpdates (n .clients) (statusOf w (k .1)) now) _ (busy-updates (n .clients) (statusOf w (k .1)) now)
+          (updates-to (n .clients) (k .1 .home) _ _));
       doing = λ k v h. no-order (one-command c (k .0) _);
     })
 
@@ -104,7 +119,7 @@ parts-ordered w n c now p =
 
 ended-ordered : (w : Table) (n : Node) (c t : ℕ) (b : Bool) → Ordered w (ended w n c t b .0) (ended w n c t b .1)
 unfolding ended answer
-ended-ordered w n c t false = no-order none
+ended-ordered w n c t false = no-order no-records
 ended-ordered w n c t true = parts-ordered w _ c t _
 
 pub piece-ordered : (w : Table) (n : Node) (c : ℕ) (bs : List ℕ) (t : ℕ) → Ordered w (pieceEffect w n c bs t .next) (pieceEffect w n c bs t .records)

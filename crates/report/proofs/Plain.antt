@@ -19,7 +19,7 @@ use Rattle.datainfo.specs.Datainfo.{Variant, Datainfo, double, int, bool, enum,
 use Rattle.datainfo.specs.Rules as Datainfo
 use Rattle.datainfo.specs.Rules.{goodNames, elementsNamesGood, fieldsNamesGood}
 use Rattle.table.specs.Table.{Accessible, parameter, command, Module, Table}
-use Rattle.table.specs.Rules.{accessibleName, ifAny, noteGood, accessibleNamesGood, moduleNamesGood, namesGood}
+use Rattle.table.specs.Rules.{accessibleName, ifAny, noteGood, accessibleNamesGood, moduleNamesGood, editionGood, namesGood}
 use Rattle.report.specs.Report.{variantValues, datainfoValue, elementValues, fieldValues, argumentMember, accessibleMember, accessibleMembers}
 use Rattle.report.specs.Report.{moduleMembers, reportValue}
 use Rattle.report.specs.Judge.{treeNumber}
@@ -146,9 +146,10 @@ names-plain : (t : Table) → namesGood t ≡ true → Plain (reportValue t)
 unfolding namesGood reportValue all bytes isText isTextByte isIn
 names-plain t h =
     let names = map (λ (m : Module). m .name) (t .modules) in
-    let a = both (isText (t .equipmentId) && isText (t .description) && goodNames names) (all moduleNamesGood (t .modules)) h in
-    let b = both (isText (t .equipmentId) && isText (t .description)) (goodNames names) (a .0) in
-    let c = both (isText (t .equipmentId)) (isText (t .description)) (b .0) in (
+    let texts = isText (t .equipmentId) && isText (t .description) in
+    let a = both (texts && editionGood (t .edition) && goodNames names) (all moduleNamesGood (t .modules)) h in
+    let b = both (texts && editionGood (t .edition)) (goodNames names) (a .0) in
+    let c = both (isText (t .equipmentId)) (isText (t .description)) (both texts (editionGood (t .edition)) (b .0) .0) in (
       refl,
       modules-plain (t .modules) (names-all names (b .1)) (a .1),
       (refl, c .0, (refl, c .1, tt)),

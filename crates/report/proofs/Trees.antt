@@ -189,6 +189,7 @@ pub told : ℕ → Json → Table
 told n v = record {
   equipmentId = text (at 1 (members v));
   description = text (at 2 (members v));
+  edition = none;
   modules = modulesFrom n (members (at 0 (members v)));
 }
 

@@ -37,11 +37,11 @@ enforcedModule m = record {
   accessibles = map enforcedAccessible (m .accessibles);
 }
 
--- all of a table but notes, initial values and their places
+-- all of a table but its edition, notes, initial values and their places
 unfoldable pub enforced : Table → Table
-enforced t = record { equipmentId = t .equipmentId; description = t .description; modules = map enforcedModule (t .modules) }
+enforced t = record { equipmentId = t .equipmentId; description = t .description; edition = none; modules = map enforcedModule (t .modules) }
 
--- Two accepted tables with the same structure report are the same table, but for notes, initial values and their places.
+-- Two accepted tables with the same structure report are the same table, but for editions, notes, initial values and their places.
 abbrev pub ReportsTell : Type 0
 ReportsTell = (t u : Table) → treeNumber t ≡ 0 → treeNumber u ≡ 0 → report t ≡ report u → enforced t ≡ enforced u
 

@@ -22,7 +22,7 @@ use Rattle.message.specs.Error.{Fault, faultOf}
 use Rattle.message.specs.Reply.{failed, Reply}
 use Rattle.outbox.specs.Outbox.{Record, final}
 use Rattle.plain.specs.Node.{Client, closed, fresh, Node, put, withClient, withValue, isOpen, lineOf, receive, emptied, reportOf, clientNumbers, updatesTo, holding, showing, withClients}
-use Rattle.plain.specs.Answer.{Outcome, outcome, activates, deactivates, sets, answerParts, answer}
+use Rattle.plain.specs.Answer.{Outcome, outcome, statusOf, activates, deactivates, sets, answerParts, answer}
 use Rattle.plain.specs.Calls.{Event, Open, Close, Piece, Reading, Unreadable, Call, ownFaults, callNumber, readingVerdict, beforeFeed, hasFeed, ended, pieceEffect, driverEffect, readingEffect, unreadableEffect, effect, settle, stepIf}
 use Rattle.plain.specs.History.{step}
 use Rattle.plain.proofs.Numbers as Numbers
@@ -30,7 +30,7 @@ use Rattle.plain.proofs.Put.{put-at, put-put}
 use Rattle.plain.proofs.Clients.{emptied-received}
 use Rattle.plain.proofs.Outcomes.{nodeAfter, before, replyTo, concluded, outcome-holds}
 use Rattle.rule.specs.Theorems.{partsAt, requestOf, Refused, RefusalsAlterNothing}
-use Rattle.rule.proofs.Laws.{NoFinal, final-not-in, updates-to-no-final, updates-of-no-final}
+use Rattle.rule.proofs.Laws.{NoFinal, final-not-in, updates-to-no-final, busy-no-final, updates-of-no-final}
 
 -- ## Outcomes
 
@@ -45,7 +45,8 @@ quiet w n c now =
       telling = λ q f h. tt;
       activating = λ m f h. updates-of-no-final c _ (n .values) 0 (parameters w);
       deactivating = λ m f h. tt;
-      setting = λ k v h. (tt, updates-to-no-final (n .clients) (k .1 .home) _ clientNumbers);
+      setting = λ k v h.
+          (tt, busy-no-final (n .clients) (statusOf w (k .1)) now (k .1 .home) (reportOf (k .1) (showing (storedForm (k .1 .it .datainfo) v) now)));
       doing = λ k v h. (tt, tt);
     })
 

@@ -21,7 +21,7 @@ use Rattle.message.specs.Error.{Class, NoSuchModule}
 use Rattle.message.specs.Reply.{Held, valued, failed}
 use Rattle.outbox.specs.Outbox.{Record, final}
 use Rattle.plain.specs.Node.{Client, Node, withClient, isOpen, isActive, emptied, activated}
-use Rattle.plain.specs.Answer.{Outcome, outcome, found, letIn, argumentVerdict, inScope, activates, deactivates, tells, reads, changes, sets, does}
+use Rattle.plain.specs.Answer.{Outcome, outcome, found, letIn, argumentVerdict, inScope, activates, deactivates, tells, reads, judging, changes, sets, does}
 use Rattle.plain.specs.Calls.{Piece, hasFeed}
 use Rattle.plain.proofs.Put.{put-at}
 use Rattle.plain.proofs.Clients.{emptied-open, activated-active}
@@ -82,7 +82,7 @@ found-some e (some a) o h = refl
 module _ (w : Table) (n : Node) (c t : ℕ) where
   good-set : (m a v : List ℕ) (k : ℕ × Placed Parameter) → findParameter w m a ≡ some k → k .1 .it .readonly ≡ false
       → verdict (k .1 .it .datainfo) v ≡ fits → outcome w n c t (change m a v) ≡ sets w n c t k (storedForm (k .1 .it .datainfo) v)
-  unfolding outcome changes found letIn
+  unfolding outcome changes judging found letIn
   good-set m a v k e o f = found-some NoSuchModule (findModule w m) _ (parameter-module w m a k e) ∙ rw (e, o, f) refl
 
   good-read : (m a : List ℕ) (k : ℕ × Placed Parameter) → findParameter w m a ≡ some k → outcome w n c t (read m a) ≡ reads w n c t k
@@ -108,13 +108,13 @@ module _ (w : Table) (n : Node) (c t : ℕ) where
 -- ## Lines
 
 -- the line that an accepted piece ends is carried out
-ended-line : {w : Table} {n m : Node} {rs : List Record} {c : ℕ} {bs : List ℕ} {t : ℕ} → Did w n (Piece c bs t) m rs → hasFeed bs ≡ true
+pub ended-line : {w : Table} {n m : Node} {rs : List Record} {c : ℕ} {bs : List ℕ} {t : ℕ} → Did w n (Piece c bs t) m rs → hasFeed bs ≡ true
     → Answered w n c bs t m rs
 ended-line (received g) f = absurd (true≢false (sym f ∙ g))
 ended-line (line _ h) f = h
 
 -- what it leaves and sends where it asks for q, which comes to x
-comes-to : {w : Table} {n m : Node} {rs : List Record} {c : ℕ} {bs : List ℕ} {t : ℕ} → Answered w n c bs t m rs → (q : Request) (x : Outcome)
+pub comes-to : {w : Table} {n m : Node} {rs : List Record} {c : ℕ} {bs : List ℕ} {t : ℕ} → Answered w n c bs t m rs → (q : Request) (x : Outcome)
     → requestOf n c bs ≡ q → outcome w (idle n c) c t q ≡ x
     → (m ≡ nodeAfter (idle n c) x) × (rs ≡ before x ++ (final c (replyTo (partsAt n c bs) x) ∷ []))
 comes-to {w} {n} {m} {rs} {c} {bs} {t} h q x e f =

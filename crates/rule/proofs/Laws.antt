@@ -2,8 +2,9 @@
 use Prim.Native.Nat.{ℕ, zero, suc, _+_, _<_, _≤_}
 use mathlib.Core.Bool.{Bool, true, false, cond}
 use mathlib.Core.List.{List, [], _∷_, _++_, append-assoc, List·Memᴰ, List·Memᴰ·cases-cons, List·Memᴰ·not-nil}
+use mathlib.Core.List.{List·Memᴰ·head, List·Memᴰ·tail, Memᴰ·append-left, Memᴰ·append-right}
 use mathlib.Core.Logic.{_⊎_, ⊎-elim}
-use mathlib.Core.Option.{some}
+use mathlib.Core.Option.{Option, none, some}
 use mathlib.Core.Path.{_≡_, refl, sym, _∙_, ap, subst}
 use lib.Dec.{eqb}
 use lib.ListN.{getElem?, replicate}
@@ -16,8 +17,9 @@ use Rattle.table.specs.Table.{Parameter}
 use Rattle.table.specs.Search.{Placed}
 use Rattle.message.specs.Reply.{Report, Reply}
 use Rattle.outbox.specs.Outbox.{Record, final, update, orderChange, orderCommand}
-use Rattle.plain.specs.Node.{Client, Value, isActive, reportOf, clientNumbers, updatesTo, updatesOf}
-use Rattle.rule.specs.Records.{updatesFor, repliesFor, reportsOf}
+use Rattle.plain.specs.Node.{Client, Value, showing, isActive, reportOf, clientNumbers, updatesTo, updatesOf}
+use Rattle.plain.specs.Answer.{busy, busyUpdates}
+use Rattle.rule.specs.Records.{updatesFor, repliesFor, reportsOf, busyReports}
 
 -- ## Records
 
@@ -70,6 +72,16 @@ updates-to-no-final f i r (c ∷ cs) = go (isActive (f c) i) (updates-to-no-fina
     go : (q : Bool) → NoFinal (updatesTo f i r cs) → NoFinal (cond q (update c r ∷ []) [] ++ updatesTo f i r cs)
     go true h = (tt, h)
     go false h = h
+
+-- with those of a status before them
+pub busy-no-final : (f : ℕ → Client) (o : Option (ℕ × Placed Parameter)) (t i : ℕ) (r : Report) → NoFinal (busyUpdates f o t ++ updatesTo f i r clientNumbers)
+unfolding busyUpdates
+busy-no-final f none t i r = updates-to-no-final f i r clientNumbers
+busy-no-final f (some s) t i r =
+    let first = reportOf (s .1) (showing busy t) in
+    no-final-append (updatesTo f (s .1 .home) first clientNumbers) (updatesTo f i r clientNumbers)
+    (updates-to-no-final f (s .1 .home) first clientNumbers)
+    (updates-to-no-final f i r clientNumbers)
 
 pub updates-of-no-final : (c : ℕ) (wanted : ℕ → Bool) (values : ℕ → Value) (k : ℕ) (ps : List (Placed Parameter))
     → NoFinal (updatesOf c wanted values k ps)
@@ -216,6 +228,48 @@ module _ (f : ℕ → Client) (i : ℕ) (r : Report) (d : ℕ) where
       go : (q : Bool) → _≡_ {A = List Report} (cond q [] []) []
       go true = refl
       go false = refl
+
+-- of a status that is set first
+pub busy-once : (f : ℕ → Client) (o : Option (ℕ × Placed Parameter)) (t d : ℕ) → d < 8 → updatesFor d (busyUpdates f o t) ≡ busyReports (f d) o t
+unfolding busyUpdates busyReports updatesFor
+busy-once f none t d h = refl
+busy-once f (some s) t d h = sent-once f (s .1 .home) _ d h
+
+pub busy-never : (f : ℕ → Client) (o : Option (ℕ × Placed Parameter)) (t d : ℕ) → 8 ≤ d → updatesFor d (busyUpdates f o t) ≡ []
+unfolding busyUpdates updatesFor
+busy-never f none t d h = refl
+busy-never f (some s) t d h = sent-never f (s .1 .home) _ d h
+
+-- each of the clients 0 to 7 that has the module active is sent its update
+sent-in : (f : ℕ → Client) (i : ℕ) (r : Report) (d : ℕ) (cs : List ℕ) → isActive (f d) i ≡ true → List·Memᴰ d cs
+    → List·Memᴰ (update d r) (updatesTo f i r cs)
+unfolding updatesTo
+sent-in f i r d [] h m = absurd (List·Memᴰ·not-nil m)
+sent-in f i r d (c ∷ cs) h m =
+    ⊎-elim
+    (λ e.
+    let here = ap (λ q. cond q (update c r ∷ []) []) (sym (ap (λ x. isActive (f x) i) (sym e) ∙ h)) in
+    Memᴰ·append-left (updatesTo f i r cs) (subst (List·Memᴰ (update d r)) here (List·Memᴰ·head (ap (λ x. update x r) e))))
+    (λ l. Memᴰ·append-right (cond (isActive (f c) i) (update c r ∷ []) []) (sent-in f i r d cs h l))
+    (List·Memᴰ·cases-cons m)
+
+-- a client's number is among them
+client-in : (d : ℕ) → d < 8 → List·Memᴰ d clientNumbers
+client-in zero h = List·Memᴰ·head refl
+client-in (suc zero) h = List·Memᴰ·tail (List·Memᴰ·head refl)
+client-in (suc (suc zero)) h = List·Memᴰ·tail (List·Memᴰ·tail (List·Memᴰ·head refl))
+client-in (suc (suc (suc zero))) h = List·Memᴰ·tail (List·Memᴰ·tail (List·Memᴰ·tail (List·Memᴰ·head refl)))
+client-in (suc (suc (suc (suc zero)))) h = List·Memᴰ·tail (List·Memᴰ·tail (List·Memᴰ·tail (List·Memᴰ·tail (List·Memᴰ·head refl))))
+client-in (suc (suc (suc (suc (suc zero))))) h =
+    List·Memᴰ·tail (List·Memᴰ·tail (List·Memᴰ·tail (List·Memᴰ·tail (List·Memᴰ·tail (List·Memᴰ·head refl)))))
+client-in (suc (suc (suc (suc (suc (suc zero)))))) h =
+    List·Memᴰ·tail (List·Memᴰ·tail (List·Memᴰ·tail (List·Memᴰ·tail (List·Memᴰ·tail (List·Memᴰ·tail (List·Memᴰ·head refl))))))
+client-in (suc (suc (suc (suc (suc (suc (suc zero))))))) h =
+    List·Memᴰ·tail (List·Memᴰ·tail (List·Memᴰ·tail (List·Memᴰ·tail (List·Memᴰ·tail (List·Memᴰ·tail (List·Memᴰ·tail (List·Memᴰ·head refl)))))))
+client-in (suc (suc (suc (suc (suc (suc (suc (suc d)))))))) h = absurd (omega arith)
+
+pub sent-to : (f : ℕ → Client) (i : ℕ) (r : Report) (d : ℕ) → d < 8 → isActive (f d) i ≡ true → List·Memᴰ (update d r) (updatesTo f i r clientNumbers)
+sent-to f i r d l h = sent-in f i r d clientNumbers h (client-in d l)
 
 -- ## The initial updates of one client
 

@@ -3,6 +3,8 @@ pub mod Told
 pub mod Calls
 pub mod Replies
 pub mod Rule
+pub mod Busy
 pub mod Lines
 pub mod Good
+pub mod Checks
 pub mod Settings

@@ -3,8 +3,8 @@ use Prim.Native.Nat.{ℕ, zero, suc, _+_}
 use mathlib.Core.Bool.{Bool, true, false, cond, not, _&&_, _||_, true≢false, or-true}
 use mathlib.Core.List.{List, [], _∷_, _++_, append-nil, List·Memᴰ, List·Memᴰ·append-cases, List·Memᴰ·cases-cons, List·Memᴰ·not-nil, List·Memᴰ·eq-of-singleton, List·Memᴰ·head, Memᴰ·append-right}
 use mathlib.Core.Logic.{_⊎_, inl, inr, ⊎-elim}
-use mathlib.Core.Option.{Option, some}
-use mathlib.Core.Path.{_≡_, refl, sym, _∙_, ap, subst}
+use mathlib.Core.Option.{Option, none, some}
+use mathlib.Core.Path.{_≡_, refl, sym, _∙_, ap, ap₂, subst}
 use lib.Dec.{eqb, ltb}
 use lib.ListN.{length, getElem?}
 use native.Mathlib.Omega.{arith}
@@ -15,18 +15,21 @@ use Rattle.table.specs.Search.{Placed, parameters}
 use Rattle.table.proofs.Search.{parameter-home}
 use Rattle.message.specs.Line.{Parts}
 use Rattle.message.specs.Request.{Request, change}
-use Rattle.message.specs.Reply.{failed, Report, Reply, active, inactive, changed, error}
+use Rattle.message.specs.Reply.{valued, failed, Report, Reply, active, inactive, changed, error}
 use Rattle.outbox.specs.Outbox.{Record, final, update, orderChange, orderCommand}
+use Rattle.plain.specs.Node.{Setting, withSettings}
 use Rattle.plain.specs.Node.{Client, closed, fresh, Value, Node, put, withValue, isOpen, isActive, receive, emptied, activated, reportOf, clientNumbers, updatesTo, holding, showing}
-use Rattle.plain.specs.Answer.{Outcome, refused, carried, outcome, activates, deactivates, sets}
+use Rattle.plain.specs.Answer.{Outcome, refused, carried, outcome, busy, statusOf, busySettings, busyUpdates, activates, deactivates, sets}
 use Rattle.plain.specs.Calls.{Event, Piece, Reading, Unreadable, Answer, beforeFeed}
 use Rattle.plain.specs.History.{step}
-use Rattle.plain.proofs.Put.{put-at, put-all}
+use Rattle.plain.proofs.Put.{put-at, put-other, put-all}
+use Rattle.plain.proofs.Busy.{IsStatus, status-is, status-other, set-more}
 use Rattle.plain.proofs.Clients.{active-open, receive-active, emptied-open, emptied-active, activated-active}
-use Rattle.plain.proofs.Outcomes.{nodeAfter, before, replyTo, Tells, by-identify, by-describe, by-ping, by-read, LetIn, outcome-holds}
+use Rattle.plain.proofs.Outcomes.{nodeAfter, before, replyTo, Tells, by-identify, by-describe, by-ping, by-read, by-check, LetIn, outcome-holds}
 use Rattle.rule.specs.Records.{updatesFor, repliesFor, inScopeOf, reportsOf, activeBy, activeAfter}
 use Rattle.rule.specs.Theorems.{partsAt, requestOf, ToActive, UpdatesGoToActiveClients, Set, ReadingSets, ReadingsAreSentToAll, UnreadableSets, UnreadablesAreSentToAll, Changed, ChangeSets, OfPiece, of-piece, ChangesAreSentToAll, BySetting, by-reading, by-unreadable, by-change, ValuesAlterBySettings, InitialUpdates, ActivationsSendAll, ActivationsAreOnesOwn, AltersNothing, ErrorsAlterNothing}
 use Rattle.rule.proofs.Laws.{updates-append, replies-append, no-final-replies, updates-to-member, updates-of-member, updates-of-for, sent-once, sent-never}
+use Rattle.rule.proofs.Laws.{busy-once, busy-never}
 use Rattle.rule.proofs.Told.{kind, apart, told-kind, scope-is}
 use Rattle.rule.proofs.Calls.{quiet, idle, outcomeAt, Answered, Did, opened, shut, received, read, unread, line, every-call, accepted-call, Line-of, line-of, line-of-final, refusals-alter-nothing}
 
@@ -159,32 +162,46 @@ module _ (w : Table) (n m : Node) (c t : ℕ) (k : ℕ × Placed Parameter) (v :
   abbrev value : Value
   value = showing v t
 
-  abbrev updates : List Record
-  updates = updatesTo (idle n c .clients) (k .1 .home) (reportOf (k .1) value) clientNumbers
+  abbrev first : List Setting
+  first = busySettings (statusOf w (k .1)) t
+
+  -- the updates to these clients: of the status, and of the parameter
+  abbrev busied : (ℕ → Client) → List Record
+  busied f = busyUpdates f (statusOf w (k .1)) t
+
+  abbrev updates : (ℕ → Client) → List Record
+  updates f = updatesTo f (k .1 .home) (reportOf (k .1) value) clientNumbers
 
   abbrev finally : List Record
   finally = final c (changed (reportOf (k .1) value)) ∷ []
 
-  module _ (node : m ≡ withValue (idle n c) (k .0) value) (records : rs ≡ orderChange c (k .0) v ∷ (updates ++ finally)) where
+  module _ (node : m ≡ withSettings (idle n c) (first ++ (record { parameter = k .0; held = valued v; time = t } ∷ [])))
+      (records : rs ≡ orderChange c (k .0) v ∷ ((busied (idle n c .clients) ++ updates (idle n c .clients)) ++ finally)) where
     clients-are : m .clients ≡ idle n c .clients
     clients-are = ap (λ (x : Node). x .clients) node
 
-    sent-updates : (d : ℕ) → updatesFor d rs ≡ updatesFor d (updatesTo (m .clients) (k .1 .home) (reportOf (k .1) value) clientNumbers)
+    records-are : rs ≡ orderChange c (k .0) v ∷ ((busied (m .clients) ++ updates (m .clients)) ++ finally)
+    records-are = records ∙ ap (λ f. orderChange c (k .0) v ∷ ((busied f ++ updates f) ++ finally)) (sym clients-are)
+
+    sent-updates : (d : ℕ) → updatesFor d rs ≡ updatesFor d (busied (m .clients)) ++ updatesFor d (updates (m .clients))
     unfolding updatesFor
     sent-updates d =
-        ap (updatesFor d) records
-        ∙ no-updates d updates c (changed (reportOf (k .1) value))
-        ∙ ap (λ f. updatesFor d (updatesTo f (k .1 .home) (reportOf (k .1) value) clientNumbers)) (sym clients-are)
+        ap (updatesFor d) records-are
+        ∙ no-updates d (busied (m .clients) ++ updates (m .clients)) c (changed (reportOf (k .1) value))
+        ∙ updates-append d (busied (m .clients)) (updates (m .clients))
 
     was-changed : Changed w n m c (k .0) (k .1) v t rs
     was-changed =
         record {
-          set = set-sent w n m (k .0) (k .1) value rs there (ap (λ (x : Node). x .values) node) sent-updates;
-          records =
-              records
-              ∙ ap
-              (λ f. orderChange c (k .0) v ∷ (updatesTo f (k .1 .home) (reportOf (k .1) value) clientNumbers ++ finally))
-              (sym clients-are);
+          there = there;
+          values = ap (λ (x : Node). x .values) node ∙ set-more (n .values) first _;
+          updates = λ d h.
+              sent-updates d
+              ∙ ap₂ _++_ (busy-once (m .clients) (statusOf w (k .1)) t d h) (sent-once (m .clients) (k .1 .home) (reportOf (k .1) value) d h);
+          nobody = λ d h.
+              sent-updates d
+              ∙ ap₂ _++_ (busy-never (m .clients) (statusOf w (k .1)) t d h) (sent-never (m .clients) (k .1 .home) (reportOf (k .1) value) d h);
+          records = records-are;
         }
 
   pub answered-change : (bs : List ℕ) → Answered w n c bs t m rs → outcomeAt w n c bs t ≡ sets w (idle n c) c t k v
@@ -341,6 +358,7 @@ told-active by-identify i b = refl
 told-active by-describe i b = refl
 told-active by-ping i b = refl
 told-active (by-read k e v t j) i b = refl
+told-active (by-check k v l e) i b = refl
 
 leaves-active : (w : Table) (n : Node) (c now : ℕ) (p : Parts) → isOpen (n .clients c) ≡ true → (q : Request)
     → LeavesActive w n c p (outcome w n c now q)
@@ -440,7 +458,7 @@ isUpdate (update c r) = true
 isUpdate (orderChange c p v) = false
 isUpdate (orderCommand c p v) = false
 
-not-update : (d : ℕ) (r : Report) (x : Record) → isUpdate x ≡ false → update d r ≡ x → ⊥
+pub not-update : (d : ℕ) (r : Report) (x : Record) → isUpdate x ≡ false → update d r ≡ x → ⊥
 not-update d r x h e = true≢false (ap isUpdate e ∙ h)
 
 -- each update before a reply goes to a client that has its module active
@@ -458,6 +476,28 @@ set-active : (w : Table) (n : Node) (k : ℕ) (p : Placed Parameter) (x : Value)
 set-active w n k p x t d r l =
     let h = updates-to-member (n .clients) (p .home) (reportOf p x) clientNumbers d r l in
     to-active w (withValue n k x) k p d r t (h .0 ∙ ap (reportOf p) (sym (put-at (n .values) k x))) (h .1)
+
+-- of a change, with the status that it sets first
+sets-active : (w : Table) (n : Node) (now : ℕ) (k : ℕ × Placed Parameter) (v : List ℕ) → getElem? (parameters w) (k .0) ≡ some (k .1)
+    → (o : Option (ℕ × Placed Parameter)) → statusOf w (k .1) ≡ o → (d : ℕ) (r : Report)
+    → List·Memᴰ (update d r) (busyUpdates (n .clients) o now ++ updatesTo (n .clients) (k .1 .home) (reportOf (k .1) (showing v now)) clientNumbers)
+    → ToActive w (withSettings n (busySettings o now ++ (record { parameter = k .0; held = valued v; time = now } ∷ []))) d r
+unfolding busyUpdates busySettings
+sets-active w n now k v h none e d r l = set-active w n (k .0) (k .1) (showing v now) h d r l
+sets-active w n now k v h (some s) e d r l =
+    let i = status-is w (k .1) s e in
+    let m : Node = withValue n (s .0) (showing busy now) in
+    ⊎-elim
+    (λ x.
+    let a = updates-to-member (n .clients) (s .1 .home) (reportOf (s .1) (showing busy now)) clientNumbers d r x in
+    to-active w (withValue m (k .0) (showing v now)) (s .0) (s .1) d r (i .there) (a .0 ∙ ap (reportOf (s .1)) (sym (held-first i))) (a .1))
+    (λ x. set-active w m (k .0) (k .1) (showing v now) h d r x)
+    (List·Memᴰ·append-cases _ l)
+  where
+    held-first : IsStatus w (k .1) s → put (put (n .values) (s .0) (showing busy now)) (k .0) (showing v now) (s .0) ≡ showing busy now
+    held-first i =
+        put-other (put (n .values) (s .0) (showing busy now)) (k .0) (showing v now) (s .0) (status-other w (k .1) s i (k .0) h)
+        ∙ put-at (n .values) (s .0) (showing busy now)
 
 -- of an activation's initial updates
 first-active : (w : Table) (n : Node) (c now : ℕ) → isOpen (n .clients c) ≡ true → (m : Option (List ℕ)) (wanted : ℕ → Bool)
@@ -492,7 +532,7 @@ to-actives w n c now o =
       setting = λ k v h d r l.
           ⊎-elim
           (λ e. absurd (not-update d r (orderChange c (k .0) (storedForm (k .1 .it .datainfo) v)) refl e))
-          (λ m. set-active w n (k .0) (k .1) (showing (storedForm (k .1 .it .datainfo) v) now) (h .there) d r m)
+          (λ m. sets-active w n now k (storedForm (k .1 .it .datainfo) v) (h .there) (statusOf w (k .1)) refl d r m)
           (List·Memᴰ·cases-cons l);
       doing = λ k v h d r l. absurd (not-update d r _ refl (List·Memᴰ·eq-of-singleton l));
     })

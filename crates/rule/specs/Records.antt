@@ -8,9 +8,10 @@ use lib.ListN.{length, take}
 use Rattle.ascii.specs.Bytes.{isSome}
 use Rattle.table.specs.Table.{Parameter, Module, Table}
 use Rattle.table.specs.Search.{Placed, findModule}
-use Rattle.message.specs.Reply.{Report, Reply, identification, describing, pong, active, inactive, reply, changed, done, error}
+use Rattle.message.specs.Reply.{Report, Reply, identification, describing, pong, active, inactive, reply, changed, done, checked, error}
 use Rattle.outbox.specs.Outbox.{Record, final, update, orderChange, orderCommand}
-use Rattle.plain.specs.Node.{Value, reportOf}
+use Rattle.plain.specs.Node.{Client, Value, showing, isActive, reportOf}
+use Rattle.plain.specs.Answer.{busy}
 use Rattle.plain.specs.Calls.{Event, Open, Close, Piece, Reading, Unreadable, Answer}
 
 -- the updates to client d, in order
@@ -61,10 +62,15 @@ unfoldable pub reportsOf : (ℕ → Bool) → (ℕ → Value) → ℕ → List (
 reportsOf wanted values k [] = []
 reportsOf wanted values k (p ∷ ps) = cond (wanted (p .home)) (reportOf p (values k) ∷ []) [] ++ reportsOf wanted values (suc k) ps
 
+-- what a client is sent of a status that is set to busy at a time (M-100): one update, if it has the status's module active
+unfoldable pub busyReports : Client → Option (ℕ × Placed Parameter) → ℕ → List Report
+busyReports x none t = []
+busyReports x (some s) t = cond (isActive x (s .1 .home)) (reportOf (s .1) (showing busy t) ∷ []) []
+
 -- whether module i is active after these replies, where it was so before or not: `active` adds, `inactive` takes away
 unfoldable pub activeBy : Table → ℕ → Bool → List Reply → Bool
 activeBy w i b [] = b
-activeBy w i b (identification ∷ rs) = activeBy w i b rs
+activeBy w i b (identification e ∷ rs) = activeBy w i b rs
 activeBy w i b (describing x ∷ rs) = activeBy w i b rs
 activeBy w i b (pong x t ∷ rs) = activeBy w i b rs
 activeBy w i b (active m ∷ rs) = activeBy w i (b || (ltb i (length (w .modules)) && inScopeOf w m i)) rs
@@ -72,6 +78,7 @@ activeBy w i b (inactive m ∷ rs) = activeBy w i (b && not (inScopeOf w m i)) r
 activeBy w i b (reply x ∷ rs) = activeBy w i b rs
 activeBy w i b (changed x ∷ rs) = activeBy w i b rs
 activeBy w i b (done x ∷ rs) = activeBy w i b rs
+activeBy w i b (checked x ∷ rs) = activeBy w i b rs
 activeBy w i b (error a s x ∷ rs) = activeBy w i b rs
 
 -- whether client d has module i active after an accepted event, by d's own opens, closes and replies alone

@@ -8,21 +8,22 @@ use mathlib.Core.Logic.{_⊎_}
 use mathlib.Core.Option.{Option, some}
 use mathlib.Core.Path.{_≡_}
 use lib.ListN.{length, getElem?}
-use Rattle.fit.specs.Fit.{fits, verdict, storedForm}
+use Rattle.fit.specs.Fit.{fits, verdict, isFit, storedForm}
 use Rattle.ascii.specs.Text.{bytes}
+use Rattle.ascii.specs.Bytes.{isSome}
 use Rattle.message.specs.Line.{Parts, whole, content, partsOf}
-use Rattle.message.specs.Request.{Request, activate, deactivate, read, change, execute, request}
+use Rattle.message.specs.Request.{Request, activate, deactivate, read, change, execute, check, request}
 use Rattle.message.specs.Error.{Fault, faultOf, Denial, fault}
-use Rattle.message.specs.Reply.{Held, valued, failed, Report, Reply, reply, changed, active, inactive, done, error}
+use Rattle.message.specs.Reply.{Held, valued, failed, Report, Reply, reply, changed, active, inactive, done, checked, error}
 use Rattle.table.specs.Table.{Parameter, Command, parameter, Module, Table}
 use Rattle.table.specs.Layout.{tableOf}
 use Rattle.table.specs.Search.{Placed, parameters, commands, findParameter, findCommand}
 use Rattle.outbox.specs.Outbox.{Record, final, update, orderChange, orderCommand}
 use Rattle.plain.specs.Node.{Value, Node, put, withClient, setValues, isOpen, isActive, lineOf, receive, emptied, reportOf, clientNumbers, updatesTo, updatesOf, holding, showing}
-use Rattle.plain.specs.Answer.{argumentVerdict, argumentForm}
+use Rattle.plain.specs.Answer.{argumentVerdict, argumentForm, busy, statusOf, busySettings, busyUpdates}
 use Rattle.plain.specs.Calls.{Event, Piece, Reading, Unreadable, Lent, Call, Answer, beforeFeed, hasFeed, usedOf, settingsIf}
 use Rattle.plain.specs.History.{step}
-use Rattle.rule.specs.Records.{updatesFor, repliesFor, feedsUsed, inScopeOf, isThere, reportsOf, activeAfter}
+use Rattle.rule.specs.Records.{updatesFor, repliesFor, feedsUsed, inScopeOf, isThere, reportsOf, busyReports, activeAfter}
 
 -- ## Whoever activates a module is sent its updates and nobody else is
 
@@ -81,12 +82,18 @@ partsAt n c bs = partsOf (content (lineOf (receive (n .clients c) (beforeFeed bs
 unfoldable pub requestOf : Node → ℕ → List ℕ → Request
 requestOf n c bs = request (partsAt n c bs)
 
--- Client c changed parameter k, which is p, to the text v at the time t, and nothing else: first the driver's order, then the updates, lowest client
--- first, then the reply.
+-- Client c changed parameter k, which is p, to the text v at the time t, and nothing else but a status that is to be set first (M-100): first the
+-- driver's order, then the updates of that status, then those of p, each lowest client first, then the reply. Each client that has their module
+-- active is sent one update that tells of the status and then one that tells of p, and no other client any.
 pub record Changed (w : Table) (n m : Node) (c k : ℕ) (p : Placed Parameter) (v : List ℕ) (t : ℕ) (rs : List Record) : Type 0 where
-  pub set : Set w n m k p (showing v t) rs
+  pub there : getElem? (parameters w) k ≡ some p
+  pub values : m .values ≡ put (setValues (n .values) (busySettings (statusOf w p) t)) k (showing v t)
+  pub updates : (d : ℕ) → d < 8
+      → updatesFor d rs ≡ busyReports (m .clients d) (statusOf w p) t ++ cond (isActive (m .clients d) (p .home)) (reportOf p (showing v t) ∷ []) []
+  pub nobody : (d : ℕ) → 8 ≤ d → updatesFor d rs ≡ []
   pub records : rs
       ≡ (orderChange c k v ∷ [])
+      ++ busyUpdates (m .clients) (statusOf w p) t
       ++ updatesTo (m .clients) (p .home) (reportOf p (showing v t)) clientNumbers
       ++ (final c (changed (reportOf p (showing v t))) ∷ [])
 
@@ -121,6 +128,39 @@ abbrev pub GoodChangesAreMade : Type 0
 GoodChangesAreMade = (table : List ℕ) (n : Node) (c : ℕ) (m x offered : List ℕ) (k : ℕ) (p : Placed Parameter)
     → findParameter (tableOf table) m x ≡ some (k, p) → p .it .readonly ≡ false → verdict (p .it .datainfo) offered ≡ fits
     → WhenAsked table n c (change m x offered) λ t y rs. Changed (tableOf table) n y c k p (storedForm (p .it .datainfo) offered) t rs
+
+-- ## Whoever has the module active has been sent the busy status before the requester is sent `changed` (M-100)
+
+-- Client c was sent `changed` with the report r last, and s is the status of its module: before it every client that has that module active was
+-- sent the busy status, with the same time, which the node m then holds.
+pub record BusyFirst (m : Node) (c : ℕ) (s : ℕ × Placed Parameter) (r : Report) (rs : List Record) : Type 0 where
+  pub earlier : List Record
+  pub records : rs ≡ earlier ++ (final c (changed r) ∷ [])
+  pub sent : (d : ℕ) → d < 8 → isActive (m .clients d) (s .1 .home) ≡ true → List·Memᴰ (update d (reportOf (s .1) (showing busy (r .time)))) earlier
+  pub held : m .values (s .0) ≡ showing busy (r .time)
+
+-- s was left as it is, its value or its error, and its time, and nothing was sent for it: every update tells r.
+pub record StatusLeft (n m : Node) (s : ℕ × Placed Parameter) (r : Report) (rs : List Record) : Type 0 where
+  pub held : m .values (s .0) ≡ n .values (s .0)
+  pub alone : (d : ℕ) (x : Report) → List·Memᴰ (update d x) rs → x ≡ r
+
+-- what holds of every call that sends `changed` for a parameter named `target`, where its module has a parameter named `status`: by the client, that
+-- status and what is told of the target
+abbrev pub WhenRamped : (List ℕ → Node → Call → ℕ → ℕ × Placed Parameter → Report → Type 0) → Type 0
+WhenRamped P = (table : List ℕ) (n : Node) (e : Call) (c : ℕ) (s : ℕ × Placed Parameter) (r : Report)
+    → List·Memᴰ (final c (changed r)) (step table n e .1 .records)
+    → r .accessible ≡ bytes "target" → findParameter (tableOf table) (r .moduleName) (bytes "status") ≡ some s → P table n e c s r
+
+abbrev pub BusyBeforeChanged : Type 0
+BusyBeforeChanged = WhenRamped λ table n e c s r.
+    isFit (verdict (s .1 .it .datainfo) busy) ≡ true → BusyFirst (step table n e .0) c s r (step table n e .1 .records)
+
+-- "If the status's datainfo doesn't admit that value, status stays as it is."
+abbrev pub OtherStatusStays : Type 0
+OtherStatusStays = WhenRamped λ table n e c s r.
+    isFit (verdict (s .1 .it .datainfo) busy) ≡ false → StatusLeft n (step table n e .0) s r (step table n e .1 .records)
+
+-- ## Settings and activations
 
 -- No other call alters a value: of a call that alters one, either it is an accepted reading or report of an unreadable parameter, or its line was
 -- replied to by `changed`.
@@ -274,6 +314,26 @@ abbrev pub ErrorsAlterNothing : Type 0
 ErrorsAlterNothing = (table : List ℕ) (n : Node) (e : Call) (c : ℕ) (a s : List ℕ) (x : Denial)
     → List·Memᴰ (final c (error a s x)) (step table n e .1 .records)
     → AltersNothing n (step table n e .0) (step table n e .1 .records) c (error a s x)
+
+-- ## A check tells what a change would come to (M-107)
+
+-- Of a check and a change of the same, each by client c from the node n: p and q are the parts of their lines, m and m′ the nodes that they leave, rs
+-- and rs′ what they send. Either both are refused with the same error, or `checked` tells what `changed` does. Nothing is stored by the check, and
+-- nothing else is sent.
+pub data AsChange (n : Node) (c : ℕ) (p : Parts) (m : Node) (rs : List Record) (q : Parts) (m′ : Node) (rs′ : List Record) : Type 0 where
+  both-refused : (e : Denial) → AltersNothing n m rs c (error (p .action) (p .specifier) e)
+      → AltersNothing n m′ rs′ c (error (q .action) (q .specifier) e) → AsChange n c p m rs q m′ rs′
+  both-let-in : (r : Report) → AltersNothing n m rs c (checked r) → List·Memᴰ (final c (changed r)) rs′ → AsChange n c p m rs q m′ rs′
+
+-- "judged exactly as `change` would be": of two lines that come at the same time
+abbrev pub ChecksAreAsChanges : Type 0
+ChecksAreAsChanges = (table : List ℕ) → isSome (tableOf table .edition) ≡ true → (n : Node) (c t : ℕ) (a x offered : List ℕ)
+    (bs bs′ : List ℕ) (lent lent′ : Lent)
+    → let r = step table n (record { event = Piece c bs t; lent = lent }) in
+    let r′ = step table n (record { event = Piece c bs′ t; lent = lent′ }) in
+    r .1 .number ≡ 0 → hasFeed bs ≡ true → requestOf n c bs ≡ check a x offered
+    → r′ .1 .number ≡ 0 → hasFeed bs′ ≡ true → requestOf n c bs′ ≡ change a x offered
+    → AsChange n c (partsAt n c bs) (r .0) (r .1 .records) (partsAt n c bs′) (r′ .0) (r′ .1 .records)
 
 -- A call that is refused by a number uses nothing, writes nothing and alters nothing.
 pub record Refused (n m : Node) (x : Answer) : Type 0 where

@@ -1,6 +1,7 @@
 ghost use mathlib.Core.Bool.{true};
 ghost use mathlib.Core.Path.{_≡_};
-ghost use Rattle.rule.specs.Theorems.{UpdatesGoToActiveClients, ChangesAreSentToAll, GoodChangesAreMade, ReadingsAreSentToAll, UnreadablesAreSentToAll, ValuesAlterBySettings, SettingsAreAll, ActivationsSendAll, GoodActivationsAreMade, ActivationsAreOnesOwn, ParametersBelong, OneReplyForEachLine, PiecesAreUsed, ReadsAreTrue, GoodReadsAreAnswered, CommandsAreOrdered, GoodCommandsAreOrdered, ErrorsAlterNothing, RefusalsAlterNothing};
+ghost use Rattle.rule.specs.Theorems.{BusyBeforeChanged, OtherStatusStays};
+ghost use Rattle.rule.specs.Theorems.{UpdatesGoToActiveClients, ChangesAreSentToAll, GoodChangesAreMade, ReadingsAreSentToAll, UnreadablesAreSentToAll, ValuesAlterBySettings, SettingsAreAll, ActivationsSendAll, GoodActivationsAreMade, ActivationsAreOnesOwn, ParametersBelong, OneReplyForEachLine, PiecesAreUsed, ReadsAreTrue, GoodReadsAreAnswered, CommandsAreOrdered, GoodCommandsAreOrdered, ErrorsAlterNothing, ChecksAreAsChanges, RefusalsAlterNothing};
 
 // Each function here promises a theorem about the definitions. Nothing is run.
 
@@ -21,6 +22,21 @@ pub fn changes_are_sent_to_all() -> bool
 // A change of a parameter that is there and not readonly, by a value that fits, is made.
 pub fn good_changes_are_made() -> bool
     ensures { λ r. ⌜ (r ≡ true) × GoodChangesAreMade ⌝ }
+{
+    true
+}
+
+// Whoever has the module active has been sent the busy status before the requester is sent `changed`, where `target` was changed in a module whose
+// status admits it.
+pub fn busy_before_changed() -> bool
+    ensures { λ r. ⌜ (r ≡ true) × BusyBeforeChanged ⌝ }
+{
+    true
+}
+
+// A status whose datainfo doesn't admit busy stays as it is, and nothing is sent for it.
+pub fn other_status_stays() -> bool
+    ensures { λ r. ⌜ (r ≡ true) × OtherStatusStays ⌝ }
 {
     true
 }
@@ -126,6 +142,13 @@ pub fn good_commands_are_ordered() -> bool
 // A line that is answered by an error sends nothing else, alters no value and empties only its sender's line.
 pub fn errors_alter_nothing() -> bool
     ensures { λ r. ⌜ (r ≡ true) × ErrorsAlterNothing ⌝ }
+{
+    true
+}
+
+// A check is answered as the change of the same would be, by what it would store or by the same error; it stores nothing and sends nothing else.
+pub fn checks_are_as_changes() -> bool
+    ensures { λ r. ⌜ (r ≡ true) × ChecksAreAsChanges ⌝ }
 {
     true
 }

@@ -9,7 +9,7 @@ use Rattle.ascii.specs.Bytes.{any, all, same}
 use Rattle.ascii.specs.Names.{isName, isText, lowercase, distinct, unique}
 use Rattle.datainfo.specs.Rules.{goodNames}
 use Rattle.table.specs.Table.{Parameter, Accessible, parameter, command, Module, Table}
-use Rattle.table.specs.Rules.{accessibleName, accessibleNamesGood, noteGood, moduleNamesGood, namesGood}
+use Rattle.table.specs.Rules.{accessibleName, accessibleNamesGood, noteGood, moduleNamesGood, editionGood, namesGood}
 use Rattle.table.specs.Search.{Placed, parametersOf, commandsOf, placedFrom, parameters, commands, firstFrom, first, findParameter, findCommand}
 use Rattle.table.proofs.Whole.{never}
 use Rattle.ascii.proofs.Lists.{both, same-is}
@@ -186,7 +186,7 @@ module _ {A : Type 0} (p : A → Bool) where
 pub one-kind : (t : Table) → namesGood t ≡ true → (m a : List ℕ) (k : ℕ × Placed Parameter) → findParameter t m a ≡ some k → findCommand t m a ≡ none
 unfolding namesGood goodNames findParameter findCommand first parameters commands
 one-kind t g m a k e =
-    let texts = isText (t .equipmentId) && isText (t .description) in
+    let texts = isText (t .equipmentId) && isText (t .description) && editionGood (t .edition) in
     let names = moduleNames (t .modules) in
     let good = both (texts && (all isName names && unique names)) (all moduleNamesGood (t .modules)) g in
     let u = both (all isName names) (unique names) (both texts (all isName names && unique names) (good .0) .1) .1 in

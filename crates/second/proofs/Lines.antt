@@ -1,8 +1,9 @@
 -- Carrying out a line looks at no client's unfinished line, changes none, and opens or closes nobody. Assumes nothing.
 use Prim.Native.Nat.{ℕ}
 use mathlib.Core.Bool.{Bool, true, false, cond, not, _&&_, _||_}
-use mathlib.Core.List.{List, [], _∷_}
-use mathlib.Core.Path.{_≡_, refl, _∙_, ap, fun-ext}
+use mathlib.Core.List.{List, [], _∷_, _++_}
+use mathlib.Core.Option.{Option, none, some}
+use mathlib.Core.Path.{_≡_, refl, _∙_, ap, ap₂, fun-ext}
 use lib.Dec.{eqb, ltb}
 use lib.ListN.{length}
 use Rattle.table.specs.Table.{Parameter, Table}
@@ -12,7 +13,7 @@ use Rattle.message.specs.Request.{Request, request}
 use Rattle.message.specs.Reply.{valued, Report, Reply, active, inactive, changed}
 use Rattle.outbox.specs.Outbox.{Record, orderChange}
 use Rattle.plain.specs.Node.{Client, closed, connected, Node, put, withClient, Setting, settingValue, withSettings, isOpen, isActive, activated, reportOf, clientNumbers, updatesTo, updatesOf, withClients}
-use Rattle.plain.specs.Answer.{Outcome, refused, carried, activates, deactivates, sets, outcome, conclude, answerParts}
+use Rattle.plain.specs.Answer.{Outcome, refused, carried, statusOf, busySettings, busyUpdates, activates, deactivates, sets, outcome, conclude, answerParts}
 use Rattle.plain.proofs.Put.{put-all, put-same}
 use Rattle.plain.proofs.Clients.{activated-open}
 use Rattle.plain.proofs.Outcomes.{outcomes-hold}
@@ -61,6 +62,12 @@ unfolding updatesTo
 updates-woven f s i r [] = refl
 updates-woven f s i r (c ∷ cs) = rw (active-relined (f c) (s c) i, updates-woven f s i r cs)
 
+busy-woven : (f : ℕ → Client) (s : ℕ → Line) (o : Option (ℕ × Placed Parameter)) (t : ℕ)
+    → busyUpdates (λ d. relined (f d) (s d)) o t ≡ busyUpdates f o t
+unfolding busyUpdates
+busy-woven f s none t = refl
+busy-woven f s (some x) t = updates-woven f s (x .1 .home) _ clientNumbers
+
 -- ## Outcomes
 
 module _ (w : Table) (c now : ℕ) (n : Node) (s : ℕ → Line) where
@@ -85,10 +92,13 @@ module _ (w : Table) (c now : ℕ) (n : Node) (s : ℕ → Line) where
   through-sets : (k : ℕ × Placed Parameter) (v : List ℕ) → Through n s (sets w (weave n s) c now k v) (sets w n c now k v)
   unfolding sets
   through-sets k v =
+      let o = statusOf w (k .1) in
       let y : Setting = record { parameter = k .0; held = valued v; time = now } in
+      let ss : List Setting = busySettings o now ++ (y ∷ []) in
       let x = settingValue y in (
-        ap
-            (λ l. carried (withSettings (weave n s) (y ∷ [])) (y ∷ []) (orderChange c (k .0) v ∷ l) (changed (reportOf (k .1) x)))
+        ap₂
+            (λ b l. carried (withSettings (weave n s) ss) ss (orderChange c (k .0) v ∷ (b ++ l)) (changed (reportOf (k .1) x)))
+            (busy-woven (n .clients) s o now)
             (updates-woven (n .clients) s (k .1 .home) (reportOf (k .1) x) clientNumbers),
         λ d. refl,
       )

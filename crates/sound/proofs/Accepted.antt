@@ -9,6 +9,7 @@ use native.Mathlib.Omega.{arith}
 use lib.Dec.{leb, ltb}
 use lib.ListN.{length, length-append, length-map}
 use borrow.Author.Tests.{leb-true, ltb-false, not-false}
+use Rattle.ascii.specs.Text.{bytes}
 use Rattle.ascii.specs.Bytes.{all}
 use Rattle.ascii.specs.Names.{isName, isText, unique}
 use Rattle.ascii.specs.Numbers.{latest}
@@ -16,15 +17,15 @@ use Rattle.ascii.proofs.Lists.{both}
 use Rattle.datainfo.specs.Rules.{isBetween, goodNames}
 use Rattle.fit.specs.Fit.{isStored}
 use Rattle.table.specs.Table.{Parameter, Command, Accessible, parameter, command, Module, Table}
-use Rattle.table.specs.Layout.{readTable, orEmpty, tableOf}
-use Rattle.table.specs.Rules.{accessibleName, accessibleCount, countsGood, noteGood, accessibleNamesGood, moduleNamesGood, namesGood, initialGood, initialsGood}
+use Rattle.table.specs.Layout.{begins, readTable, orEmpty, tableOf}
+use Rattle.table.specs.Rules.{accessibleName, accessibleCount, countsGood, noteGood, accessibleNamesGood, moduleNamesGood, editionGood, namesGood, initialGood, initialsGood}
 use Rattle.table.specs.Search.{Placed, parametersOf, commandsOf, placedFrom, parameters, commands}
 use Rattle.report.specs.Report.{report}
 use Rattle.report.specs.Judge.{treeNumber, numberOf, tableNumber}
 use Rattle.report.proofs.Faults.{no-fault, lowest-none}
 use Rattle.plain.specs.Calls.{fault10, fault11}
 use Rattle.sound.specs.Theorems.{DatainfosInTable}
-use Rattle.sound.proofs.Tabled.{ModuleLies, ParameterIn, CommandIn, table-lies, modules-in, parameters-in, commands-in}
+use Rattle.sound.proofs.Tabled.{ModuleLies, ParameterIn, CommandIn, table-lies, Within, edition-within, modules-in, parameters-in, commands-in}
 use Rattle.sound.proofs.Lists.{Each, each-at, each-append, each-both, each-all, each-map, map-each}
 
 -- ## Numbers
@@ -100,10 +101,30 @@ commands-good n name e [] h = tt
 commands-good n name e (parameter p ∷ l) h = commands-good n name e l (h .1)
 commands-good n name e (command c ∷ l) h = ((e, h .0 .0), commands-good n name e l (h .1))
 
+-- ## Editions
+
+-- a text that begins as an edition has to, and is no longer than a table
+pub record GoodText (x : List ℕ) : Type 0 where
+  pub text : isText x ≡ true
+  pub begun : begins (bytes "ISSE,SECoP,") x ≡ true
+  pub short : length x ≤ 16384
+
+abbrev pub GoodEdition : Option (List ℕ) → Type 0
+GoodEdition none = Unit {0}
+GoodEdition (some x) = GoodText x
+
+good-edition : (o : Option (List ℕ)) → Within 16384 o → editionGood o ≡ true → GoodEdition o
+unfolding editionGood
+good-edition none h e = tt
+good-edition (some x) h e =
+    let b = both (isText x) (begins (bytes "ISSE,SECoP,") x) e in
+    record { text = b .0; begun = b .1; short = h }
+
 -- ## Accepted tables
 
 pub record Accepted (w : Table) : Type 0 where
   pub names : namesGood w ≡ true
+  pub edition : GoodEdition (w .edition)
   pub allModules : Each GoodModule (w .modules)
   pub fewModules : length (w .modules) ≤ 16
   pub allParameters : Each GoodParameter (parameters w)
@@ -137,16 +158,16 @@ good-modules (m ∷ ms) e f g =
     let c = both (all initialGood (m .accessibles)) (all (λ (m : Module). all initialGood (m .accessibles)) ms) g in
     (good-module m (a .0) (b .0) (c .0), good-modules ms (a .1) (b .1) (c .1))
 
-accepted-tree : (w : Table) → Each ModuleLies (w .modules) → treeNumber w ≡ 0 → Accepted w
+accepted-tree : (w : Table) → Each ModuleLies (w .modules) → Within 16384 (w .edition) → treeNumber w ≡ 0 → Accepted w
 unfolding treeNumber countsGood namesGood goodNames initialsGood parameters commands isBetween
-accepted-tree w lies e =
+accepted-tree w lies short e =
     let none-of = lowest-none _ e in
     let h2 = not-false (countsGood w) (no-fault 1 (not (countsGood w)) (none-of 0)) in
     let h3 = not-false (namesGood w) (no-fault 2 (not (namesGood w)) (none-of 1)) in
     let h5 = not-false (initialsGood w) (no-fault 4 (not (initialsGood w)) (none-of 3)) in
     let h6 = no-fault 5 (ltb 32000 (length (report w))) (none-of 4) in
     let names = map (λ (m : Module). m .name) (w .modules) in
-    let texts = isText (w .equipmentId) && isText (w .description) in
+    let texts = isText (w .equipmentId) && isText (w .description) && editionGood (w .edition) in
     let c = both (isBetween 1 16 (length (w .modules))) (leb (accessibleCount (w .modules)) 64) h2 in
     let a = both (texts && (all isName names && unique names)) (all moduleNamesGood (w .modules)) h3 in
     let b = both texts (all isName names && unique names) (a .0) in
@@ -156,6 +177,7 @@ accepted-tree w lies e =
     let between = both (leb 1 (length (w .modules))) (leb (length (w .modules)) 16) (c .0) in
     record {
       names = h3;
+      edition = good-edition (w .edition) short (both (isText (w .equipmentId) && isText (w .description)) (editionGood (w .edition)) (b .0) .1);
       allModules = ms;
       fewModules = leb-true (length (w .modules)) 16 (between .1);
       allParameters = placed parametersOf GoodParameter parameters-good 0 (w .modules) ms;
@@ -173,7 +195,7 @@ accepted table e = go (readTable table) refl e
   where
     go : (o : Option Table) → readTable table ≡ o → numberOf o ≡ 0 → Accepted (orEmpty o)
     go none q e = absurd (omega arith)
-    go (some w) q e = accepted-tree w (table-lies table w q) e
+    go (some w) q e = accepted-tree w (table-lies table w q) (edition-within table w q) e
 
 pub datainfos-in-table : DatainfosInTable
 datainfos-in-table = record {

@@ -16,15 +16,16 @@ use Rattle.ascii.specs.Numbers.{twoBytes, latest}
 use Rattle.ascii.proofs.Decimal.{seconds-latest}
 use Rattle.ascii.proofs.Lists.{both}
 use Rattle.message.specs.Error.{Fault, Denial, class, fault}
-use Rattle.message.specs.Reply.{Held, valued, failed, Report, Reply, identification, describing, pong, active, inactive, reply, changed, done, error, dataReport, faultReport, heldReport, reportText, errorReport, optionally, replyLine, updateWord, updateLine}
+use Rattle.message.specs.Reply.{Held, valued, failed, Report, Reply, identification, describing, pong, active, inactive, reply, changed, done, checked, error, dataReport, faultReport, heldReport, reportText, errorReport, optionally, identity, replyLine, updateWord, updateLine}
 use Rattle.message.proofs.Said.{fault-short, class-short}
 use Rattle.outbox.specs.Outbox.{Record, final, update, body, encode, encodeAll}
 use Rattle.outbox.specs.Theorems.{Word, Named, IsValue, WellFormed, WellFormedReply, AllWellFormed}
 use Rattle.outbox.proofs.Records.{two-bytes}
 use Rattle.table.specs.Table.{Parameter}
+use Rattle.table.specs.Layout.{begins}
 use Rattle.table.specs.Search.{Placed}
 use Rattle.plain.specs.Node.{Client, Value, isActive, reportOf, updatesTo, updatesOf}
-use Rattle.sound.proofs.Accepted.{GoodNames}
+use Rattle.sound.proofs.Accepted.{GoodNames, GoodEdition}
 use Rattle.sound.proofs.Room.{encode-append}
 
 -- ## Texts
@@ -101,9 +102,11 @@ Says r k = WellFormedReply r × (length (replyLine r) ≤ k)
 pub says-within : (r : Reply) (j k : ℕ) → j ≤ k → Says r j → Says r k
 says-within r j k e h = (h .0, omega (arith, h .1))
 
-pub says-identification : Says identification 36
-unfolding replyLine bytes
-says-identification = (tt, omega arith)
+-- the first edition's, or what a table gives
+pub says-identification : (e : Option (List ℕ)) → GoodEdition e → Says (identification e) 16384
+unfolding replyLine identity begins bytes
+says-identification none h = (tt, omega arith)
+says-identification (some x) h = (h .begun, h .short)
 
 pub says-describing : (xs : List ℕ) → length xs ≤ 32000 → Says (describing xs) 32013
 unfolding replyLine bytes
@@ -137,6 +140,10 @@ says-changed r f v = ((f .names, v), omega (arith, reply-short r f))
 pub says-done : (r : Report) → Fine r → IsValue (r .held) → Says (done r) 415
 unfolding replyLine bytes
 says-done r f v = ((f .names, v), omega (arith, reply-short r f))
+
+pub says-checked : (r : Report) → Fine r → IsValue (r .held) → Says (checked r) 415
+unfolding replyLine bytes
+says-checked r f v = ((f .names, v), omega (arith, reply-short r f))
 
 pub says-error : (a s : List ℕ) (d : Denial) → DeniedInTime d → Word a → Word s → length a ≤ 1024 → length s ≤ 1024 → Says (error a s d) 2122
 unfolding replyLine bytes

@@ -3,7 +3,7 @@ use Prim.Native.Nat.{ℕ, zero, suc, _+_, _*_, _≤_}
 use mathlib.Core.Bool.{Bool, true, false, not}
 use mathlib.Core.List.{List, [], _∷_, _++_}
 use mathlib.Core.Option.{Option, none, some}
-use mathlib.Core.Path.{_≡_, refl, subst}
+use mathlib.Core.Path.{_≡_, refl, sym, subst}
 use native.Mathlib.Nat.{zero-add}
 use native.Mathlib.Omega.{arith}
 use lib.ListN.{length, getElem?}
@@ -12,12 +12,12 @@ use Rattle.ascii.specs.Text.{bytes}
 use Rattle.ascii.specs.Bytes.{all}
 use Rattle.ascii.specs.Numbers.{latest}
 use Rattle.datainfo.specs.Datainfo.{Datainfo}
-use Rattle.fit.specs.Fit.{Verdict, fits, severity, verdict, storedForm, isFit}
+use Rattle.fit.specs.Fit.{Verdict, fits, severity, verdict, storedForm, isFit, isStored}
 use Rattle.form.proofs.Stored.{stored, stored-short, short-stored}
 use Rattle.message.specs.Line.{Parts, content, partsOf}
 use Rattle.message.specs.Request.{Request, request}
 use Rattle.message.specs.Error.{Fault, faultOf}
-use Rattle.message.specs.Reply.{Held, valued, failed, Reply, identification, pong, active, inactive, reply, changed, done, error}
+use Rattle.message.specs.Reply.{Held, valued, failed, Reply, identification, pong, active, inactive, reply, changed, done, checked, error}
 use Rattle.outbox.specs.Outbox.{Record, final, orderChange, orderCommand, body}
 use Rattle.outbox.specs.Theorems.{Named}
 use Rattle.table.specs.Table.{Parameter, Command, Table}
@@ -26,17 +26,20 @@ use Rattle.table.specs.Search.{Placed, parameters, commands}
 use Rattle.report.specs.Report.{report}
 use Rattle.report.specs.Judge.{lowest}
 use Rattle.report.proofs.Faults.{no-fault, lowest-none}
+use Rattle.plain.specs.Node.{withValues, withSettings}
 use Rattle.plain.specs.Node.{closed, Value, Node, withClient, withValue, Setting, fresh, lineOf, receive, emptied, reportOf, clientNumbers, updatesTo, holding, showing}
+use Rattle.plain.specs.Answer.{busy, statusOf, busySettings, busyUpdates}
 use Rattle.plain.specs.Answer.{Outcome, refused, carried, argumentVerdict, argumentForm, activates, deactivates, sets, outcome, conclude, answerParts, answer}
 use Rattle.plain.specs.Calls.{Event, Open, Close, Piece, Reading, Unreadable, Call, readingVerdict, ownFaults, callNumber, beforeFeed, hasFeed, ended, Effect, pieceEffect, driverEffect, readingEffect, unreadableEffect, effect, settle, stepIf}
 use Rattle.plain.specs.History.{step}
 use Rattle.plain.proofs.Numbers.{accepted-call}
-use Rattle.plain.proofs.Outcomes.{Tells, by-identify, by-describe, by-ping, by-read, LetIn, Allowed, doneOf, ordering, outcome-holds}
+use Rattle.plain.proofs.Busy.{status-is, busy-stored, set-more}
+use Rattle.plain.proofs.Outcomes.{Tells, by-identify, by-describe, by-ping, by-read, by-check, LetIn, Allowed, doneOf, ordering, outcome-holds}
 use Rattle.sound.specs.Theorems.{HeldFits, ValueHeld, Sound}
 use Rattle.sound.proofs.Lists.{each-at}
 use Rattle.sound.proofs.Tabled.{ParameterIn}
 use Rattle.sound.proofs.Accepted.{Accepted, GoodParameter, GoodCommand, client-low, time-low}
-use Rattle.sound.proofs.Records.{Small, DeniedInTime, Fine, Says, says-within, says-identification, says-describing, says-pong, says-active, says-inactive, says-reply, says-changed, says-done, says-error, Written, written-none, written-one, written-append, written-within, written-final, written-to, written-of}
+use Rattle.sound.proofs.Records.{Small, DeniedInTime, Fine, Says, says-within, says-identification, says-describing, says-pong, says-active, says-inactive, says-reply, says-changed, says-done, says-checked, says-error, Written, written-none, written-one, written-append, written-within, written-final, written-to, written-of}
 use Rattle.sound.proofs.Lines.{before-feed, received, content-short, ShortWord, parts-words, Asked, asked}
 use Rattle.sound.proofs.Held.{with-client, with-value, line-held, emptied-held, more-active, less-active}
 
@@ -53,6 +56,13 @@ Comes w c (carried m ss rs r) = Kept w m (rs ++ (final c r ∷ []))
 fit-is : (v : Verdict) → v ≡ fits → isFit v ≡ true
 unfolding isFit severity
 fit-is v e = rw e refl
+
+-- what is let in, as it is stored
+pub let-in-stored : (w : Table) → Accepted w → (k : ℕ × Placed Parameter) (v : List ℕ) → LetIn w k v
+    → isStored (k .1 .it .datainfo) (storedForm (k .1 .it .datainfo) v) ≡ true
+let-in-stored w a k v l =
+    stored (k .1 .it .datainfo) v (each-at (λ (q : Placed Parameter). ParameterIn (q .it)) (parameters w) (a .parametersIn) (k .0) (k .1) (l .there))
+    (fit-is (verdict (k .1 .it .datainfo) v) (l .fitting))
 
 -- ## Lines, on an accepted table, at a sound node
 
@@ -82,8 +92,12 @@ module _ (w : Table) (a : Accepted w) (n : Node) (s : Sound w n) where
     new-value : ValueHeld (p .it) new
     new-value = (f, h)
 
+    -- at this node or another
+    new-node-at : (m : Node) → Sound w m → Sound w (withValue m k new)
+    new-node-at m s = with-value w m k new (λ q j. let i : p ≡ q = cc in subst (λ q. ValueHeld (q .it) new) i new-value) s
+
     new-node : Sound w (withValue n k new)
-    new-node = with-value w n k new (λ q j. let i : p ≡ q = cc in subst (λ q. ValueHeld (q .it) new) i new-value) s
+    new-node = new-node-at n s
 
     new-updates : Written (updatesTo (n .clients) (p .home) (reportOf p new) clientNumbers) 3360
     new-updates = written-to (n .clients) (p .home) (reportOf p new) (fine k p e new new-value) clientNumbers
@@ -118,16 +132,31 @@ module _ (w : Table) (a : Accepted w) (n : Node) (s : Sound w n) where
 
     -- a reply alone
     told-short : (q : Request) (r : Reply) → Tells w t (n .values) q r → Asked q → Says r 32013
-    told-short _ _ by-identify q = says-within identification 36 32013 (omega arith) says-identification
+    told-short _ _ by-identify q = says-within (identification (w .edition)) 16384 32013 (omega arith) (says-identification (w .edition) (a .edition))
     told-short _ _ by-describe q = says-describing (report w) (a .short)
     told-short _ _ (by-ping {token}) q = says-within (pong token t) 1057 32013 (omega arith) (says-pong token t (q .0) (q .1) h)
     told-short _ _ (by-read k e v u i) q =
         let r = reportOf (k .1) (showing v u) in
         says-within (reply r) 415 32013 (omega arith)
         (says-reply r (fine (k .0) (k .1) e (showing v u) (subst (ValueHeld (k .1 .it)) i (s .values (k .0) (k .1) e))) tt)
+    told-short _ _ (by-check k v l e) q =
+        let x = showing (storedForm (k .1 .it .datainfo) v) t in
+        let i = let-in-stored w a k v l in
+        says-within (checked (reportOf (k .1) x)) 415 32013 (omega arith)
+        (says-checked (reportOf (k .1) x) (fine (k .0) (k .1) (l .there) x (i, h)) tt)
 
     comes-tells : (q : Request) (r : Reply) → Tells w t (n .values) q r → Asked q → Comes w c (carried n [] [] r)
     comes-tells q r u i = only r 32013 (told-short q r u i) (omega arith)
+
+    -- what is set and sent of a status first
+    busied : (p : Placed Parameter) (o : Option (ℕ × Placed Parameter)) → statusOf w p ≡ o
+        → Sound w (withSettings n (busySettings o t)) × Written (busyUpdates (n .clients) o t) 3360
+    unfolding busySettings busyUpdates
+    busied p none e = (s, written-within 3360 (omega arith) written-none)
+    busied p (some x) e =
+        let i = status-is w p x e in
+        let f = busy-stored (x .1 .it .datainfo) (in-table (x .0) (x .1) (i .there) .names) (i .admits) in
+        (new-node (x .0) (x .1) (i .there) (valued busy) f t h, new-updates (x .0) (x .1) (i .there) (valued busy) f t h)
 
     comes-sets : (k : ℕ × Placed Parameter) (v : List ℕ) → LetIn w k v → Comes w c (sets w n c t k (storedForm (k .1 .it .datainfo) v))
     unfolding sets body
@@ -137,12 +166,17 @@ module _ (w : Table) (a : Accepted w) (n : Node) (s : Sound w n) where
         let x : Held = valued (storedForm (k .1 .it .datainfo) v) in
         let i = stored (k .1 .it .datainfo) v (in-table (k .0) (k .1) e) f in
         let r = reportOf (k .1) (holding x t) in
+        let o = statusOf w (k .1) in
+        let b = busied (k .1) o refl in
         let order = orderChange c (k .0) (storedForm (k .1 .it .datainfo) v) in
+        let first = busyUpdates (n .clients) o t in
         let updates = updatesTo (n .clients) (k .1 .home) r clientNumbers in
         let told = written-one order 262 tt (omega (arith, stored-short (k .1 .it .datainfo) v f)) in
-        comes (withValue n (k .0) (holding x t)) (record { parameter = k .0; held = x; time = t } ∷ []) (order ∷ updates) (changed r) 3622 415
-        (new-node (k .0) (k .1) e x i t h)
-        (written-append (order ∷ []) updates 262 3360 told (new-updates (k .0) (k .1) e x i t h))
+        let set : List Setting = record { parameter = k .0; held = x; time = t } ∷ [] in
+        comes (withSettings n (busySettings o t ++ set)) (busySettings o t ++ set) (order ∷ (first ++ updates)) (changed r) 6982 415
+        (subst (λ f. Sound w (withValues n f)) (sym (set-more (n .values) (busySettings o t) set))
+        (new-node-at (k .0) (k .1) e x i t h (withSettings n (busySettings o t)) (b .0)))
+        (written-append (order ∷ []) (first ++ updates) 262 6720 told (written-append first updates 3360 3360 (b .1) (new-updates (k .0) (k .1) e x i t h)))
         (says-changed r (fine (k .0) (k .1) e (holding x t) (i, h)) tt)
         (omega arith)
 

@@ -1,18 +1,20 @@
--- Every datainfo of a table that can be read, and whose names are good, is one of which the theorems of stored forms speak. Assumes nothing.
-use Prim.Native.Nat.{ℕ, zero, suc}
+-- Every datainfo of a table that can be read, and whose names are good, is one of which the theorems of stored forms speak; and the text of its
+-- edition is no longer than the table. Assumes nothing.
+use Prim.Native.Nat.{ℕ, zero, suc, _≤_}
 use mathlib.Core.Bool.{Bool, true, false, _&&_, _||_}
 use mathlib.Core.List.{List, [], _∷_, map}
 use mathlib.Core.Option.{Option, none, some}
 use mathlib.Core.Path.{_≡_, refl, subst}
 use native.Mathlib.Omega.{arith}
 use lib.Dec.{leb, eqb}
-use lib.ListN.{length}
+use borrow.Author.Tests.{leb-true}
+use lib.ListN.{length, length-take, length-drop}
 use Rattle.ascii.specs.Text.{bytes}
 use Rattle.ascii.specs.Bytes.{_>>=_, all, after, part}
 use Rattle.ascii.specs.Names.{isText}
 use Rattle.ascii.specs.Numbers.{unsigned}
 use Rattle.ascii.proofs.Lists.{both}
-use Rattle.json.proofs.ReadAgain.{Of, failed, gave, of-cond, of-bind, of-some}
+use Rattle.json.proofs.ReadAgain.{Of, failed, gave, of-cond, of-case, of-bind, of-some}
 use Rattle.datainfo.specs.Datainfo.{Datainfo}
 use Rattle.datainfo.specs.Layout.{counted, datainfoIn, datainfoAt}
 use Rattle.datainfo.specs.Rules as Datainfo
@@ -20,7 +22,7 @@ use Rattle.datainfo.specs.Rules.{goodNames}
 use Rattle.form.specs.Theorems.{InTable}
 use Rattle.form.proofs.Short.{anything}
 use Rattle.table.specs.Table.{Parameter, Command, Accessible, parameter, command, Module, Table}
-use Rattle.table.specs.Layout.{begins, flag, parameterAt, argumentAt, commandAt, accessiblesAt, noteAt, moduleAt, modulesAt, headAt, wholeTable, readTable}
+use Rattle.table.specs.Layout.{begins, flag, parameterAt, argumentAt, commandAt, accessiblesAt, noteAt, markedAt, moduleAt, modulesAt, headAt, wholeTable, readTable}
 use Rattle.table.specs.Rules.{accessibleName, ifAny, noteGood, accessibleNamesGood, moduleNamesGood}
 use Rattle.table.specs.Search.{Placed, parametersOf, commandsOf, placedFrom}
 use Rattle.sound.proofs.Lists.{Each, each-append, each-map}
@@ -101,6 +103,58 @@ whole-lies xs =
 pub table-lies : (xs : List ℕ) (w : Table) → readTable xs ≡ some w → Each ModuleLies (w .modules)
 unfolding readTable
 table-lies xs w e = of-some (rw e at (of-cond {P = λ (w : Table). Each ModuleLies (w .modules)} (leb (length xs) 16384) (whole-lies xs) failed))
+
+-- ## The text of the edition
+
+-- what is left of n bytes or less, and a text among them
+abbrev Left : {A : Type 0} → ℕ → A × List ℕ → Type 0
+Left n p = length (p .1) ≤ n
+
+abbrev pub Within : ℕ → Option (List ℕ) → Type 0
+Within n none = Unit {0}
+Within n (some x) = length x ≤ n
+
+module _ (n : ℕ) where
+  after-left : (m xs : List ℕ) → length xs ≤ n → Of (λ r. length r ≤ n) (after m xs)
+  unfolding after
+  after-left [] xs h = gave h
+  after-left (w ∷ ws) [] h = failed
+  after-left (w ∷ ws) (x ∷ xs) h = of-cond (eqb x w) (after-left ws xs (omega arith)) failed
+
+  part-left : (k : ℕ) (xs : List ℕ) → length xs ≤ n → Of (λ p. (length (p .0) ≤ n) × Left n p) (part k xs)
+  unfolding part
+  part-left k xs h = of-cond (leb k (length xs)) (gave (rw length-take (omega arith), rw length-drop (omega arith))) failed
+
+  size-left : (xs : List ℕ) → length xs ≤ n → Of (λ p. Left n p) (unsigned 1 xs)
+  unfolding unsigned
+  size-left xs h = of-bind (part-left 1 xs h) λ p q. gave (q .1)
+
+  counted-left : (xs : List ℕ) → length xs ≤ n → Of (λ p. (length (p .0) ≤ n) × Left n p) (counted xs)
+  unfolding counted
+  counted-left xs h = of-bind (size-left xs h) λ p q. part-left (p .0) (p .1) q
+
+  marked-left : (m xs : List ℕ) → length xs ≤ n → Of (λ p. Within n (p .0)) (markedAt m xs)
+  unfolding markedAt
+  marked-left m xs h =
+      of-cond (begins m xs) (of-bind (after-left m xs h) λ a q. of-bind (counted-left a q) λ p k. gave (k .0)) (gave tt)
+
+  head-left : (xs : List ℕ) → length xs ≤ n → Of (λ p. Within n (p .0 .edition)) (headAt xs)
+  unfolding headAt
+  head-left xs h =
+      of-bind (after-left (bytes "ND") xs h) λ a q. of-bind (counted-left a q) λ b k. of-bind (counted-left (b .1) (k .1)) λ c l.
+      of-bind (marked-left (bytes "ED") (c .1) (l .1)) λ d i. gave i
+
+  whole-left : (xs : List ℕ) → length xs ≤ n → Of (λ w. Within n (w .edition)) (wholeTable xs)
+  unfolding wholeTable
+  whole-left xs h =
+      of-bind (head-left xs h) λ a i. of-bind (anything (modulesAt (length xs) (length (a .1)) (a .1))) λ b _.
+      of-bind (anything (after (bytes "EN") (b .1))) λ c _. of-cond (eqb (length c) 0) (gave i) failed
+
+pub edition-within : (xs : List ℕ) (w : Table) → readTable xs ≡ some w → Within 16384 (w .edition)
+unfolding readTable
+edition-within xs w e =
+    of-some (rw e at (of-case {P = λ (w : Table). Within 16384 (w .edition)} (leb (length xs) 16384)
+    (λ h. whole-left 16384 xs (leb-true (length xs) 16384 h)) (λ h. failed)))
 
 -- ## With good names
 

@@ -14,7 +14,7 @@ use Rattle.ascii.specs.Reader.{rest}
 use Rattle.ascii.proofs.Follows.{then-same}
 use Rattle.table.specs.Layout.{begins, parameterAt, commandAt, accessiblesAt, moduleAt, modulesAt}
 use Rattle.table.specs.At.{textsAt, accessibleBegins, accessibleAt, accessiblesFrom, headingAt, modulesFrom}
-use Rattle.table.proofs.Leaves.{Within, failed, left, Rest, Ending, w-cond, w-then, r-then, r-cond, r-after, w-counted, w-flag, w-datainfo, w-unsigned, w-part, w-argument, w-note}
+use Rattle.table.proofs.Leaves.{Within, failed, left, Rest, Ending, w-cond, w-then, r-then, r-cond, r-after, w-counted, w-flag, w-datainfo, w-unsigned, w-part, w-argument, w-marked}
 
 -- at most n bytes
 pub record Short (n : ℕ) (xs : List ℕ) : Type 0 where
@@ -141,14 +141,15 @@ w-module : (k : ℕ) {n : ℕ} (xs : List ℕ) → Short (suc n) xs → Within (
 unfolding moduleAt bytes
 w-module k xs h =
     r-then (r-mark 77 (79 ∷ []) h)
-    (λ a g. w-then (w-counted shorter g) (λ p i. w-then (w-counted shorter i) (λ q j. w-then (w-note shorter j) (λ r l. w-then (w-accessibles k (length (r .1)) l) (λ d e. left e)))))
+    (λ a g. w-then (w-counted shorter g) (λ p i. w-then (w-counted shorter i) (λ q j. w-then (w-marked shorter (bytes "NO") j)
+    (λ r l. w-then (w-accessibles k (length (r .1)) l) (λ d e. left e)))))
 
 -- what a module has before its accessibles
 w-heading : {n : ℕ} (xs : List ℕ) → Short (suc n) xs → Within (Short n) (headingAt xs)
 unfolding headingAt textsAt bytes
 w-heading xs h =
     w-then (r-then (r-mark 77 (79 ∷ []) h) (λ a g. w-then (w-counted shorter g) (λ p i. w-then (w-counted shorter i) (λ q j. left j))))
-    (λ t k. w-then (w-note shorter k) (λ r l. left l))
+    (λ t k. w-then (w-marked shorter (bytes "NO") k) (λ r l. left l))
 
 -- ## One record at a position, and those that follow it
 

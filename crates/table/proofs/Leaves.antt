@@ -11,7 +11,7 @@ use Rattle.ascii.specs.Bytes.{_>>=_, after, part}
 use Rattle.ascii.specs.Numbers.{unsigned, signed}
 use Rattle.datainfo.specs.Datainfo.{Datainfo}
 use Rattle.datainfo.specs.Layout.{counted, limit, doubleAt, intAt, variants, enumAt, stringAt, arrayAt, elements, tupleAt, fields, structAt, scaledAt, blobAt, typed, datainfoIn}
-use Rattle.table.specs.Layout.{begins, flag, argumentAt, noteAt, headAt}
+use Rattle.table.specs.Layout.{begins, flag, argumentAt, markedAt, headAt}
 
 -- Q holds of what is left, if anything was read
 pub data Within {A : Type 0} (Q : List ℕ → Type 0) : Option (A × List ℕ) → Type 0 where
@@ -143,10 +143,12 @@ module _ {Q : List ℕ → Type 0} (end : Ending Q) where
   w-argument false h = left h
   w-argument true {xs} h = w-then (w-datainfo 4 xs h) (λ p g. left g)
 
-  pub w-note : {xs : List ℕ} → Q xs → Within Q (noteAt xs)
-  unfolding noteAt
-  w-note {xs} h = w-cond (begins (bytes "NO") xs) (r-then (r-after (bytes "NO") h) (λ a g. w-then (w-counted g) (λ p k. left k))) (left h)
+  pub w-marked : (m : List ℕ) {xs : List ℕ} → Q xs → Within Q (markedAt m xs)
+  unfolding markedAt
+  w-marked m {xs} h = w-cond (begins m xs) (r-then (r-after m h) (λ a g. w-then (w-counted g) (λ p k. left k))) (left h)
 
   pub w-head : {xs : List ℕ} → Q xs → Within Q (headAt xs)
   unfolding headAt
-  w-head h = r-then (r-after (bytes "ND") h) (λ a g. w-then (w-counted g) (λ p i. w-then (w-counted i) (λ q k. left k)))
+  w-head h =
+      r-then (r-after (bytes "ND") h) (λ a g. w-then (w-counted g) (λ p i. w-then (w-counted i) (λ q k.
+      w-then (w-marked (bytes "ED") k) (λ e l. left l))))

@@ -7,5 +7,6 @@ pub mod Tests
 pub mod Named
 pub mod Heads
 pub mod Whole
+pub mod Editions
 pub mod Places
 pub mod Search

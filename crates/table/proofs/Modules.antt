@@ -15,42 +15,44 @@ use Rattle.ascii.specs.Bytes.{_>>=_, isSome, after}
 use Rattle.ascii.specs.Reader.{Ends, rest}
 use Rattle.ascii.proofs.Follows.{rest-map}
 use Rattle.table.specs.Table as Table
-use Rattle.table.specs.Layout.{begins, accessiblesAt, noteAt, moduleAt, modulesAt, headAt, wholeTable, readTable}
+use Rattle.table.specs.Layout.{begins, accessiblesAt, markedAt, noteAt, editionAt, moduleAt, modulesAt, headAt, wholeTable, readTable}
 use Rattle.table.specs.declared.layout.Part.{Part}
 use Rattle.table.specs.declared.layout.Bytes as B
 use Rattle.table.specs.declared.layout.Texts as T
-use Rattle.table.specs.declared.layout.Note as N
+use Rattle.table.specs.declared.layout.Marked as N
 use Rattle.table.specs.declared.layout.ModuleAt.{ModuleAt}
 use Rattle.table.specs.declared.layout.Heading as H
 use Rattle.table.specs.declared.layout.HeadAt.{HeadAt}
 use Rattle.table.specs.declared.layout.Head as Head
-use Rattle.table.specs.At.{bytesOf, Inside, Sized, textsAt, TextsAt, accessibleBegins, accessibleAt, accessiblesFrom, NoteRead, NoteIs, headingAt, moduleOf, ModuleIs, HeadingIs, modulesFrom, headOf, HeadIs, HeadRead}
+use Rattle.table.specs.At.{bytesOf, Inside, Sized, textsAt, TextsAt, accessibleBegins, accessibleAt, accessiblesFrom, MarkedRead, MarkedIs, textIf, headingAt, moduleOf, ModuleIs, HeadingIs, modulesFrom, headOf, HeadIs, HeadRead}
 use Rattle.table.proofs.Records.{text-bad, text-is, text-inside}
 use Rattle.table.proofs.Accessibles.{goesOn, texts-then, rest-none, Got, got}
 use Rattle.table.proofs.Enough.{before, accessibles-stop, accessibles-more, accessible-less, modules-stop, modules-more, module-less}
 
--- ## The beginning of a module
+-- ## A text after a mark
 
-module _ (s : List ℕ) (at : ℕ) (n : Next) (hn : Ends s n (after (78 ∷ 79 ∷ []) (drop at s))) where
-  pub note-absent : n ≡ Bad → noteAt (drop at s) ≡ some (none, drop at s)
-  unfolding noteAt begins bytes
-  note-absent e = simp (rw e at hn)
+module _ (s mark : List ℕ) (at : ℕ) (n : Next) (hn : Ends s n (after mark (drop at s))) where
+  pub marked-absent : n ≡ Bad → markedAt mark (drop at s) ≡ some (none, drop at s)
+  unfolding markedAt begins
+  marked-absent e = simp (rw e at hn)
 
   module _ (a : ℕ) (en : n ≡ At a) (r : B.Bytes) (h : Sized s a 1 r) where
-    pub note-bad : r ≡ B.the-variants.Bad → noteAt (drop at s) ≡ none
-    unfolding noteAt begins bytes
-    note-bad e = simp ((rw en at hn) .0, text-bad s a r h e)
+    pub marked-bad : r ≡ B.the-variants.Bad → markedAt mark (drop at s) ≡ none
+    unfolding markedAt begins
+    marked-bad e = simp ((rw en at hn) .0, text-bad s a r h e)
 
-    pub note-good : (p : Part) → r ≡ B.the-variants.At p → NoteRead s at p
-    unfolding noteAt begins bytes
-    note-good p e = record { is = simp ((rw en at hn) .0, text-is s a r h p e); inside = text-inside s a r h p e }
+    pub marked-good : (p : Part) → r ≡ B.the-variants.At p → MarkedRead s mark at p
+    unfolding markedAt begins
+    marked-good p e = record { is = simp ((rw en at hn) .0, text-is s a r h p e); inside = text-inside s a r h p e }
+
+-- ## The beginning of a module
 
 module _ (s : List ℕ) (at : ℕ) (t : T.Texts) (ht : TextsAt s t (textsAt (77 ∷ 79 ∷ []) (drop at s))) where
   pub heading-untold : t ≡ T.the-variants.Bad → headingAt (drop at s) ≡ none
   unfolding headingAt bytes
   heading-untold e = simp (rw e at ht)
 
-  module _ (p q : Part) (et : t ≡ T.the-variants.At p q) (n : N.Note) (hn : NoteIs s (q .to) n) where
+  module _ (p q : Part) (et : t ≡ T.the-variants.At p q) (n : N.Marked) (hn : MarkedIs s (78 ∷ 79 ∷ []) (q .to) n) where
     pub heading-noted : (x : Part) → n ≡ N.the-variants.At x → ModuleIs s (record { name = p; description = q; noted = true; note = x; next = x .to }) (headingAt (drop at s))
     unfolding headingAt bytes moduleOf
     heading-noted x e =
@@ -178,7 +180,7 @@ module-begins s at b h = h
 module _ (s : List ℕ) (t : T.Texts) (ht : TextsAt s t (textsAt (78 ∷ 68 ∷ []) (drop 0 s))) where
   -- what the two texts are the head of
   abbrev headed : List ℕ → List ℕ → List ℕ → Option (Table.Table × List ℕ)
-  headed id text c = some (record { equipmentId = id; description = text; modules = [] }, c)
+  headed id text c = markedAt (69 ∷ 68 ∷ []) c >>= λ d. some (record { equipmentId = id; description = text; edition = d .0; modules = [] }, d .1)
 
   head-as : headAt s ≡ (textsAt (78 ∷ 68 ∷ []) (drop 0 s) >>= goesOn headed)
   unfolding headAt bytes
@@ -187,11 +189,36 @@ module _ (s : List ℕ) (t : T.Texts) (ht : TextsAt s t (textsAt (78 ∷ 68 ∷ 
   pub head-bad : t ≡ T.the-variants.Bad → headAt s ≡ none
   head-bad e = head-as ∙ rw (rw e at ht)
 
-  pub head-good : (p q : Part) → t ≡ T.the-variants.At p q → HeadIs s (record { id = p; description = q; first = q .to })
-  unfolding headOf
-  head-good p q e =
-      let x = rw e at ht in
-      record { is = head-as ∙ rw (x .is); id = x .name; description = x .description; within = x .description .within }
+  module _ (p q : Part) (e : t ≡ T.the-variants.At p q) (n : N.Marked) (hn : MarkedIs s (69 ∷ 68 ∷ []) (q .to) n) where
+    pub head-given : (x : Part) → n ≡ N.the-variants.At x → HeadIs s (record { id = p; description = q; edited = true; edition = x; first = x .to })
+    unfolding headOf
+    head-given x z =
+        let y = rw e at ht in
+        let g = rw z at hn in
+        record {
+          is = head-as ∙ rw (y .is, g .is);
+          id = y .name;
+          description = y .description;
+          edition = g .inside;
+          within = g .inside .within;
+        }
+
+    pub head-first : n ≡ N.the-variants.Nothing
+        → HeadIs s (record { id = p; description = q; edited = false; edition = record { from = q .to; to = q .to }; first = q .to })
+    unfolding headOf
+    head-first z =
+        let y = rw e at ht in
+        let w = y .description .within in
+        record {
+          is = head-as ∙ rw (y .is, rw z at hn);
+          id = y .name;
+          description = y .description;
+          edition = record { order = omega arith; within = w };
+          within = w;
+        }
+
+    pub head-unedited : n ≡ N.the-variants.Bad → headAt s ≡ none
+    head-unedited z = head-as ∙ rw ((rw e at ht) .is, rw z at hn)
 
 module _ (s : List ℕ) (r : Head.Head) (h : HeadRead s r) (q : HeadAt) (e : r ≡ Head.the-variants.Read q) where
   pub head-id : Inside s (q .id)
@@ -199,6 +226,9 @@ module _ (s : List ℕ) (r : Head.Head) (h : HeadRead s r) (q : HeadAt) (e : r �
 
   pub head-description : Inside s (q .description)
   head-description = (rw e at h) .description
+
+  pub head-edition : Inside s (q .edition)
+  head-edition = (rw e at h) .edition
 
   pub head-within : q .first ≤ length s
   head-within = (rw e at h) .within

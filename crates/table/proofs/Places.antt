@@ -17,7 +17,7 @@ use Rattle.table.specs.Table.{Parameter, Accessible, parameter, command,
 use Rattle.table.specs.Layout.{begins, parameterAt, commandAt, accessiblesAt, moduleAt, modulesAt, headAt, wholeTable, readTable}
 use Rattle.table.specs.Search.{Placed, parametersOf, placedFrom, parameters}
 use Rattle.table.proofs.Accessibles.{in-some}
-use Rattle.table.proofs.Leaves.{Within, failed, left, Rest, Ending, r-after, w-counted, w-flag, w-datainfo, w-unsigned, w-argument, w-note, w-head}
+use Rattle.table.proofs.Leaves.{Within, failed, left, Rest, Ending, r-after, w-counted, w-flag, w-datainfo, w-unsigned, w-argument, w-marked, w-head}
 
 -- ## Ends of the table, and what lies where it says
 
@@ -120,7 +120,8 @@ module _ {s : List ℕ} where
   unfolding moduleAt
   g-module h =
       g-rest (r-after ends (bytes "MO") h)
-      (λ a g. g-then (w-counted ends g) (λ p i. g-then (w-counted ends i) (λ q j. g-then (w-note ends j) (λ r l. g-on (g-accessibles (length (r .1)) l) (λ d f e. gives f e)))))
+      (λ a g. g-then (w-counted ends g) (λ p i. g-then (w-counted ends i) (λ q j. g-then (w-marked ends (bytes "NO") j)
+      (λ r l. g-on (g-accessibles (length (r .1)) l) (λ d f e. gives f e)))))
 
   g-modules : (k : ℕ) {xs : List ℕ} → End s xs → Gives s (ModulesFine s) (modulesAt (length s) k xs)
   unfolding modulesAt

@@ -17,7 +17,7 @@ use Rattle.ascii.specs.Reader.{Ends, rest}
 use Rattle.datainfo.specs.Rules.{goodNames, isBetween}
 use Rattle.table.specs.Table as Table
 use Rattle.table.specs.Layout.{begins, moduleAt, modulesAt, headAt, wholeTable, readTable, Readable, orEmpty, tableOf}
-use Rattle.table.specs.Rules.{accessibleName, accessibleCount, countsGood, namesGood, datainfosGood, initialsGood, lowest}
+use Rattle.table.specs.Rules.{accessibleName, accessibleCount, countsGood, editionGood, namesGood, datainfosGood, initialsGood, lowest}
 use Rattle.table.specs.declared.layout.ModuleAt.{ModuleAt}
 use Rattle.table.specs.declared.layout.Heading as H
 use Rattle.table.specs.declared.layout.HeadAt.{HeadAt}
@@ -25,7 +25,7 @@ use Rattle.table.specs.declared.layout.Head as Head
 use Rattle.table.specs.declared.judge.Test.the-variants.{Names, Rules, Initials}
 use Rattle.table.specs.declared.judge.Kind.the-variants.{Modules, Accessibles}
 use Rattle.table.specs.declared.judge.Members as M
-use Rattle.table.specs.At.{bytesOf, accessiblesFrom, headingAt, moduleOf, HeadingIs, modulesFrom, headOf, HeadRead}
+use Rattle.table.specs.At.{bytesOf, accessiblesFrom, headingAt, moduleOf, HeadingIs, modulesFrom, textIf, headOf, HeadRead}
 use Rattle.table.specs.Judged.{passed, modulePasses, namesFrom, howMany, ModuleHas, MembersAre, few, numberBelow6}
 use Rattle.table.proofs.Accessibles.{Got, got, in-some, rest-none}
 use Rattle.table.proofs.Enough.{before, modules-stop, modules-more, module-less}
@@ -37,6 +37,7 @@ use Rattle.table.proofs.Modules.{withThem, module-as, module-is, table-
 pub record Opened (s : List ℕ) (q : HeadAt) (t : Table.Table) : Type 0 where
   pub id : t .equipmentId ≡ bytesOf s (q .id)
   pub description : t .description ≡ bytesOf s (q .description)
+  pub edition : t .edition ≡ textIf s (q .edited) (q .edition)
   pub head : headAt s ≡ some (Table.withModules t [], drop (q .first) s)
   pub left : List ℕ
   pub modules : modulesFrom s (q .first) ≡ some (t .modules, left)
@@ -78,6 +79,7 @@ module _ (s : List ℕ) (r : Head.Head) (h : HeadRead s r) (t : Table.Table) (w 
             record {
               id = sym (ap (λ (u : Table.Table). u .equipmentId) y);
               description = sym (ap (λ (u : Table.Table). u .description) y);
+              edition = sym (ap (λ (u : Table.Table). u .edition) y);
               head = (rw e at h) .is ∙ ap (λ (u : Table.Table). some (Table.withModules u [], drop (q .first) s)) y;
               left = x;
               modules = rw (← y) g;
@@ -108,18 +110,26 @@ module _ (s : List ℕ) (r : Head.Head) (h : HeadRead s r) (t : Table.Table) (w 
       unfolding namesGood
       description-bad n = rw (x .id, x .description, ← ha, ← hb, not-false a na, not-true b n)
 
-      module _ (nb : not b ≡ false) (c : Bool) (hc : c ≡ passed goodNames (namesFrom Modules s (q .first))) where
-        unique : c ≡ goodNames (map (λ (m : Table.Module). m .name) (t .modules))
-        unfolding namesFrom
-        unique = hc ∙ rw (x .modules)
-
-        pub modules-misnamed : not c ≡ true → false ≡ namesGood t
+      module _ (nb : not b ≡ false) (g : Bool) (hg : g ≡ editionGood (textIf s (q .edited) (q .edition))) where
+        pub edition-bad : not g ≡ true → false ≡ namesGood t
         unfolding namesGood
-        modules-misnamed n = rw (x .id, x .description, ← ha, ← hb, not-false a na, not-false b nb, ← unique, not-true c n)
+        edition-bad n = rw (x .id, x .description, x .edition, ← ha, ← hb, ← hg, not-false a na, not-false b nb, not-true g n)
 
-        pub names-all : (d : Bool) → not c ≡ false → d ≡ passed (all (modulePasses Names)) (modulesFrom s (q .first)) → d ≡ namesGood t
-        unfolding namesGood modulePasses
-        names-all d n hd = rw (x .id, x .description, ← ha, ← hb, not-false a na, not-false b nb, ← unique, not-false c n) (hd ∙ rw (x .modules))
+        module _ (ng : not g ≡ false) (c : Bool) (hc : c ≡ passed goodNames (namesFrom Modules s (q .first))) where
+          unique : c ≡ goodNames (map (λ (m : Table.Module). m .name) (t .modules))
+          unfolding namesFrom
+          unique = hc ∙ rw (x .modules)
+
+          pub modules-misnamed : not c ≡ true → false ≡ namesGood t
+          unfolding namesGood
+          modules-misnamed n =
+              rw (x .id, x .description, x .edition, ← ha, ← hb, ← hg, not-false a na, not-false b nb, not-false g ng, ← unique, not-true c n)
+
+          pub names-all : (d : Bool) → not c ≡ false → d ≡ passed (all (modulePasses Names)) (modulesFrom s (q .first)) → d ≡ namesGood t
+          unfolding namesGood modulePasses
+          names-all d n hd =
+              rw (x .id, x .description, x .edition, ← ha, ← hb, ← hg, not-false a na, not-false b nb, not-false g ng, ← unique, not-false c n)
+              (hd ∙ rw (x .modules))
 
   pub datainfos-all : (d : Bool) → d ≡ passed (all (modulePasses Rules)) (modulesFrom s (q .first)) → d ≡ datainfosGood t
   unfolding datainfosGood modulePasses

@@ -11,7 +11,7 @@ use Rattle.ascii.specs.Numbers.{unsigned}
 use Rattle.datainfo.specs.Datainfo.{Datainfo}
 use Rattle.datainfo.specs.Layout.{counted, datainfoAt}
 use Rattle.table.specs.Table as Table
-use Rattle.table.specs.Layout.{begins, flag, argumentAt, parameterAt, commandAt, accessiblesAt, noteAt, modulesAt, headAt}
+use Rattle.table.specs.Layout.{begins, flag, argumentAt, parameterAt, commandAt, accessiblesAt, markedAt, noteAt, modulesAt, headAt, tableOf}
 use Rattle.table.specs.declared.layout.Part.{Part}
 use Rattle.table.specs.declared.layout.Bytes as B
 use Rattle.table.specs.declared.layout.Texts as T
@@ -20,10 +20,11 @@ use Rattle.table.specs.declared.layout.ParameterAt.{ParameterAt}
 use Rattle.table.specs.declared.layout.CommandAt.{CommandAt}
 use Rattle.table.specs.declared.layout.Accessible as A
 use Rattle.table.specs.declared.layout.ModuleAt.{ModuleAt}
-use Rattle.table.specs.declared.layout.Note as N
+use Rattle.table.specs.declared.layout.Marked as N
 use Rattle.table.specs.declared.layout.Heading as H
 use Rattle.table.specs.declared.layout.HeadAt.{HeadAt}
 use Rattle.table.specs.declared.layout.Head as Head
+use Rattle.table.specs.declared.edition.Edition as E
 
 -- the bytes of a part
 unfoldable pub bytesOf : List ℕ → Part → List ℕ
@@ -138,17 +139,23 @@ AccessibleIs s (A.the-variants.Parameter q) o = ParameterIs s q o
 AccessibleIs s (A.the-variants.Command q) o = CommandIs s q o
 AccessibleIs s A.the-variants.Bad o = o ≡ none
 
--- ## Modules
+-- ## A text after a mark
 
-pub record NoteRead (s : List ℕ) (at : ℕ) (p : Part) : Type 0 where
-  pub is : noteAt (drop at s) ≡ some (some (bytesOf s p), drop (p .to) s)
+pub record MarkedRead (s mark : List ℕ) (at : ℕ) (p : Part) : Type 0 where
+  pub is : markedAt mark (drop at s) ≡ some (some (bytesOf s p), drop (p .to) s)
   pub inside : Inside s p
 
--- the answer of a reader of a note
-abbrev pub NoteIs : List ℕ → ℕ → N.Note → Type 0
-NoteIs s at (N.the-variants.At p) = NoteRead s at p
-NoteIs s at N.the-variants.Nothing = noteAt (drop at s) ≡ some (none, drop at s)
-NoteIs s at N.the-variants.Bad = noteAt (drop at s) ≡ none
+-- the answer of a reader of a note or an edition
+abbrev pub MarkedIs : List ℕ → List ℕ → ℕ → N.Marked → Type 0
+MarkedIs s mark at (N.the-variants.At p) = MarkedRead s mark at p
+MarkedIs s mark at N.the-variants.Nothing = markedAt mark (drop at s) ≡ some (none, drop at s)
+MarkedIs s mark at N.the-variants.Bad = markedAt mark (drop at s) ≡ none
+
+-- the text of a part, where it is there
+abbrev pub textIf : List ℕ → Bool → Part → Option (List ℕ)
+textIf s there p = cond there (some (bytesOf s p)) none
+
+-- ## Modules
 
 -- a module with no accessibles yet
 unfoldable pub headingAt : List ℕ → Option (Table.Module × List ℕ)
@@ -192,16 +199,33 @@ modulesFrom s at = modulesAt (length s) (length (drop at s)) (drop at s)
 
 -- the table of whose head q has the positions, with no modules yet
 unfoldable pub headOf : List ℕ → HeadAt → Table.Table
-headOf s q = record { equipmentId = bytesOf s (q .id); description = bytesOf s (q .description); modules = [] }
+headOf s q =
+    record {
+      equipmentId = bytesOf s (q .id);
+      description = bytesOf s (q .description);
+      edition = textIf s (q .edited) (q .edition);
+      modules = [];
+    }
 
 -- q has the positions of the head of s: the first module's record begins at `first`
 pub record HeadIs (s : List ℕ) (q : HeadAt) : Type 0 where
   pub is : headAt s ≡ some (headOf s q, drop (q .first) s)
   pub id : Inside s (q .id)
   pub description : Inside s (q .description)
+  pub edition : Inside s (q .edition)
   pub within : q .first ≤ length s
 
 -- the answer of a reader of the head of s
 abbrev pub HeadRead : List ℕ → Head.Head → Type 0
 HeadRead s (Head.the-variants.Read q) = HeadIs s q
 HeadRead s Head.the-variants.Bad = headAt s ≡ none
+
+-- a part that has the text of the edition
+pub record Given (s : List ℕ) (p : Part) : Type 0 where
+  pub is : tableOf s .edition ≡ some (bytesOf s p)
+  pub inside : Inside s p
+
+-- the answer of a reader of the edition of a table that can be read
+abbrev pub EditionIs : List ℕ → E.Edition → Type 0
+EditionIs s (E.the-variants.Given p) = Given s p
+EditionIs s E.the-variants.First = tableOf s .edition ≡ none

@@ -1,5 +1,6 @@
 // What is asked of a table: its number, 1 to 5. Number 1, a table that can't be read, comes before the others, so those are asked of a table
 // that can be read.
+use crate::edition::edition_is_good;
 use crate::layout::Accessible;
 use crate::layout::CommandAt;
 use crate::layout::Head;
@@ -443,11 +444,15 @@ fn names_good(s: &[u8]) -> bool
     };
     let id = h.id;
     let description = h.description;
+    let edition = h.edition;
     let first = h.first;
     if !part_is_text(s, id) {
         return false;
     }
     if !part_is_text(s, description) {
+        return false;
+    }
+    if !edition_is_good(s, h.edited, edition) {
         return false;
     }
     if !all_named_well(s, first, Kind::Modules) {

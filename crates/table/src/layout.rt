@@ -13,7 +13,7 @@ ghost use Rattle.ascii.specs.Bytes.{after, isSome};
 ghost use Rattle.ascii.specs.Text.{bytes};
 ghost use Rattle.ascii.specs.Reader.{Ends, rest};
 ghost use Rattle.table.specs.Layout.{begins, flag, argumentAt, parameterAt, commandAt, moduleAt, readTable};
-ghost use Rattle.table.specs.At.{accessibleBegins, accessibleAt, accessiblesFrom, headingAt, modulesFrom, textsAt, Sized, TextsAt, FlagIs, AccessibleIs, NoteIs, HeadingIs, HeadRead};
+ghost use Rattle.table.specs.At.{accessibleBegins, accessibleAt, accessiblesFrom, headingAt, modulesFrom, textsAt, Sized, TextsAt, FlagIs, AccessibleIs, MarkedIs, HeadingIs, HeadRead};
 
 // The bytes from one position up to another.
 pub struct Part {
@@ -78,10 +78,12 @@ pub enum Heading {
     Bad,
 }
 
-// What stands before the modules. `first` is where the first module's record begins.
+// What stands before the modules, with the text of an `ED` record if it is edited. `first` is where the first module's record begins.
 pub struct HeadAt {
     pub id: Part,
     pub description: Part,
+    pub edited: bool,
+    pub edition: Part,
     pub first: usize,
 }
 
@@ -90,8 +92,8 @@ pub enum Head {
     Bad,
 }
 
-// A note that was read, or that there is none.
-pub enum Note {
+// A text that was read after its mark, or that the mark isn't there.
+pub enum Marked {
     At(Part),
     Nothing,
     Bad,
@@ -285,17 +287,18 @@ pub(crate) fn accessibles_end(s: &[u8], at: usize) -> Next
     Next::At(i)
 }
 
-fn note_at(s: &[u8], at: usize) -> Note
+// A text after a mark of the two bytes a and b, if the mark is there: a note, or an edition.
+fn marked_at(s: &[u8], at: usize, a: u8, b: u8) -> Marked
     requires { ⌜ at ≤ length (now s) ⌝ }
-    ensures { λ r. ⌜ NoteIs (now (s .entry)) at r ⌝ }
+    ensures { λ r. ⌜ MarkedIs (now (s .entry)) (a ∷ b ∷ []) at r ⌝ }
 {
-    let Next::At(a) = mark_end(s, at, b'N', b'O') else {
-        return Note::Nothing;
+    let Next::At(from) = mark_end(s, at, a, b) else {
+        return Marked::Nothing;
     };
-    let Bytes::At(note) = sized_at(s, a, 1) else {
-        return Note::Bad;
+    let Bytes::At(text) = sized_at(s, from, 1) else {
+        return Marked::Bad;
     };
-    Note::At(note)
+    Marked::At(text)
 }
 
 // Whether a module follows.
@@ -315,8 +318,8 @@ pub fn heading_at(s: &[u8], at: usize) -> Heading
         return Heading::Bad;
     };
     let c = description.to;
-    match note_at(s, c) {
-        Note::At(note) => {
+    match marked_at(s, c, b'N', b'O') {
+        Marked::At(note) => {
             let next = note.to;
             Heading::Read(ModuleAt {
                 name,
@@ -326,7 +329,7 @@ pub fn heading_at(s: &[u8], at: usize) -> Heading
                 next,
             })
         }
-        Note::Nothing => {
+        Marked::Nothing => {
             let note = Part { from: c, to: c };
             Heading::Read(ModuleAt {
                 name,
@@ -336,7 +339,7 @@ pub fn heading_at(s: &[u8], at: usize) -> Heading
                 next: c,
             })
         }
-        Note::Bad => Heading::Bad,
+        Marked::Bad => Heading::Bad,
     }
 }
 
@@ -373,12 +376,30 @@ pub fn head_at(s: &[u8]) -> Head
     let Texts::At(id, description) = texts_at(s, 0, b'N', b'D') else {
         return Head::Bad;
     };
-    let first = description.to;
-    Head::Read(HeadAt {
-        id,
-        description,
-        first,
-    })
+    let c = description.to;
+    match marked_at(s, c, b'E', b'D') {
+        Marked::At(edition) => {
+            let first = edition.to;
+            Head::Read(HeadAt {
+                id,
+                description,
+                edited: true,
+                edition,
+                first,
+            })
+        }
+        Marked::Nothing => {
+            let edition = Part { from: c, to: c };
+            Head::Read(HeadAt {
+                id,
+                description,
+                edited: false,
+                edition,
+                first: c,
+            })
+        }
+        Marked::Bad => Head::Bad,
+    }
 }
 
 // Whether the table's layout can be read.

@@ -69,10 +69,46 @@ pub fn all() -> Vec<Border> {
     add("report of 32,001 bytes", &with_report(32_001), 6);
     add("32,000 bytes and a note", &noted_report(32_000), 0);
     add("32,001 bytes and a note", &noted_report(32_001), 6);
+    for (name, edition, number) in editions() {
+        add(name, &with_edition(&edition), number);
+    }
     for (name, datainfo, number) in [arguments(), scaled_and_blobs()].concat() {
         add(name, &table(vec![command("c", Some(datainfo))]), number);
     }
     borders
+}
+
+/// Texts of an `ED` record at a border, with the number due.
+fn editions() -> Vec<(&'static str, String, u8)> {
+    let begun = |rest: &str| format!("ISSE,SECoP,{rest}");
+    vec![
+        ("edition that only begins", begun(""), 0),
+        ("edition with a blank", begun("V2021-02-17, v2 0"), 0),
+        ("edition of 255 bytes", begun(&"x".repeat(244)), 0),
+        ("edition without a text", String::new(), 3),
+        (
+            "edition without its last comma",
+            "ISSE,SECoP".to_string(),
+            3,
+        ),
+        ("edition that begins later", " ISSE,SECoP,".to_string(), 3),
+        ("edition in other letters", "ISSE,SECOP,x".to_string(), 3),
+        (
+            "edition of before",
+            "ISSE&SINE2020,SECoP,V2019-09-16,v1.0".to_string(),
+            3,
+        ),
+        ("edition with a quote", begun("\""), 3),
+        ("edition with a backslash", begun("\\"), 3),
+        ("edition with a byte 127", begun("\u{7f}"), 3),
+    ]
+}
+
+fn with_edition(text: &str) -> Table {
+    Table {
+        edition: Some(text.as_bytes().to_vec()),
+        ..table(Vec::new())
+    }
 }
 
 /// Datainfos at a border, with the number due.

@@ -17,6 +17,7 @@ use crate::table::{Accessible, Table};
 const LATE: u64 = MAX_TIME + 1;
 const SHORT_VALUES: usize = MIN_VALUES - 1;
 const SHORT_OUTBOX: usize = MIN_OUTBOX - 1;
+const EDITION: &str = "ISSE,SECoP,V2021-02-17,v2.0";
 
 /// A history with the name of what it shows.
 #[derive(Clone, Debug, PartialEq)]
@@ -62,6 +63,11 @@ fn over_good_tables() -> Vec<(&'static str, Script)> {
         ("a broken sensor", broken_sensor()),
         ("what ends an error", ended_errors()),
         ("refused reports of a broken sensor", refused_reports()),
+        ("busy before changed", busy_first()),
+        ("a status that does not admit busy", unadmitted()),
+        ("what nearly admits busy", nearly_admitted()),
+        ("no target and no status", other_names()),
+        ("errors of a status", broken_status()),
         ("the lowest of several numbers", lowest_numbers()),
         ("start too late", late_start()),
         ("start with a short values area", short_start()),
@@ -69,6 +75,11 @@ fn over_good_tables() -> Vec<(&'static str, Script)> {
         ("several lines in one piece", several_lines()),
         ("times that go back", earlier_times()),
         ("notes that are not told", notes()),
+        ("the next edition", next_edition()),
+        ("refused checks", refused_checks()),
+        ("checks of stored forms", checked_forms()),
+        ("checks that store nothing", idle_checks()),
+        ("checks without the record", unknown_checks()),
     ]
 }
 
@@ -466,6 +477,158 @@ fn refused_reports() -> Script {
         .unreadable(0, 4)
 }
 
+fn pair(code: Datainfo, text: Datainfo) -> Datainfo {
+    Datainfo::Tuple(vec![code, text])
+}
+
+fn codes() -> Datainfo {
+    enumeration(&[("idle", 100), ("busy", 300)])
+}
+
+fn target() -> Accessible {
+    parameter("target", digit(), "0")
+}
+
+/// A status of an enum's number and so many characters.
+fn status(most: u16) -> Accessible {
+    readonly("status", pair(codes(), string(0, most)), r#"[100,""]"#)
+}
+
+/// Whoever has the module active is told of the status before the target, who
+/// is not gets the reply alone; also where the value is the same. A refused
+/// change and a reading set no status.
+fn busy_first() -> Script {
+    started(vec![target(), status(14)])
+        .open(1)
+        .open(4)
+        .line(4, "activate t1")
+        .line(1, "change t1:target 5")
+        .line(1, "activate t1")
+        .line(4, "change t1:target 5")
+        .line(4, "change t1:target 10")
+        .reading(1, r#"[100,"there"]"#)
+        .reading(0, "5")
+        .line(1, "read t1:status")
+}
+
+/// One character less, no 300, another shape: the status stays.
+fn unadmitted() -> Script {
+    let idle = enumeration(&[("idle", 100)]);
+    let apart = structure(&[("code", codes()), ("text", string(0, 20))]);
+    let modules = vec![
+        module("a", vec![target(), status(13)]),
+        module(
+            "b",
+            vec![
+                readonly("status", pair(idle, string(0, 20)), r#"[100,""]"#),
+                target(),
+            ],
+        ),
+        module(
+            "c",
+            vec![
+                target(),
+                readonly("status", apart, r#"{"code":100,"text":""}"#),
+            ],
+        ),
+    ];
+    Script::over(encode::table(&table(modules)))
+        .start()
+        .open(0)
+        .line(0, "activate")
+        .lines(&[
+            "change a:target 1",
+            "change b:target 1",
+            "change c:target 1",
+        ])
+        .lines(&["read a:status", "read b:status", "read c:status"])
+}
+
+/// The number alone, and not one of a member; a string, and no name of an enum.
+fn nearly_admitted() -> Script {
+    let code = |min, max| Datainfo::Int { min, max };
+    let names = enumeration(&[("target", 1), ("changed", 2)]);
+    let modules = vec![
+        module(
+            "a",
+            vec![
+                target(),
+                parameter(
+                    "status",
+                    pair(code(300, 300), string(14, 14)),
+                    r#"[300,"aaaaaaaaaaaaaa"]"#,
+                ),
+            ],
+        ),
+        module(
+            "b",
+            vec![
+                target(),
+                parameter("status", pair(code(0, 299), string(0, 20)), r#"[0,""]"#),
+            ],
+        ),
+        module(
+            "c",
+            vec![
+                target(),
+                parameter("status", pair(codes(), names), "[100,1]"),
+            ],
+        ),
+    ];
+    Script::over(encode::table(&table(modules)))
+        .start()
+        .open(0)
+        .line(0, "activate")
+        .lines(&[
+            "change a:target 1",
+            "change b:target 1",
+            "change c:target 1",
+        ])
+        .line(0, r#"change a:status [300,"bbbbbbbbbbbbbb"]"#)
+}
+
+/// Names are compared with their letters' case; a command is no status, and
+/// another module's is none.
+fn other_names() -> Script {
+    let status = |name| parameter(name, pair(codes(), string(0, 14)), r#"[100,""]"#);
+    let modules = vec![
+        module(
+            "a",
+            vec![parameter("Target", digit(), "0"), status("status")],
+        ),
+        module("b", vec![target(), status("Status")]),
+        module("c", vec![target(), command("status", None)]),
+        module("d", vec![target()]),
+    ];
+    Script::over(encode::table(&table(modules)))
+        .start()
+        .open(0)
+        .line(0, "activate")
+        .lines(&[
+            "change a:Target 1",
+            "change b:target 1",
+            "change c:target 1",
+            "change d:target 1",
+        ])
+        .line(0, r#"change a:status ["busy",""]"#)
+}
+
+/// Busy ends an error; where it is not admitted, the error stays.
+fn broken_status() -> Script {
+    let modules = vec![
+        module("a", vec![target(), status(14)]),
+        module("b", vec![target(), status(13)]),
+    ];
+    Script::over(encode::table(&table(modules)))
+        .start()
+        .open(0)
+        .line(0, "activate")
+        .unreadable(1, 1)
+        .unreadable(3, 2)
+        .lines(&["change a:target 1", "change b:target 1"])
+        .lines(&["read a:status", "read b:status"])
+}
+
 /// Calls with several faults.
 fn lowest_numbers() -> Script {
     started(vec![three()])
@@ -555,6 +718,78 @@ fn notes() -> Script {
         .lines(&["describe", "activate t1", "change t1:p 4"])
 }
 
+/// A history over a module `t1` of a table with an `ED` record, started.
+fn started_edition(accessibles: Vec<Accessible>) -> Script {
+    let table = Table {
+        edition: Some(EDITION.as_bytes().to_vec()),
+        ..one_module(accessibles)
+    };
+    Script::over(encode::table(&table)).start()
+}
+
+/// The record's text is the whole identification; the report doesn't tell it.
+fn next_edition() -> Script {
+    started_edition(vec![three()]).open(0).lines(&[
+        "*IDN?",
+        "*IDN? x",
+        "check t1:p 4",
+        "describe",
+        "checks t1:p 4",
+        "Check t1:p 4",
+    ])
+}
+
+/// Errors in the order of a change's, with the specifier as it was sent.
+fn refused_checks() -> Script {
+    let value = readonly("value", digit(), "3");
+    started_edition(vec![value, three(), command("stop", None)])
+        .open(0)
+        .lines(&[
+            "check",
+            "check t1 4",
+            "check t1:9 4",
+            "check tx:p 4",
+            "check t1:stop",
+            "check t1:value {",
+            "check t1:p {",
+            "check t1:p",
+            "check t1:p:x 10",
+        ])
+}
+
+/// What is told is the stored form, under the names that were understood.
+fn checked_forms() -> Script {
+    let modes = enumeration(&[("off", 0), ("on", 1)]);
+    let pair = Datainfo::Tuple(vec![modes, digit()]);
+    started_edition(vec![parameter("pair", pair, "[0,1]")])
+        .open(0)
+        .lines(&[
+            "check t1:pair:x  [ \"on\" , 7 ] ",
+            "check t1:pair [\"On\",7]",
+            "read t1:pair",
+        ])
+}
+
+/// No order, no update, no value, no time; an error stays.
+fn idle_checks() -> Script {
+    started_edition(vec![three()])
+        .open(0)
+        .open(1)
+        .line(1, "activate")
+        .line(0, "check t1:p 4")
+        .line(0, "read t1:p")
+        .unreadable(0, 2)
+        .line(1, "check t1:p 5")
+        .line(0, "read t1:p")
+}
+
+/// Without the record it is no action, whatever its specifier and data.
+fn unknown_checks() -> Script {
+    started(vec![three()])
+        .open(0)
+        .lines(&["*IDN?", "check t1:p 4", "check tx:p {", "check"])
+}
+
 /// One table for each of the numbers 1 to 5, then tables with two faults. An
 /// open after the start answers with the same number.
 fn over_faulty_tables() -> Vec<(&'static str, Script)> {
@@ -565,6 +800,10 @@ fn over_faulty_tables() -> Vec<(&'static str, Script)> {
         ("bytes after the table's end", over(bytes_after_the_end())),
         ("no module", over(encode::table(&table(Vec::new())))),
         ("bad name", over(bad_name())),
+        ("edition after a module", over(late_edition())),
+        ("two editions", over(two_editions())),
+        ("edition that begins otherwise", over(other_edition())),
+        ("edition with a bad byte", over(odd_edition())),
         ("limits swapped", over(limits_swapped())),
         ("scale 0", over(scale_0())),
         ("unfit initial value", over(unfit_initial_value())),
@@ -586,6 +825,39 @@ fn bytes_after_the_end() -> Vec<u8> {
 
 fn bad_name() -> Vec<u8> {
     encode::table(&table(vec![module("9x", Vec::new())]))
+}
+
+const EDITION_RECORD: &[u8] = b"ED\x0bISSE,SECoP,";
+
+fn late_edition() -> Vec<u8> {
+    let mut encoded = encode::encoded(&one_module(Vec::new()));
+    let end = encoded.records[2];
+    let record = EDITION_RECORD.iter().copied();
+    encoded.bytes.splice(end..end, record);
+    encoded.bytes
+}
+
+fn two_editions() -> Vec<u8> {
+    let mut encoded = encode::encoded(&one_module(Vec::new()));
+    let first = encoded.records[1];
+    let twice = EDITION_RECORD.repeat(2);
+    encoded.bytes.splice(first..first, twice);
+    encoded.bytes
+}
+
+fn of_edition(text: &[u8]) -> Vec<u8> {
+    encode::table(&Table {
+        edition: Some(text.to_vec()),
+        ..one_module(Vec::new())
+    })
+}
+
+fn other_edition() -> Vec<u8> {
+    of_edition(b"ISSE&SINE2020,SECoP,V2019-09-16,v1.0")
+}
+
+fn odd_edition() -> Vec<u8> {
+    of_edition(b"ISSE,SECoP,\"")
 }
 
 fn limits_swapped() -> Vec<u8> {

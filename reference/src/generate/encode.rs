@@ -35,6 +35,10 @@ pub fn encoded(table: &Table) -> Encoded {
     encoded.record(b"ND");
     encoded.text(&table.equipment_id);
     encoded.text(&table.description);
+    if let Some(edition) = &table.edition {
+        encoded.record(b"ED");
+        encoded.text(edition);
+    }
     for module in &table.modules {
         encoded.module(module);
     }

@@ -3,6 +3,7 @@
 
 use super::encode;
 use super::lines;
+use super::ramps;
 use super::tables;
 use super::values;
 use crate::history::{Call, History, Player};
@@ -18,7 +19,10 @@ pub fn history(seed: u64, calls: usize) -> History {
         let table = tables::faulty(&mut random).bytes;
         return over_faulty_table(random, table, calls.min(8));
     }
-    let table = tables::good(&mut random);
+    let mut table = tables::good(&mut random);
+    if random.one_in(2) {
+        ramps::add(&mut random, &mut table);
+    }
     over_table(random, &table, calls)
 }
 

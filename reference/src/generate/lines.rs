@@ -40,7 +40,8 @@ pub fn line(random: &mut Random, table: &Table) -> Vec<u8> {
         9 => activation(random, table, "deactivate"),
         10..=15 => read(random, table),
         16..=22 if !table.commands().is_empty() || random.one_in(7) => command(random, table),
-        16..=42 => change(random, table),
+        16..=40 => change(random, table, "change"),
+        41..=42 => change(random, table, "check"),
         43 => unknown_action(random, table),
         44 => random
             .pick(&["", "", " ", "  ", "   x"])
@@ -79,10 +80,11 @@ fn read(random: &mut Random, table: &Table) -> Vec<u8> {
     [b"read ", &specifier[..], data.as_bytes()].concat()
 }
 
-fn change(random: &mut Random, table: &Table) -> Vec<u8> {
+/// A change, or a check, which is written like one.
+fn change(random: &mut Random, table: &Table, action: &str) -> Vec<u8> {
     let (specifier, datainfo) = specifier(random, table, Wanted::Parameter);
     let data = data(random, datainfo.as_ref());
-    [b"change ", &specifier[..], &data].concat()
+    [action.as_bytes(), b" ", &specifier, &data].concat()
 }
 
 fn command(random: &mut Random, table: &Table) -> Vec<u8> {
@@ -216,7 +218,8 @@ fn unknown_action(random: &mut Random, table: &Table) -> Vec<u8> {
         "*idn?",
         "describe?",
         "logging",
-        "check",
+        "Check",
+        "checked",
         "_custom",
         "update",
         "error_read",

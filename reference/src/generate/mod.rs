@@ -11,6 +11,7 @@ pub mod lines;
 pub mod names;
 pub mod nights;
 mod parts;
+mod ramps;
 mod script;
 pub mod searches;
 pub mod second;

@@ -108,6 +108,28 @@ fn text_byte(random: &mut Random) -> u8 {
     }
 }
 
+/// A text of an `ED` record, rarely as long as can be.
+pub fn edition(random: &mut Random) -> Vec<u8> {
+    let mut text = [b"ISSE,SECoP,", &text(random)[..]].concat();
+    text.truncate(255);
+    text
+}
+
+/// A text that nearly begins as that of an `ED` record does, or that has a
+/// byte that no text has.
+pub fn bad_edition(random: &mut Random) -> Vec<u8> {
+    let mut text = edition(random);
+    match random.below(5) {
+        0 => text.truncate(random.below(11)),
+        1 => text[random.below(11)] ^= 32,
+        2 => text.insert(random.below(11), b' '),
+        3 => text = b"ISSE&SINE2020,SECoP,V2019-09-16,v1.0".to_vec(),
+        _ => text.extend(bad_text(random)),
+    }
+    text.truncate(255);
+    text
+}
+
 /// A text with a byte that no text has.
 pub fn bad_text(random: &mut Random) -> Vec<u8> {
     let mut text = text(random);

@@ -8,6 +8,7 @@ pub(super) fn table(modules: Vec<Module>) -> Table {
     Table {
         equipment_id: b"s".to_vec(),
         description: Vec::new(),
+        edition: None,
         modules,
     }
 }

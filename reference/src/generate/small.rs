@@ -18,7 +18,7 @@ use crate::table::{Accessible, Module, Table};
 /// The longest value in a line.
 const MAX_VALUE: usize = 20;
 
-const SCENES: [fn(&mut Stage); 16] = [
+const SCENES: [fn(&mut Stage); 17] = [
     identification,
     description,
     ping,
@@ -35,6 +35,7 @@ const SCENES: [fn(&mut Stage); 16] = [
     refused_calls,
     cut_lines,
     odd_lines,
+    checks,
 ];
 
 /// A small history.
@@ -69,7 +70,10 @@ fn table(random: &mut Random) -> Table {
     if !second.is_empty() || random.one_in(4) {
         modules.push(module("mf", second));
     }
-    parts::table(modules)
+    Table {
+        edition: random.one_in(3).then(|| b"ISSE,SECoP,x".to_vec()),
+        ..parts::table(modules)
+    }
 }
 
 fn module(name: &str, accessibles: Vec<Accessible>) -> Module {
@@ -362,4 +366,17 @@ fn odd_lines(stage: &mut Stage) {
     stage.one_of(&["", "\r", "\r\r", " ", "  x"]);
     stage.one_of(&["ping \u{7f}", "ping\t1", "\u{80}", "ping x\r\r", "a\0"]);
     stage.one_of(&["x y z", "read  t1:value", " ", "_custom", "error_ x"]);
+}
+
+/// Checks of some parameter; without an `ED` record they are unknown.
+fn checks(stage: &mut Stage) {
+    stage.one_of(&["*IDN?", "*IDN? x"]);
+    let (_, specifier, datainfo) = stage.some_parameter(false);
+    for make in [values::sent, values::nearly_fitting, values::any] {
+        let value = stage.short_value(&datainfo, make);
+        let request = format!("check {specifier} ");
+        stage.line(0, [request.as_bytes(), &value].concat());
+    }
+    stage.line(0, format!("read {specifier}"));
+    stage.one_of(&["check tx:value 1", "check t1:tx 1", "check", "check t1"]);
 }

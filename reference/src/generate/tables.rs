@@ -82,6 +82,7 @@ fn draft(random: &mut Random) -> Table {
     Table {
         equipment_id: names::text(random),
         description: names::text(random),
+        edition: random.one_in(3).then(|| names::edition(random)),
         modules,
     }
 }
@@ -258,7 +259,7 @@ fn wrong_counts(random: &mut Random, table: &mut Table) {
 }
 
 fn bad_name_or_text(random: &mut Random, table: &mut Table) {
-    match random.below(10) {
+    match random.below(11) {
         0 => table.equipment_id = names::bad_text(random),
         1 => table.description = names::bad_text(random),
         2 => some_module(random, table).description = names::bad_text(random),
@@ -274,6 +275,7 @@ fn bad_name_or_text(random: &mut Random, table: &mut Table) {
             add_command(random, table, None);
             change_last_accessible(table, |one| one.description = names::bad_text(random));
         }
+        9 => table.edition = Some(names::bad_edition(random)),
         _ if random.one_in(2) => add_command(random, table, Some(datainfos::with_bad_name)),
         _ => {
             let datainfo = datainfos::with_bad_name(random);
@@ -378,7 +380,7 @@ fn with_broken_layout(random: &mut Random, table: &mut Table) -> Vec<u8> {
 
 fn break_layout(random: &mut Random, table: &mut Encoded) {
     let record = *random.pick(&table.records);
-    match random.below(8) {
+    match random.below(9) {
         0..=1 => {
             let length = random.below(table.bytes.len());
             table.bytes.truncate(length);
@@ -397,6 +399,7 @@ fn break_layout(random: &mut Random, table: &mut Encoded) {
         }
         5 => table.bytes[record] = table.bytes[record].to_ascii_lowercase(),
         6 => insert(table, record, b"ND\0\0"),
+        7 => insert_edition(random, table),
         _ => insert_note(random, table),
     }
 }
@@ -415,6 +418,17 @@ fn insert_note(random: &mut Random, table: &mut Encoded) {
         .collect();
     let at = *random.pick(&not_after_module);
     insert(table, at, b"NO\x01n");
+}
+
+/// An edition that doesn't stand straight after the head, or a second one.
+fn insert_edition(random: &mut Random, table: &mut Encoded) {
+    let edited = table.bytes[table.records[1]..].starts_with(b"ED");
+    let first = if edited { 1 } else { 2 };
+    let at = match table.records.get(first..) {
+        Some(later) if !later.is_empty() => *random.pick(later),
+        _ => 0,
+    };
+    insert(table, at, b"ED\x0bISSE,SECoP,");
 }
 
 /// A good table with some bytes changed at random.

@@ -16,6 +16,10 @@ pub fn nd(equipment_id: &str, description: &str) -> Vec<u8> {
     [b"ND".to_vec(), texts.concat()].concat()
 }
 
+pub fn ed(text_of_record: &str) -> Vec<u8> {
+    [b"ED".to_vec(), text(text_of_record.as_bytes())].concat()
+}
+
 pub fn mo(name: &str, description: &str) -> Vec<u8> {
     let texts = [text(name.as_bytes()), text(description.as_bytes())];
     [b"MO".to_vec(), texts.concat()].concat()

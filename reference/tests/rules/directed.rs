@@ -635,6 +635,194 @@ fn refused_reports_of_a_broken_sensor() {
 }
 
 #[test]
+fn busy_before_changed() {
+    assert_course(
+        "busy before changed",
+        r#"
+        @1000 start
+        @2000 open 1
+        @3000 open 4
+        @4000 4 > activate t1\n
+        4 * update t1:target [0,{"t":1.000}]
+        4 * update t1:status [[100,""],{"t":1.000}]
+        4 < active t1
+        @5000 1 > change t1:target 5\n
+        1 DR 0 5
+        4 * update t1:status [[300,"target changed"],{"t":5.000}]
+        4 * update t1:target [5,{"t":5.000}]
+        1 < changed t1:target [5,{"t":5.000}]
+        @6000 1 > activate t1\n
+        1 * update t1:target [5,{"t":5.000}]
+        1 * update t1:status [[300,"target changed"],{"t":5.000}]
+        1 < active t1
+        @7000 4 > change t1:target 5\n
+        4 DR 0 5
+        1 * update t1:status [[300,"target changed"],{"t":7.000}]
+        4 * update t1:status [[300,"target changed"],{"t":7.000}]
+        1 * update t1:target [5,{"t":7.000}]
+        4 * update t1:target [5,{"t":7.000}]
+        4 < changed t1:target [5,{"t":7.000}]
+        @8000 4 > change t1:target 10\n
+        4 < error_change t1:target ["RangeError","value is out of range",{}]
+        @9000 reading 1 [100,"there"]
+        1 * update t1:status [[100,"there"],{"t":9.000}]
+        4 * update t1:status [[100,"there"],{"t":9.000}]
+        @10000 reading 0 5
+        1 * update t1:target [5,{"t":10.000}]
+        4 * update t1:target [5,{"t":10.000}]
+        @11000 1 > read t1:status\n
+        1 < reply t1:status [[100,"there"],{"t":9.000}]
+        "#,
+    );
+}
+
+#[test]
+fn a_status_that_does_not_admit_busy() {
+    assert_course(
+        "a status that does not admit busy",
+        r#"
+        @1000 start
+        @2000 open 0
+        @3000 0 > activate\n
+        0 * update a:target [0,{"t":1.000}]
+        0 * update a:status [[100,""],{"t":1.000}]
+        0 * update b:status [[100,""],{"t":1.000}]
+        0 * update b:target [0,{"t":1.000}]
+        0 * update c:target [0,{"t":1.000}]
+        0 * update c:status [{"code":100,"text":""},{"t":1.000}]
+        0 < active
+        @4000 0 > change a:target 1\n
+        0 DR 0 1
+        0 * update a:target [1,{"t":4.000}]
+        0 < changed a:target [1,{"t":4.000}]
+        @5000 0 > change b:target 1\n
+        0 DR 3 1
+        0 * update b:target [1,{"t":5.000}]
+        0 < changed b:target [1,{"t":5.000}]
+        @6000 0 > change c:target 1\n
+        0 DR 4 1
+        0 * update c:target [1,{"t":6.000}]
+        0 < changed c:target [1,{"t":6.000}]
+        @7000 0 > read a:status\n
+        0 < reply a:status [[100,""],{"t":1.000}]
+        @8000 0 > read b:status\n
+        0 < reply b:status [[100,""],{"t":1.000}]
+        @9000 0 > read c:status\n
+        0 < reply c:status [{"code":100,"text":""},{"t":1.000}]
+        "#,
+    );
+}
+
+#[test]
+fn what_nearly_admits_busy() {
+    assert_course(
+        "what nearly admits busy",
+        r#"
+        @1000 start
+        @2000 open 0
+        @3000 0 > activate\n
+        0 * update a:target [0,{"t":1.000}]
+        0 * update a:status [[300,"aaaaaaaaaaaaaa"],{"t":1.000}]
+        0 * update b:target [0,{"t":1.000}]
+        0 * update b:status [[0,""],{"t":1.000}]
+        0 * update c:target [0,{"t":1.000}]
+        0 * update c:status [[100,1],{"t":1.000}]
+        0 < active
+        @4000 0 > change a:target 1\n
+        0 DR 0 1
+        0 * update a:status [[300,"target changed"],{"t":4.000}]
+        0 * update a:target [1,{"t":4.000}]
+        0 < changed a:target [1,{"t":4.000}]
+        @5000 0 > change b:target 1\n
+        0 DR 2 1
+        0 * update b:target [1,{"t":5.000}]
+        0 < changed b:target [1,{"t":5.000}]
+        @6000 0 > change c:target 1\n
+        0 DR 4 1
+        0 * update c:target [1,{"t":6.000}]
+        0 < changed c:target [1,{"t":6.000}]
+        @7000 0 > change a:status [300,"bbbbbbbbbbbbbb"]\n
+        0 DR 1 [300,"bbbbbbbbbbbbbb"]
+        0 * update a:status [[300,"bbbbbbbbbbbbbb"],{"t":7.000}]
+        0 < changed a:status [[300,"bbbbbbbbbbbbbb"],{"t":7.000}]
+        "#,
+    );
+}
+
+#[test]
+fn no_target_and_no_status() {
+    assert_course(
+        "no target and no status",
+        r#"
+        @1000 start
+        @2000 open 0
+        @3000 0 > activate\n
+        0 * update a:Target [0,{"t":1.000}]
+        0 * update a:status [[100,""],{"t":1.000}]
+        0 * update b:target [0,{"t":1.000}]
+        0 * update b:Status [[100,""],{"t":1.000}]
+        0 * update c:target [0,{"t":1.000}]
+        0 * update d:target [0,{"t":1.000}]
+        0 < active
+        @4000 0 > change a:Target 1\n
+        0 DR 0 1
+        0 * update a:Target [1,{"t":4.000}]
+        0 < changed a:Target [1,{"t":4.000}]
+        @5000 0 > change b:target 1\n
+        0 DR 2 1
+        0 * update b:target [1,{"t":5.000}]
+        0 < changed b:target [1,{"t":5.000}]
+        @6000 0 > change c:target 1\n
+        0 DR 4 1
+        0 * update c:target [1,{"t":6.000}]
+        0 < changed c:target [1,{"t":6.000}]
+        @7000 0 > change d:target 1\n
+        0 DR 5 1
+        0 * update d:target [1,{"t":7.000}]
+        0 < changed d:target [1,{"t":7.000}]
+        @8000 0 > change a:status ["busy",""]\n
+        0 DR 1 [300,""]
+        0 * update a:status [[300,""],{"t":8.000}]
+        0 < changed a:status [[300,""],{"t":8.000}]
+        "#,
+    );
+}
+
+#[test]
+fn errors_of_a_status() {
+    assert_course(
+        "errors of a status",
+        r#"
+        @1000 start
+        @2000 open 0
+        @3000 0 > activate\n
+        0 * update a:target [0,{"t":1.000}]
+        0 * update a:status [[100,""],{"t":1.000}]
+        0 * update b:target [0,{"t":1.000}]
+        0 * update b:status [[100,""],{"t":1.000}]
+        0 < active
+        @4000 unreadable 1 1
+        0 * error_update a:status ["HardwareError","HardwareError",{"t":4.000}]
+        @5000 unreadable 3 2
+        0 * error_update b:status ["CommunicationFailed","CommunicationFailed",{"t":5.000}]
+        @6000 0 > change a:target 1\n
+        0 DR 0 1
+        0 * update a:status [[300,"target changed"],{"t":6.000}]
+        0 * update a:target [1,{"t":6.000}]
+        0 < changed a:target [1,{"t":6.000}]
+        @7000 0 > change b:target 1\n
+        0 DR 2 1
+        0 * update b:target [1,{"t":7.000}]
+        0 < changed b:target [1,{"t":7.000}]
+        @8000 0 > read a:status\n
+        0 < reply a:status [[300,"target changed"],{"t":6.000}]
+        @9000 0 > read b:status\n
+        0 < error_read b:status ["CommunicationFailed","CommunicationFailed",{"t":5.000}]
+        "#,
+    );
+}
+
+#[test]
 fn the_lowest_of_several_numbers() {
     assert_course(
         "the lowest of several numbers",
@@ -778,6 +966,20 @@ fn tables_with_one_fault() {
     assert_faulty("bytes after the table's end", &[front, module, end, end], 1);
     assert_faulty("no module", &[front, end], 2);
     assert_faulty("bad name", &[front, b"MO\x029x\x00", end], 3);
+    let edition: &[u8] = b"ED\x0bISSE,SECoP,";
+    assert_faulty("edition after a module", &[front, module, edition, end], 1);
+    assert_faulty("two editions", &[front, edition, edition, module, end], 1);
+    let other = [b"ED\x24", &b"ISSE&SINE2020,SECoP,V2019-09-16,v1.0"[..]].concat();
+    assert_faulty(
+        "edition that begins otherwise",
+        &[front, &other, module, end],
+        3,
+    );
+    assert_faulty(
+        "edition with a bad byte",
+        &[front, b"ED\x0cISSE,SECoP,\"", module, end],
+        3,
+    );
     let swapped = [&[0; 7][..], &[1], &[0; 8]].concat();
     let command = b"CM\x01c\x00\x01\x02";
     assert_faulty(
@@ -911,6 +1113,119 @@ fn scaled_and_blobs_inside() {
         0 < error_do t1:go ["WrongType","value has the wrong type",{}]
         @6000 0 > do t1:go {"s":9,"b":["Zm9v"]}\n
         0 < error_do t1:go ["RangeError","value is out of range",{}]
+        "#,
+    );
+}
+
+#[test]
+fn the_next_edition() {
+    assert_course(
+        "the next edition",
+        r#"
+        @1000 start
+        @2000 open 0
+        @3000 0 > *IDN?\n
+        0 < ISSE,SECoP,V2021-02-17,v2.0
+        @4000 0 > *IDN? x\n
+        0 < ISSE,SECoP,V2021-02-17,v2.0
+        @5000 0 > check t1:p 4\n
+        0 < checked t1:p [4,{"t":5.000}]
+        @6000 0 > describe\n
+        0 < describing . {"modules":{"t1":{"interface_classes":[],"description":"","accessibles":{"p":{"description":"","readonly":false,"datainfo":{"type":"int","min":0,"max":9}}}}},"equipment_id":"s","description":""}
+        @7000 0 > checks t1:p 4\n
+        0 < error_checks t1:p ["ProtocolError","malformed or unknown request",{}]
+        @8000 0 > Check t1:p 4\n
+        0 < error_Check t1:p ["ProtocolError","malformed or unknown request",{}]
+        "#,
+    );
+}
+
+#[test]
+fn refused_checks() {
+    assert_course(
+        "refused checks",
+        r#"
+        @1000 start
+        @2000 open 0
+        @3000 0 > check\n
+        0 < error_check  ["ProtocolError","malformed or unknown request",{}]
+        @4000 0 > check t1 4\n
+        0 < error_check t1 ["ProtocolError","malformed or unknown request",{}]
+        @5000 0 > check t1:9 4\n
+        0 < error_check t1:9 ["ProtocolError","malformed or unknown request",{}]
+        @6000 0 > check tx:p 4\n
+        0 < error_check tx:p ["NoSuchModule","no such module",{}]
+        @7000 0 > check t1:stop\n
+        0 < error_check t1:stop ["NoSuchParameter","no such parameter",{}]
+        @8000 0 > check t1:value {\n
+        0 < error_check t1:value ["ReadOnly","parameter is read only",{}]
+        @9000 0 > check t1:p {\n
+        0 < error_check t1:p ["BadJSON","data is not JSON",{}]
+        @10000 0 > check t1:p\n
+        0 < error_check t1:p ["WrongType","value has the wrong type",{}]
+        @11000 0 > check t1:p:x 10\n
+        0 < error_check t1:p:x ["RangeError","value is out of range",{}]
+        "#,
+    );
+}
+
+#[test]
+fn checks_of_stored_forms() {
+    assert_course(
+        "checks of stored forms",
+        r#"
+        @1000 start
+        @2000 open 0
+        @3000 0 > check t1:pair:x  [ "on" , 7 ] \n
+        0 < checked t1:pair [[1,7],{"t":3.000}]
+        @4000 0 > check t1:pair ["On",7]\n
+        0 < error_check t1:pair ["RangeError","value is out of range",{}]
+        @5000 0 > read t1:pair\n
+        0 < reply t1:pair [[0,1],{"t":1.000}]
+        "#,
+    );
+}
+
+#[test]
+fn checks_that_store_nothing() {
+    assert_course(
+        "checks that store nothing",
+        r#"
+        @1000 start
+        @2000 open 0
+        @3000 open 1
+        @4000 1 > activate\n
+        1 * update t1:p [3,{"t":1.000}]
+        1 < active
+        @5000 0 > check t1:p 4\n
+        0 < checked t1:p [4,{"t":5.000}]
+        @6000 0 > read t1:p\n
+        0 < reply t1:p [3,{"t":1.000}]
+        @7000 unreadable 0 2
+        1 * error_update t1:p ["CommunicationFailed","CommunicationFailed",{"t":7.000}]
+        @8000 1 > check t1:p 5\n
+        1 < checked t1:p [5,{"t":8.000}]
+        @9000 0 > read t1:p\n
+        0 < error_read t1:p ["CommunicationFailed","CommunicationFailed",{"t":7.000}]
+        "#,
+    );
+}
+
+#[test]
+fn checks_without_the_record() {
+    assert_course(
+        "checks without the record",
+        r#"
+        @1000 start
+        @2000 open 0
+        @3000 0 > *IDN?\n
+        0 < ISSE&SINE2020,SECoP,V2019-09-16,v1.0
+        @4000 0 > check t1:p 4\n
+        0 < error_check t1:p ["ProtocolError","malformed or unknown request",{}]
+        @5000 0 > check tx:p {\n
+        0 < error_check tx:p ["ProtocolError","malformed or unknown request",{}]
+        @6000 0 > check\n
+        0 < error_check  ["ProtocolError","malformed or unknown request",{}]
         "#,
     );
 }

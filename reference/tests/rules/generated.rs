@@ -9,9 +9,10 @@ use reference::generate::{
 };
 use reference::history::{Call, History};
 use reference::json;
-use reference::outbox::{Mark, Record};
+use reference::node::BUSY;
+use reference::outbox::{self, Mark, Record};
 use reference::random::Random;
-use reference::table::Table;
+use reference::table::{Parameter, Table};
 use reference::value::{judge, ValueFault};
 use std::collections::BTreeSet;
 
@@ -245,6 +246,46 @@ fn histories_hold_together() {
     assert_records_of_all_kinds(&all.records);
 }
 
+/// Targets are changed with a status that becomes busy, seen by somebody or
+/// not, and without.
+#[test]
+fn histories_change_targets() {
+    let (mut seen, mut unseen, mut without) = (0, 0, 0);
+    for history in some_histories() {
+        let outcome = history.run().expect("it begins with a start");
+        let Ok(table) = Table::judge(&history.table) else {
+            continue;
+        };
+        for answer in &outcome.answers {
+            let records = outbox::read(&answer.outbox).expect("nothing but records");
+            let Some(module) = records.last().and_then(changed_target) else {
+                continue;
+            };
+            let told = |one: &Record| line_of(one).contains(r#":status [[300,"target changed"]"#);
+            let admits = |one: &Parameter| {
+                let is_status = one.name == b"status" && one.module_name == module.as_bytes();
+                is_status && judge(one.datainfo, BUSY).is_ok()
+            };
+            let busy = table.parameters().iter().any(admits);
+            let updates = records.iter().filter(|one| one.mark == Mark::Update);
+            match (busy, updates.clone().any(told)) {
+                (true, true) => seen += 1,
+                (true, false) => unseen += 1,
+                (false, told) => without += usize::from(!told),
+            }
+        }
+    }
+    let all = (seen, unseen, without);
+    assert!(seen > 10 && unseen > 10 && without > 10, "{all:?}");
+}
+
+/// The module whose target a record says to be changed.
+fn changed_target(record: &Record) -> Option<String> {
+    let line = String::from_utf8(record.body.clone()).ok()?;
+    let specifier = line.strip_prefix("changed ")?.split(' ').next()?;
+    Some(specifier.strip_suffix(":target")?.to_string())
+}
+
 /// Where a table has notes, a node answers and ends as on the table without
 /// them.
 #[test]
@@ -284,12 +325,14 @@ fn assert_records_of_all_kinds(records: &[Record]) {
         .collect();
     let fronts = [
         "ISSE&SINE2020,",
+        "ISSE,SECoP,",
         "describing . {",
         "pong ",
         "active",
         "inactive",
         "reply ",
         "changed ",
+        "checked ",
         "done ",
         "error_read ",
     ];
@@ -517,5 +560,5 @@ fn the_same_seed_gives_the_same_and_another_seed_another() {
     assert_eq!(histories::history(3, 50), histories::history(3, 50));
     assert_ne!(histories::history(3, 50), histories::history(4, 50));
     assert_eq!(small::history(3), small::history(3));
-    assert_ne!(small::history(3), small::history(3 + 16));
+    assert_ne!(small::history(3), small::history(3 + 17));
 }

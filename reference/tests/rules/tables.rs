@@ -112,6 +112,69 @@ fn number_1_records_out_of_place() {
 }
 
 #[test]
+fn number_1_an_edition_out_of_place() {
+    let (module, note, command) = (mo("m", ""), no(""), cm("c", ""));
+    let edition = ed("ISSE,SECoP,V2021-02-17,v2.0");
+    let good = table(&[edition.clone(), module.clone(), note.clone()]);
+    assert_eq!(number(&good), 0);
+    for length in 0..good.len() {
+        assert_eq!(number(&good[..length]), 1, "cut to {length} bytes");
+    }
+    let faulty = [
+        [edition.clone(), nd("", ""), module.clone(), en()].concat(),
+        table(&[edition.clone(), edition.clone(), module.clone()]),
+        table(&[module.clone(), edition.clone()]),
+        table(&[module.clone(), edition.clone(), note.clone()]),
+        table(&[module.clone(), note, edition.clone()]),
+        table(&[module.clone(), command.clone(), edition.clone()]),
+        table(&[module.clone(), edition.clone(), command]),
+        [table(&[module.clone()]), edition].concat(),
+        table(&[b"ed\x0bISSE,SECoP,".to_vec(), module]),
+    ];
+    for bytes in faulty {
+        assert_eq!(number(&bytes), 1, "{bytes:?}");
+    }
+}
+
+#[test]
+fn number_3_an_edition_that_begins_otherwise() {
+    let number_of = |text: &str| number(&table(&[ed(text), mo("m", "")]));
+    let longest = format!("ISSE,SECoP,{}", "x".repeat(244));
+    for good in [
+        "ISSE,SECoP,",
+        "ISSE,SECoP,V2021-02-17,v2.0",
+        "ISSE,SECoP, a b",
+        &longest,
+    ] {
+        assert_eq!(number_of(good), 0, "{good}");
+    }
+    let faulty = [
+        "",
+        "ISSE,SECoP",
+        "ISSE",
+        " ISSE,SECoP,",
+        "isse,SECoP,",
+        "ISSE,SECOP,",
+        "ISSE;SECoP,",
+        "ISSE,SECoP;",
+        "SINE2020&ISSE,SECoP,",
+        "ISSE&SINE2020,SECoP,V2019-09-16,v1.0",
+        // It begins as it should, and is no text.
+        "ISSE,SECoP,\"",
+        "ISSE,SECoP,\\",
+        "ISSE,SECoP,\n",
+        "ISSE,SECoP,\u{7f}",
+    ];
+    for text in faulty {
+        assert_eq!(number_of(text), 3, "{text:?}");
+    }
+    // Counts are judged before it, datainfos after it.
+    assert_eq!(number(&table(&[ed("x")])), 2);
+    let limits = cm_with("c", "", &int(1, 0));
+    assert_eq!(number(&table(&[ed("x"), mo("m", ""), limits])), 3);
+}
+
+#[test]
 fn number_1_flags_and_types() {
     for flag in [2, 3, 127, 128, 255] {
         let parameter = pa("p", "", flag, &boolean(), b"true");

@@ -6,6 +6,7 @@ use reference::history::{Answer, Call, History, Player};
 use reference::node::{seconds, CLIENTS};
 use reference::outbox::{self, Mark, Record};
 use reference::table::Table;
+use reference::value::judge;
 
 /// What the watcher knows.
 struct Watcher {
@@ -13,6 +14,8 @@ struct Watcher {
     modules: Vec<String>,
     /// For each parameter its specifier and its report, of a value or an error.
     parameters: Vec<(String, String)>,
+    /// The specifiers of the statuses that become busy.
+    statuses: Vec<String>,
     open: [bool; CLIENTS],
     /// For each client, which modules it has active.
     active: [Vec<bool>; CLIENTS],
@@ -85,6 +88,13 @@ impl Watcher {
     fn new(table: &Table, start_time: u64) -> Watcher {
         let text = |bytes: &[u8]| String::from_utf8(bytes.to_vec()).expect("ASCII");
         let parameters = table.parameters();
+        let statuses = parameters.iter().filter(|one| {
+            let busy = br#"[300,"target changed"]"#;
+            one.name == b"status" && judge(one.datainfo, busy) == Ok(busy.to_vec())
+        });
+        let statuses = statuses
+            .map(|one| text(one.module_name) + ":status")
+            .collect();
         let parameters = parameters.iter().map(|one| {
             let specifier = format!("{}:{}", text(one.module_name), text(one.name));
             let report = format!("[{},{{\"t\":{}}}]", text(one.initial), seconds(start_time));
@@ -93,6 +103,7 @@ impl Watcher {
         Watcher {
             modules: table.modules.iter().map(|one| text(&one.name)).collect(),
             parameters: parameters.collect(),
+            statuses,
             open: [false; CLIENTS],
             active: std::array::from_fn(|_| vec![false; table.modules.len()]),
         }
@@ -227,12 +238,20 @@ impl Watcher {
                 let names = [parts.next(), parts.next()].map(Option::unwrap).join(":");
                 assert_eq!(self.parameters[self.number_of(&names)].1, report);
             }
+            // What was told of the parameter stays as it was.
+            ["checked", specifier, report] => {
+                assert!(before.is_empty());
+                self.number_of(specifier);
+                assert!(report.ends_with(&format!(",{{\"t\":{}}}]", seconds(time))));
+            }
             ["pong", _, report] => {
                 assert!(before.is_empty());
                 assert_eq!(report, format!("[null,{{\"t\":{}}}]", seconds(time)));
             }
             _ => {
-                let identification = line.starts_with("ISSE&SINE2020,SECoP,");
+                let identification = ["ISSE&SINE2020,SECoP,", "ISSE,SECoP,"]
+                    .iter()
+                    .any(|front| line.starts_with(front));
                 let description = line.starts_with("describing . {\"modules\":{");
                 let error = line.starts_with("error_") && line.ends_with("\",{}]");
                 assert!(identification || description || error, "{line}");
@@ -263,7 +282,31 @@ impl Watcher {
         assert_eq!(usize::from(order.body[0]), number);
         assert_eq!(report, format!("[{value},{{\"t\":{}}}]", seconds(time)));
         self.parameters[number].1 = report.to_string();
+        let updates = self.follow_busy(specifier, time, updates);
         self.expect_updates(number, updates);
+    }
+
+    /// The status that becomes busy before this parameter, if there is one, is
+    /// told first; what is left tells of the parameter.
+    fn follow_busy<'a>(
+        &mut self,
+        specifier: &str,
+        time: u64,
+        updates: &'a [Record],
+    ) -> &'a [Record] {
+        let Some(module) = specifier.strip_suffix(":target") else {
+            return updates;
+        };
+        let status = format!("{module}:status");
+        if !self.statuses.contains(&status) {
+            return updates;
+        }
+        let number = self.number_of(&status);
+        let report = format!("[[300,\"target changed\"],{{\"t\":{}}}]", seconds(time));
+        self.parameters[number].1 = report;
+        let (first, rest) = updates.split_at(updates.len() / 2);
+        self.expect_updates(number, first);
+        rest
     }
 
     /// An activation sends the known reports of its modules' parameters.

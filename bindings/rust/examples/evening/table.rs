@@ -31,6 +31,14 @@ impl Table {
         table.record(b"ND", equipment_id, description)
     }
 
+    /// `ED`: the whole identification of the next edition, straight after `ND`.
+    /// It begins with `ISSE,SECoP,`, and switches `check` on.
+    pub fn edition(mut self, text: &str) -> Table {
+        self.bytes.extend_from_slice(b"ED");
+        self.bytes.extend(counted(text));
+        self
+    }
+
     /// `MO`: the parameters and commands that follow belong to it.
     pub fn module(mut self, name: &str, description: &str) -> Table {
         self.module = name.to_string();
@@ -103,6 +111,21 @@ pub fn double(min: i64, max: i64) -> Vec<u8> {
 /// The datainfo of an int: type 2.
 pub fn int(min: i64, max: i64) -> Vec<u8> {
     [&[2], min.to_be_bytes().as_slice(), &max.to_be_bytes()].concat()
+}
+
+/// The datainfo of a tuple of two: type 7.
+pub fn pair(first: &[u8], second: &[u8]) -> Vec<u8> {
+    [&[7, 2], first, second].concat()
+}
+
+/// The datainfo of a string: type 5.
+pub fn string(minchars: u16, maxchars: u16) -> Vec<u8> {
+    [
+        &[5],
+        minchars.to_be_bytes().as_slice(),
+        &maxchars.to_be_bytes(),
+    ]
+    .concat()
 }
 
 /// The datainfo of an enum: type 4.

@@ -21,6 +21,7 @@ pub(super) fn all(course: &mut Course) {
     actions(course);
     errors(course);
     broken_sensors(course);
+    editions(course);
 }
 
 fn kelvin() -> Datainfo {
@@ -29,9 +30,13 @@ fn kelvin() -> Datainfo {
 
 /// Modules `t1`, `idle` and `mf`, with parameters and commands of most kinds.
 fn lab() -> Vec<u8> {
+    encode::table(&lab_table())
+}
+
+fn lab_table() -> Table {
     let status = Datainfo::Tuple(vec![Datainfo::Int { min: 0, max: 999 }, string(0, 40)]);
     let modes = enumeration(&[("off", 0), ("on", 1)]);
-    encode::table(&table(vec![
+    table(vec![
         module(
             "t1",
             vec![
@@ -53,7 +58,7 @@ fn lab() -> Vec<u8> {
                 command("stop", None),
             ],
         ),
-    ]))
+    ])
 }
 
 /// E9 to E12.
@@ -109,6 +114,7 @@ fn report_table() -> Table {
     Table {
         equipment_id: b"demo".to_vec(),
         description: b"one stage".to_vec(),
+        edition: None,
         modules: vec![stage],
     }
 }
@@ -370,5 +376,58 @@ fn broken_sensors(course: &mut Course) {
     course.start();
     course.open(0);
     course.lines(0, &["read t1:value", "activate"]);
+    course.show();
+}
+
+/// The same lines over the table with an `ED` record, and without.
+fn editions(course: &mut Course) {
+    let longest = format!("ISSE,SECoP,{}", "x".repeat(244));
+    let texts = ["ISSE,SECoP,V2021-02-17,v2.0", "ISSE,SECoP,", &longest];
+    for text in texts {
+        let mut table = lab_table();
+        table.edition = Some(text.as_bytes().to_vec());
+        course.started("the next edition", &encode::table(&table));
+        checks(course);
+    }
+    course.started("the edition of before", &lab());
+    checks(course);
+}
+
+fn checks(course: &mut Course) {
+    for client in [0, 4] {
+        course.open(client);
+    }
+    course.line(4, "activate");
+    course.lines(0, &["*IDN?", "*IDN? x y", "describe"]);
+    course.lines(
+        0,
+        &[
+            "check mf:target 12",
+            "check mf:target:x  -3 ",
+            "check mf:mode \"on\"",
+            "check t1:target 3e2",
+            "change mf:target 13",
+            "check mf:target 13",
+            "check mf:target 1.5",
+            "check mf:target {",
+            "check mf:target",
+            "check mf:label \"a\\u0020b\"",
+            "check t1:value {",
+            "check t1:stop",
+            "check t1:x 1",
+            "check tx:x 1",
+            "check t1 1",
+            "check 1:2",
+            "check",
+            "Check mf:target 1",
+        ],
+    );
+    // Too long for a stored form, by one byte, and just not.
+    for length in [253, 254, 255] {
+        let text = "y".repeat(length);
+        course.line(0, &format!("check mf:label \"{text}\""));
+    }
+    course.unreadable(3, 2);
+    course.lines(0, &["check mf:target 4", "read mf:target"]);
     course.show();
 }

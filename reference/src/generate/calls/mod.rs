@@ -6,6 +6,7 @@ mod course;
 mod exchanges;
 mod long;
 mod pokes;
+mod ramps;
 mod refusals;
 mod unfit;
 
@@ -38,6 +39,7 @@ pub fn changes(seed: u64) -> Vec<Operation> {
 fn fixed() -> Course {
     let mut course = Course::new();
     exchanges::all(&mut course);
+    ramps::all(&mut course);
     for scene in directed::all() {
         course.history(scene.name, &scene.history);
     }

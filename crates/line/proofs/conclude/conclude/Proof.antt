@@ -37,10 +37,16 @@ with-active-requires c κs = search needs
 enum-known-came-5 : tie.Need-enum-known-came-5
 enum-known-came-5 c = search needs
 
+with-status-requires : tie.Need-with-status-requires
+with-status-requires c κs =
+    let at = c .before .before .before .before .before .before .before .before in
+    may-store (at .args .out .now) (at .args .action .now) (at .args .specifier .now) (at .args .came) _ _ _ _ (c .before .came5 .given .1) (at .pre .1) .0
+
 stored-requires : tie.Need-stored-requires
 stored-requires c κs =
-    let at = c .before .before .before .before .before .before .before .before in
-    may-store (at .args .out .now) (at .args .action .now) (at .args .specifier .now) (at .args .came) _ _ _ (c .before .came5 .given .1) (at .pre .1)
+    let at = c .before .before .before .before .before .before .before .before .before in
+    may-store (at .args .out .now) (at .args .action .now) (at .args .specifier .now) (at .args .came) _ _ _ _ (c .before .before .came5 .given .1)
+    (at .pre .1) .1
 
 same-length : tie.Need-same-length
 same-length c = search needs
@@ -74,9 +80,9 @@ returns-4 c =
 
 returns-5 : tie.Need-returns-5
 returns-5 c =
-    let at = c .before .before .before .before .before .before .before .before .before in
-    stores (at .args .action .now) (at .args .specifier .now) (at .args .came) (c .before .before .came5 .given .1)
-    (record { keeps = record { size = refl; quiet = refl }; clients = refl; settings = c .stored .ensures })
+    let at = c .before .before .before .before .before .before .before .before .before .before in
+    stores (at .args .action .now) (at .args .specifier .now) (at .args .came) (c .before .before .before .came5 .given .1)
+    (record { keeps = record { size = refl; quiet = refl }; clients = refl; settings = rw (← (c .before .with-status .ensures)) (c .stored .ensures) })
 
 pub conclude-spec : {M : Type 1} → statement M
 conclude-spec =
@@ -90,6 +96,7 @@ conclude-spec =
     enum-known-came-4
     with-active-requires
     enum-known-came-5
+    with-status-requires
     stored-requires
     same-length
     returns

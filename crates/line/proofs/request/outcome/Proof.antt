@@ -81,7 +81,7 @@ same-length c = search needs
 returns : tie.Need-returns
 returns c =
     let at = c .before .before .before .before .before .before .before .before .before .before in
-    rw (c .before .before .before .before .enum-told .given .1) (c .before .before .identify .ensures (at .args .table .now) (at .args .time) _ _)
+    rw (c .before .before .before .before .enum-told .given .1) (c .before .before .identify .ensures (at .args .time) _ _)
 
 same-length-2 : tie.Need-same-length-2
 same-length-2 c = search needs

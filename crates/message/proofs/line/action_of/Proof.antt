@@ -1,5 +1,5 @@
 use Rattle.ascii.specs.Text.{bytes}
-use Rattle.message.proofs.Requests.{is-identify, is-describe, is-ping, is-activate, is-deactivate, is-read, is-change, is-do, is-unknown}
+use Rattle.message.proofs.Requests.{is-identify, is-describe, is-ping, is-activate, is-deactivate, is-read, is-change, is-do, is-check, is-unknown}
 -- `message::line::action_of` meets its contract: each word is tried in turn. Assumes nothing.
 use borrow.Author.Needs.{needs}
 use Rattle.message.proofs.line.action_of.Statement.{statement}
@@ -85,9 +85,19 @@ returns-8 : tie.Need-returns-8
 unfolding bytes
 returns-8 c = search is-do
 
+slice-aggregate-same-9 : tie.Need-slice-aggregate-same-9
+slice-aggregate-same-9 c = search needs
+
+same-requires-9 : tie.Need-same-requires-9
+same-requires-9 c κs = search needs
+
 returns-9 : tie.Need-returns-9
 unfolding bytes
-returns-9 c = search is-unknown
+returns-9 c = search is-check
+
+returns-10 : tie.Need-returns-10
+unfolding bytes
+returns-10 c = search is-unknown
 
 pub action-of-spec : {M : Type 1} → statement M
 action-of-spec =
@@ -117,4 +127,7 @@ action-of-spec =
     slice-aggregate-same-8
     same-requires-8
     returns-8
-    returns-9)
+    slice-aggregate-same-9
+    same-requires-9
+    returns-9
+    returns-10)

@@ -1,6 +1,6 @@
 -- `message::say::put_identification` meets its contract. Assumes nothing.
 use Rattle.ascii.specs.Text.{bytes}
-use Rattle.message.specs.Reply.{replyLine}
+use Rattle.message.specs.Reply.{identity, replyLine}
 use borrow.Author.Needs.{needs}
 use Rattle.message.proofs.say.put_identification.Statement.{statement}
 use Rattle.message.proofs.say.put_identification.Tie as tie
@@ -9,14 +9,14 @@ slice-aggregate-put : tie.Need-slice-aggregate-put
 slice-aggregate-put c = search needs
 
 put-requires : tie.Need-put-requires
-unfolding replyLine bytes
+unfolding replyLine identity bytes
 put-requires c κs = search needs
 
 same-length : tie.Need-same-length
 same-length c = search needs
 
 returns : tie.Need-returns
-unfolding replyLine bytes
+unfolding replyLine identity bytes
 returns c = search needs
 
 pub put-identification-spec : {M : Type 1} → statement M

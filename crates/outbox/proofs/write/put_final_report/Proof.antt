@@ -47,6 +47,21 @@ put-named-record-requires-3 : tie.Need-put-named-record-requires-3
 unfolding replyLine bytes
 put-named-record-requires-3 c κs = line-of _ _ _ _ (rw (c .before .before .before .enum-told3 .given .1) at (c .before .before .before .before .before .before .before .before .before .pre))
 
+enum-told-4 : tie.Need-enum-told-4
+enum-told-4 c = search needs
+
+slice-aggregate-put-named-record-7 : tie.Need-slice-aggregate-put-named-record-7
+slice-aggregate-put-named-record-7 c = search needs
+
+slice-aggregate-put-named-record-8 : tie.Need-slice-aggregate-put-named-record-8
+slice-aggregate-put-named-record-8 c = search needs
+
+put-named-record-requires-4 : tie.Need-put-named-record-requires-4
+unfolding replyLine bytes
+put-named-record-requires-4 c κs =
+    line-of _ _ _ _
+    (rw (c .before .before .before .enum-told4 .given .1) at (c .before .before .before .before .before .before .before .before .before .pre))
+
 same-length : tie.Need-same-length
 same-length c = search needs
 
@@ -68,6 +83,13 @@ returns-3 : tie.Need-returns-3
 unfolding sealed encode mark client body replyLine bytes
 returns-3 c = rw (c .before .before .before .before .before .before .enum-told3 .given .1) (c .before .before .put-named-record3 .ensures)
 
+same-length-4 : tie.Need-same-length-4
+same-length-4 c = search needs
+
+returns-4 : tie.Need-returns-4
+unfolding sealed encode mark client body replyLine bytes
+returns-4 c = rw (c .before .before .before .before .before .before .enum-told4 .given .1) (c .before .before .put-named-record4 .ensures)
+
 pub put-final-report-spec : {M : Type 1} → statement M
 put-final-report-spec =
     tie.close
@@ -84,9 +106,15 @@ put-final-report-spec =
     slice-aggregate-put-named-record-5
     slice-aggregate-put-named-record-6
     put-named-record-requires-3
+    enum-told-4
+    slice-aggregate-put-named-record-7
+    slice-aggregate-put-named-record-8
+    put-named-record-requires-4
     same-length
     returns
     same-length-2
     returns-2
     same-length-3
-    returns-3)
+    returns-3
+    same-length-4
+    returns-4)

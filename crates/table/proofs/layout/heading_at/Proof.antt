@@ -17,8 +17,8 @@ enum-told c = search needs
 returns : tie.Need-returns
 returns c = search heading-untold
 
-note-at-requires : tie.Need-note-at-requires
-note-at-requires c κs = search texts-within
+marked-at-requires : tie.Need-marked-at-requires
+marked-at-requires c κs = search texts-within
 
 enum-known-note : tie.Need-enum-known-note
 enum-known-note c = search needs
@@ -46,7 +46,7 @@ heading-at-spec =
     enum-known-name
     enum-told
     returns
-    note-at-requires
+    marked-at-requires
     enum-known-note
     enum-told-2
     enum-told-3

@@ -1,0 +1,50 @@
+-- What a change and a check come to, by how their data is judged: the same law for both. Assumes nothing.
+use Prim.Native.Nat.{ℕ}
+use mathlib.Core.Path.{_≡_, subst, _∙_}
+use mathlib.Core.Bool.{true, false}
+use mathlib.Core.List.{List}
+use lib.ListN.{drop}
+use Rattle.datainfo.specs.Layout.{datainfoAt}
+use Rattle.fit.specs.Fit as Fit
+use Rattle.fit.specs.Fit.{isFit, severity, storedForm}
+use Rattle.form.specs.Formed.{FitsAt}
+use Rattle.table.specs.declared.layout.ParameterAt.{ParameterAt}
+use Rattle.table.specs.Layout.{tableOf}
+use Rattle.table.specs.Table.{Parameter}
+use Rattle.table.specs.Search.{Placed}
+use Rattle.message.specs.Error.{class}
+use Rattle.message.specs.Said.{classOf}
+use Rattle.message.specs.declared.say.Class.{Class}
+use Rattle.plain.specs.Node.{Node}
+use Rattle.plain.specs.Answer.{Outcome, refused, letIn, judging}
+use Rattle.access.specs.Judged.{Lets, JudgesChange}
+use Rattle.access.specs.declared.judge.Judged.{Judged}
+use Rattle.access.specs.declared.judge.Judged.the-variants as J
+use Rattle.access.proofs.Finding.{ParameterKnown}
+
+module _ (s m a xs : List ℕ) (k h : ℕ) (q : ParameterAt) (p : ParameterKnown s m a k h q) (v : Judged)
+    (j : JudgesChange (datainfoAt (drop (q .info) s)) (q .readonly) xs v) where
+  lets : Lets (q .readonly) (Fit.verdict (p .it .it .datainfo) xs) v
+  lets = j .is (p .info)
+
+  -- whatever is done with what is let in
+  module _ (n : Node) (c t : ℕ) (f : ℕ × Placed Parameter → List ℕ → Outcome) where
+    pub judged-refused : (e : Class) → v ≡ J.Refused e → judging (tableOf s) n c t f xs (k, p .it) ≡ refused (class (classOf e))
+    unfolding judging
+    judged-refused e z = rw (p .readonly) (subst (Lets (q .readonly) (Fit.verdict (p .it .it .datainfo) xs)) z lets _)
+
+    pub judged-let-in : v ≡ J.LetIn → judging (tableOf s) n c t f xs (k, p .it) ≡ f (k, p .it) (storedForm (p .it .it .datainfo) xs)
+    unfolding judging letIn
+    judged-let-in z = let i = subst (Lets (q .readonly) (Fit.verdict (p .it .it .datainfo) xs)) z lets in rw (p .readonly ∙ i .0, i .1)
+
+  module _ (z : v ≡ J.LetIn) where
+    pub judged-fits : isFit (Fit.verdict (p .it .it .datainfo) xs) ≡ true
+    unfolding isFit severity
+    judged-fits = let i = subst (Lets (q .readonly) (Fit.verdict (p .it .it .datainfo) xs)) z lets in rw (i .1)
+
+    pub judged-fitting : FitsAt s (q .info) xs
+    judged-fitting =
+        record {
+          reads = record { within = p .within; datainfo = p .it .it .datainfo; left = p .left; is = p .info };
+          fits = judged-fits;
+        }
