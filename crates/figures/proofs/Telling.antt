@@ -1,19 +1,21 @@
 -- Laws of the pieces of a parameter's line. Assumes nothing.
-use Prim.Native.Nat.{ℕ, suc, _-_, _*_, _≤_, _<_}
+use Prim.Native.Nat.{ℕ, suc, _-_, _*_, _^_, _≤_, _<_}
 use native.Mathlib.Omega.{arith}
 use mathlib.Core.Bool.{Bool, true, false, cond}
 use mathlib.Core.List.{List, [], _∷_, _++_}
 use mathlib.Core.Path.{_≡_, refl, ap, _∙_}
 use lib.Dec.{ltb, eqb}
 use lib.IntN.{subℕ}
-use borrow.Author.Tests.{lt-ltb, le-ltb, ne-eqb}
+use lib.ListN.{length, length-append}
+use borrow.Author.Tests.{lt-ltb, le-ltb, ltb-true, ltb-false, ne-eqb}
 use Rattle.ascii.specs.Text.{bytes}
 use Rattle.ascii.specs.Numbers.{decimal, integer}
+use Rattle.ascii.proofs.Decimal.{decimal-low}
 use Rattle.emit.specs.Emitted.{Emits}
 use Rattle.emit.proofs.Pieces.{both, nothing}
 use Rattle.figures.specs.declared.Tally.{Tally}
 use Rattle.figures.specs.Figures.{full}
-use Rattle.figures.specs.Tally.{lowest, tallyNumbers, fullText, countText, tallyLine}
+use Rattle.figures.specs.Tally.{lowest, Low, tallyNumbers, fullText, countText, tallyLine}
 
 negative : (n base : ℕ) → n < base → integer (subℕ n base) ≡ bytes "-" ++ decimal (base - n)
 unfolding integer
@@ -65,3 +67,53 @@ module _ (d : List ℕ) (at : ℕ) (l : at ≤ 18446744073709551615) where
   pub full-no : (n : ℕ) → n < full → Emits d at (fullText n) d at
   unfolding fullText
   full-no n h = rw (lt-ltb n full h) (nothing d at l)
+
+-- ## Lengths
+
+difference-short : (n base : ℕ) → n < 2 ^ 64 → base < 2 ^ 64 → length (integer (subℕ n base)) ≤ 21
+unfolding bytes
+difference-short n base h g = go (ltb n base) refl
+  where
+    go : (t : Bool) → ltb n base ≡ t → length (integer (subℕ n base)) ≤ 21
+    go true e =
+        let l = decimal-low (base - n) (omega arith) in
+        let z = ap length (negative n base (ltb-true n base e)) in
+        omega arith
+    go false e =
+        let l = decimal-low (n - base) (omega arith) in
+        let z = ap length (positive n base (ltb-false n base e)) in
+        omega arith
+
+module _ (t : Tally) (b : Low t) where
+  numbers-short : length (tallyNumbers t) ≤ 85
+  unfolding tallyNumbers bytes
+  numbers-short = go (eqb (t .count) 0)
+    where
+      go : (u : Bool) → length (cond u (bytes " none")
+          ((bytes " least " ++ integer (subℕ (t .least) lowest)) ++ (bytes " greatest " ++ integer (subℕ (t .greatest) lowest))
+          ++ (bytes " sum " ++ integer (subℕ (t .sum) (t .count * lowest))))) ≤ 85
+      go true = omega arith
+      go false =
+          let c = b .count in
+          let s = b .sum in
+          let x = difference-short (t .least) lowest (let l = b .least in omega arith) (omega arith) in
+          let y = difference-short (t .greatest) lowest (let l = b .greatest in omega arith) (omega arith) in
+          let z = difference-short (t .sum) (t .count * lowest) (omega arith) (omega arith) in
+          simp length-append (omega arith)
+
+  pub line-short : (m p : List ℕ) (s : Bool) → length m ≤ 63 → length p ≤ 63 → length (tallyLine m p s t) ≤ 245
+  unfolding tallyLine countText fullText bytes
+  line-short m p s h g =
+      let c = b .count in
+      let l = decimal-low (t .count) (omega arith) in
+      let x = either s in
+      let y = ending (ltb (t .count) full) in
+      simp length-append (omega arith)
+    where
+      either : (u : Bool) → length (cond u (tallyNumbers t) []) ≤ 85
+      either true = numbers-short
+      either false = omega arith
+
+      ending : (u : Bool) → length (cond u [] (bytes " full")) ≤ 5
+      ending true = omega arith
+      ending false = omega arith

@@ -1,5 +1,6 @@
 -- What an accepted call set, as the code finds it. Assumes nothing.
 use Prim.Native.Nat.{ℕ, zero, suc, _≤_, _<_}
+use native.Mathlib.Nat.{zero-add}
 use native.Mathlib.Omega.{arith}
 use mathlib.Core.Bool.{Bool, true, false, cond, _&&_}
 use mathlib.Core.List.{List, [], _∷_, _++_, append-nil}
@@ -20,7 +21,7 @@ use Rattle.report.proofs.Faults.{no-fault, lowest-none}
 use Rattle.message.specs.Error.{Fault, faultOf}
 use Rattle.message.specs.Reply.{Held, valued, failed, heldAs}
 use Rattle.outbox.specs.Outbox.{Record, encodeAll}
-use Rattle.plain.specs.Node.{Node, Value}
+use Rattle.plain.specs.Node.{Node, Value, showing, reportOf, clientNumbers}
 use Rattle.plain.specs.Calls.{Event, Open, Close, Unreadable, Call, Answer, Effect, answerOf, effect, settle, stepIf, callNumber, driverEffect, readingEffect, unreadableEffect, pieceEffect, lentFaults, ownFaults, isSmall, sends, withArea, withOutbox}
 use Rattle.plain.specs.Calls as Calls
 use Rattle.plain.proofs.Put.{put-at}
@@ -108,14 +109,30 @@ module _ (w : Table) (n : Node) where
   unfolding effect chosenBy
   piece-found c bs t i xs more l e = rw (l, e) (either-piece c bs t more (pieceEffect w n c bs t .records) (piece-ordered w n c bs t))
 
+  module _ (k : ℕ) (bs : List ℕ) (t : ℕ) (p : Placed Parameter) (e : getElem? (parameters w) k ≡ some p) where
+    read-same : (u : ℕ) (rs : List Record) → NoOrders rs
+        → setBy w k (Calls.Reading k bs t) (record { number = 0; used = u; records = rs }) ≡ storedForm (p .it .datainfo) bs ∷ []
+    unfolding setBy readingsOf formFor
+    read-same u rs h =
+        ap₂ _++_
+        (ap (λ (o : Option (Placed Parameter)). cond (eqb k k) (formFor o bs) []) e
+        ∙ ap (λ (x : Bool). cond x (storedForm (p .it .datainfo) bs ∷ []) []) (eq-eqb k k refl))
+        (h k)
+
+    read-other : (u : ℕ) (rs : List Record) → NoOrders rs → (j : ℕ) → (j ≡ k → ⊥)
+        → setBy w j (Calls.Reading k bs t) (record { number = 0; used = u; records = rs }) ≡ []
+    unfolding setBy readingsOf
+    read-other u rs h j z =
+        ap₂ _++_ (ap (λ (x : Bool). cond x (formFor (getElem? (parameters w) k) bs) []) (ne-eqb j k z)) (h j)
+
   reading-found : (k : ℕ) (bs : List ℕ) (t : ℕ) → (o : Option (Placed Parameter)) → getElem? (parameters w) k ≡ o → isSome o ≡ true → Found w n (Calls.Reading k bs t) (Of k)
-  unfolding effect setBy readingsOf formFor readingEffect driverEffect
+  unfolding effect readingEffect driverEffect
   reading-found k bs t none e i = absurd (let z : _≡_ {A = ℕ} 0 1 = cc in omega arith)
   reading-found k bs t (some p) e i =
+      let quiet = updates-to (n .clients) (p .home) (reportOf p (showing (storedForm (p .it .datainfo) bs) t)) clientNumbers in
       rw e
       (sets-one k p (storedForm (p .it .datainfo) bs) e (ap (λ (x : Value). x .held) (put-at (n .values) k _))
-      (ap₂ (λ (b : Bool) (l : List (List ℕ)). cond b (storedForm (p .it .datainfo) bs ∷ []) [] ++ l) (eq-eqb k k refl) (updates-to (n .clients) (p .home) _ _ k))
-      (λ j z. ap₂ (λ (b : Bool) (l : List (List ℕ)). cond b (storedForm (p .it .datainfo) bs ∷ []) [] ++ l) (ne-eqb j k z) (updates-to (n .clients) (p .home) _ _ j)))
+      (read-same k bs t p e 0 _ quiet) (read-other k bs t p e 0 _ quiet))
 
 -- what a call set is shown, if it set anything
 pub data Settles (table : List ℕ) (e : Call) (s : State) (lent : List ℕ) (settings : Settings) (values : List ℕ) : Chosen → Type 0 where
@@ -137,7 +154,7 @@ settled-none k n x e = let z = settled-number k n x in omega arith
 refused-none : (w : Table) (e : Event) (k : ℕ) (n : Node) (x : Effect) → (k ≡ 0 → ⊥) → (j : ℕ) → setBy w j e (settle k n x .1) ≡ []
 unfolding settle setBy ordersOf
 refused-none w e zero n x h j = absurd (h refl)
-refused-none w e (suc k) n x h j = refl
+refused-none w e (suc k) n x h j = ap (λ (b : Bool). cond b (readingsOf w j e) [] ++ []) (ne-eqb (suc k) 0 (λ z. omega arith))
 
 module _ {table : List ℕ} {e : Call} {s : State} {values outbox : List ℕ} {d : Done} {values′ outbox′ : List ℕ}
     (k : Kept table e s values outbox d values′ outbox′) where
@@ -196,6 +213,7 @@ module _ {table : List ℕ} {e : Call} {s : State} {values outbox : List ℕ} {d
         let m = k .short in
         k .sends ∙ ap (λ (x : Node × Answer). sets outbox 0 (encodeAll (x .1 .records))) step-is
         ∙ sets-eq (encodeAll (done-by .records)) outbox 0 (omega arith)
+        ∙ ap (λ (n : ℕ). encodeAll (done-by .records) ++ drop n outbox) (zero-add (length (encodeAll (done-by .records))))
 
     next-is : view table (d .state) values′ ≡ done-by .next
     next-is = k .node ∙ ap (λ (x : Node × Answer). x .0) step-is
@@ -208,7 +226,6 @@ module _ {table : List ℕ} {e : Call} {s : State} {values outbox : List ℕ} {d
     fit = neither (settingsUnfit settings values′ 0 (parameters (tableOf table))) _ (k .fit z) .0
 
     shown-held : (o : Option Fault) (x v : List ℕ) → heldAs o x ≡ valued v → x ≡ v
-    unfolding heldAs
     shown-held none x v h = cc
     shown-held (some f) x v h = absurd (let y : _≡_ {A = ℕ} 0 1 = cc in omega arith)
 
@@ -230,10 +247,7 @@ module _ {table : List ℕ} {e : Call} {s : State} {values outbox : List ℕ} {d
           stored = subst (HeldFits (p .it)) held f;
         }
 
-    abbrev Here : Chosen → Type 0
-    Here r = Settles table e s values settings values′ r
-
-    settles : 16384 ≤ length values′ → (r : Chosen) → Found (tableOf table) node (e .event) r → Here r
+    settles : 16384 ≤ length values′ → (r : Chosen) → Found (tableOf table) node (e .event) r → Settles table e s values settings values′ r
     settles a _ (sets-none h) = settles-none (λ j. ap (λ (x : Node × Answer). setBy (tableOf table) j (e .event) (x .1)) step-is ∙ h j)
     settles a _ (sets-one i p v t h x y) =
         settles-one i p v (kept-shows a i p v t h) (ap (λ (q : Node × Answer). setBy (tableOf table) i (e .event) (q .1)) step-is ∙ x)
@@ -322,7 +336,7 @@ module _ {table : List ℕ} {e : Call} {s : State} {lent : List ℕ} {settings :
 
 -- ## The code's ways
 
-module _ {table : List ℕ} {h : Head} {values outbox : List ℕ} {d : Done} {f : Figures} (b : Bounded f) where
+module _ (table : List ℕ) (h : Head) (values outbox : List ℕ) (d : Done) (f : Figures) (b : Bounded f) where
   pub counts-refused : (d .number ≡ 0 → ⊥) → Counts table h values outbox d f f
   counts-refused n =
       record {
