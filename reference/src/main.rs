@@ -18,7 +18,7 @@ use std::path::Path;
 use std::process::ExitCode;
 
 const HELP: &str = "\
-The plain node of document 01 with M-100, M-102, M-110 and M-111, and generators for comparing others with it.
+The plain node of document 01 with M-100, M-102, M-107, M-110 and M-111, and generators for comparing others with it.
 
 usage: reference COMMAND ...
 

@@ -75,7 +75,11 @@ none-anywhere (suc n) zero = refl
 none-anywhere (suc n) (suc k) = none-anywhere n k
 
 pub none-bounded : Bounded (record { tallies = replicate 64 noSettings })
-none-bounded = record { size = refl; all = λ k. rw (none-anywhere 64 k) (record { count = omega arith; least = omega arith; greatest = omega arith; sum = omega arith }) }
+none-bounded =
+    record {
+      size = refl;
+      all = λ k. rw (none-anywhere 64 k) (record { count = omega arith; least = omega arith; greatest = omega arith; sum = omega arith });
+    }
 
 module _ (f : Figures) (k x : ℕ) (l : k < length (f .tallies)) where
   pub observed-same : tallyAt (observed f k x) k ≡ noted (tallyAt f k) x

@@ -25,7 +25,8 @@ use Rattle.ascii.specs.Read.{ReadsUnsigned, ReadsSigned}
 use Rattle.decimal.specs.Decimal.{Decimal, numeralFrom, numeral}
 use Rattle.datainfo.specs.Datainfo.{Datainfo}
 use Rattle.datainfo.specs.Datainfo as Datainfo
-use Rattle.datainfo.specs.Layout.{limit, doubleAt, intAt, enumAt, stringAt, arrayAt, tupleAt, structAt, scaledAt, blobAt, counted, variants, elements, fields, typed, datainfoIn, datainfoAt}
+use Rattle.datainfo.specs.Layout.{limit, doubleAt, intAt, enumAt, stringAt, arrayAt, tupleAt, structAt, scaledAt, blobAt, counted, variants, elements}
+use Rattle.datainfo.specs.Layout.{fields, typed, datainfoIn, datainfoAt}
 use Rattle.datainfo.specs.Kept.{ReadsLimit}
 use Rattle.datainfo.specs.declared.rules.Limit as L
 use Rattle.datainfo.specs.declared.rules.Limit.{Limit}
@@ -70,7 +71,8 @@ module _ (t : List ℕ) (n i : ℕ) where
   pub digits-room : Small t → numeralFrom 0 t ≡ numeralFrom n (drop i t) → n ≤ 2147483648
   digits-room h e = omega (arith, grows n (drop i t))
 
-  pub digits-more : (m : ℕ) → i < length t → m ≡ more n (getD t i 0) → numeralFrom 0 t ≡ numeralFrom n (drop i t) → numeralFrom 0 t ≡ numeralFrom m (drop (i + 1) t)
+  pub digits-more : (m : ℕ) → i < length t → m ≡ more n (getD t i 0) → numeralFrom 0 t ≡ numeralFrom n (drop i t)
+      → numeralFrom 0 t ≡ numeralFrom m (drop (i + 1) t)
   unfolding numeralFrom
   digits-more m h x e = e ∙ rw (drop-cons t i 0 h, add-one i) (ap (λ (k : ℕ). numeralFrom k (drop (suc i) t)) (sym x))
 

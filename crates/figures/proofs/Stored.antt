@@ -14,11 +14,13 @@ use borrow.Author.Tests.{leb-true, not-true}
 use Rattle.ascii.specs.Bytes.{all, any, same, head, tail}
 use Rattle.ascii.proofs.Lists.{both, neither, all-cons, all-weaker, taken, dropped, same-is}
 use Rattle.decimal.specs.Token.{isE, isWhole}
-use Rattle.decimal.specs.Decimal.{Decimal, fromInteger, excess, inPower, atMost, between, numeralFrom, numeral, significand, exponent, fraction, writtenPower, exactly, isWithinLimits}
+use Rattle.decimal.specs.Decimal.{Decimal, fromInteger, excess, inPower, atMost, between, numeralFrom, numeral, significand, exponent, fraction}
+use Rattle.decimal.specs.Decimal.{writtenPower, exactly, isWithinLimits}
 use Rattle.json.specs.Json as Json
 use Rattle.json.specs.Json.{Json, null, boolean, text, compact}
 use Rattle.datainfo.specs.Datainfo.{Datainfo, double, int, bool, enum, string, array, tuple, struct, scaled, blob}
-use Rattle.fit.specs.Fit.{Verdict, fits, wrongType, badJSON, severity, inRange, expect, asNumber, wholeFit, betweenIntegers, fit, numbered, formOf, storedForm, valueVerdict, verdictOf, verdict, isStored}
+use Rattle.fit.specs.Fit.{Verdict, fits, wrongType, badJSON, severity, inRange, expect, asNumber, wholeFit, betweenIntegers, fit, numbered, formOf}
+use Rattle.fit.specs.Fit.{storedForm, valueVerdict, verdictOf, verdict, isStored}
 use Rattle.form.proofs.Verdicts.{worse-both, in-range, cond-fits, fit-is}
 use Rattle.figures.specs.Figures.{isNarrow, isSummed}
 use Rattle.figures.specs.Tally.{lowest, Small}

@@ -17,7 +17,8 @@ use Rattle.datainfo.specs.Datainfo.{Datainfo}
 use Rattle.fit.specs.Fit.{isStored}
 use Rattle.figures.specs.declared.Tally.{Tally}
 use Rattle.figures.specs.Figures.{isSummed, least, greatest, total, numbersText, full, kept, figureLine}
-use Rattle.figures.specs.Tally.{lowest, above, markOf, Small, noSettings, lower, higher, noted, Sums, Tallies, tallyNumbers, fullText, countText, tallyLine}
+use Rattle.figures.specs.Tally.{lowest, above, markOf, Small, noSettings, lower, higher, noted, Sums, Tallies, tallyNumbers, fullText}
+use Rattle.figures.specs.Tally.{countText, tallyLine}
 use Rattle.figures.specs.Theorems.{FiguresAreExact}
 use Rattle.figures.proofs.Differences.{sub-sum, sub-order, numeral-back}
 use Rattle.figures.proofs.Keeping.{noted-over, noted-one, noted-some}
@@ -86,7 +87,13 @@ module _ (d : Datainfo) (v : List ℕ) (stored : isStored d v ≡ true) where
       (m, m, m)
 
   sums-next : isSummed d ≡ true → (z : ℤ) (zs : List ℤ) (t : Tally) → Sums (z ∷ zs) t
-      → Sums (z ∷ (zs ++ (numeral v ∷ []))) (record { count = t .count + 1; least = lower (t .least) (markOf d v); greatest = higher (t .greatest) (markOf d v); sum = t .sum + markOf d v })
+      → Sums (z ∷ (zs ++ (numeral v ∷ [])))
+      (record {
+        count = t .count + 1;
+        least = lower (t .least) (markOf d v);
+        greatest = higher (t .greatest) (markOf d v);
+        sum = t .sum + markOf d v;
+      })
   sums-next s z zs t x =
       let m = mark-is s in
       let sum : subℕ (t .sum + markOf d v) ((t .count + 1) * lowest) ≡ total z zs +ℤ numeral v =
@@ -137,7 +144,8 @@ module _ (t : Tally) where
   numbers-told (z ∷ zs) e x =
       let c : eqb (t .count) 0 ≡ false = ne-eqb (t .count) 0 (λ n. omega arith) in
       rw (c, x .0, x .1, x .2)
-      (ap (λ (l : List ℕ). l ++ (bytes " sum " ++ integer (total z zs))) (sym (append-assoc (bytes " least " ++ integer (least z zs)) (bytes " greatest ") (integer (greatest z zs))))
+      (ap (λ (l : List ℕ). l ++ (bytes " sum " ++ integer (total z zs)))
+      (sym (append-assoc (bytes " least " ++ integer (least z zs)) (bytes " greatest ") (integer (greatest z zs))))
       ∙ sym (append-assoc (bytes " least " ++ integer (least z zs) ++ bytes " greatest " ++ integer (greatest z zs)) (bytes " sum ") (integer (total z zs))))
 
 told : (m p : List ℕ) (d : Datainfo) (vs : List (List ℕ)) (t : Tally) → Tallies d vs t → tallyLine m p (isSummed d) t ≡ figureLine m p d vs

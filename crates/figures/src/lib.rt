@@ -23,7 +23,8 @@ ghost use Rattle.ascii.specs.Bytes.{isDigit};
 ghost use Rattle.decimal.specs.Decimal.{numeralFrom, numeral};
 ghost use Rattle.emit.specs.Emitted.{Emits};
 ghost use Rattle.figures.specs.Figures.{isNarrow};
-ghost use Rattle.figures.specs.Tally.{Small, above, lower, higher, noted, noSettings, tallyAt, Low, Bounded, Observes, SetTo, Marks, TellsSummed, LimitsNarrow, ScaledNarrow, tallyNumbers, fullText, countText, tallyLine};
+ghost use Rattle.figures.specs.Tally.{Small, above, lower, higher, noted, noSettings, tallyAt, Low, Bounded, Observes, SetTo, Marks};
+ghost use Rattle.figures.specs.Tally.{TellsSummed, LimitsNarrow, ScaledNarrow, tallyNumbers, fullText, countText, tallyLine};
 ghost use Rattle.figures.specs.Theorems.{FiguresAreExact};
 
 // The least number that is kept is its negative, 0 in what is kept.

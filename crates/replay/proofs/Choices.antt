@@ -22,7 +22,8 @@ use Rattle.message.specs.Error.{Fault, faultOf}
 use Rattle.message.specs.Reply.{Held, valued, failed, heldAs}
 use Rattle.outbox.specs.Outbox.{Record, encodeAll}
 use Rattle.plain.specs.Node.{Node, Value, showing, reportOf, clientNumbers}
-use Rattle.plain.specs.Calls.{Event, Open, Close, Unreadable, Call, Answer, Effect, answerOf, effect, settle, stepIf, callNumber, driverEffect, readingEffect, unreadableEffect, pieceEffect, lentFaults, ownFaults, isSmall, sends, withArea, withOutbox}
+use Rattle.plain.specs.Calls.{Event, Open, Close, Unreadable, Call, Answer, Effect, answerOf, effect, settle, stepIf, callNumber, driverEffect}
+use Rattle.plain.specs.Calls.{readingEffect, unreadableEffect, pieceEffect, lentFaults, ownFaults, isSmall, sends, withArea, withOutbox}
 use Rattle.plain.specs.Calls as Calls
 use Rattle.plain.proofs.Put.{put-at}
 use Rattle.state.specs.declared.Settings.{Settings}
@@ -56,7 +57,8 @@ use Rattle.replay.specs.Inner as Inner
 use Rattle.replay.specs.Inner.{Made, Counts}
 use Rattle.fit.proofs.Shapes.{just}
 use Rattle.replay.proofs.Went.{area-length}
-use Rattle.replay.proofs.Orders.{NoOrders, updates-to, Ordered, no-order, one-order, piece-ordered, order-one, order-none, order-long, orders-same, orders-other}
+use Rattle.replay.proofs.Orders.{NoOrders, updates-to, Ordered, no-order, one-order, piece-ordered, order-one, order-none, order-long}
+use Rattle.replay.proofs.Orders.{orders-same, orders-other}
 
 -- ## What an accepted event sets
 
@@ -125,7 +127,8 @@ module _ (w : Table) (n : Node) where
     read-other u rs h j z =
         ap₂ _++_ (ap (λ (x : Bool). cond x (formFor (getElem? (parameters w) k) bs) []) (ne-eqb j k z)) (h j)
 
-  reading-found : (k : ℕ) (bs : List ℕ) (t : ℕ) → (o : Option (Placed Parameter)) → getElem? (parameters w) k ≡ o → isSome o ≡ true → Found w n (Calls.Reading k bs t) (Of k)
+  reading-found : (k : ℕ) (bs : List ℕ) (t : ℕ) → (o : Option (Placed Parameter)) → getElem? (parameters w) k ≡ o → isSome o ≡ true
+      → Found w n (Calls.Reading k bs t) (Of k)
   unfolding effect readingEffect driverEffect
   reading-found k bs t none e i = absurd (let z : _≡_ {A = ℕ} 0 1 = cc in omega arith)
   reading-found k bs t (some p) e i =
@@ -260,7 +263,8 @@ module _ {table : List ℕ} {e : Call} {s : State} {values outbox : List ℕ} {d
 
 module _ (table : List ℕ) (s : State) (values : List ℕ) where
   single-refused : (outbox : List ℕ) (e : Entry) (d : Done) (values′ outbox′ : List ℕ) → Single table s values outbox e d values′ outbox′ → (d .number ≡ 0 → ⊥)
-      → (j : ℕ) → setBy (tableOf table) j (callFor (length values) (length outbox) e .event) (stepFrom table s values (callFor (length values) (length outbox) e) .1) ≡ []
+      → (j : ℕ) → setBy (tableOf table) j (callFor (length values) (length outbox) e .event)
+      (stepFrom table s values (callFor (length values) (length outbox) e) .1) ≡ []
   unfolding callOf
   single-refused outbox e _ _ _ (by-open c t bs d k) h = kept-refused k h
   single-refused outbox e _ _ _ (by-close c t bs d k) h = kept-refused k h
@@ -299,7 +303,8 @@ module _ (table : List ℕ) (e : Call) (s : State) (lent : List ℕ) (f : Figure
       low = omega (arith, b .size)
 
       go : (k : ℕ) (q : Placed Parameter) → getElem? (parameters (tableOf table)) k ≡ some q → (vs : List (List ℕ))
-          → Tallies (q .it .datainfo) vs (tallyAt f k) → (t : Bool) → eqb k i ≡ t → Tallies (q .it .datainfo) (vs ++ setBy (tableOf table) k (e .event) (stepFrom table s lent e .1)) (tallyAt f′ k)
+          → Tallies (q .it .datainfo) vs (tallyAt f k) → (t : Bool) → eqb k i ≡ t
+          → Tallies (q .it .datainfo) (vs ++ setBy (tableOf table) k (e .event) (stepFrom table s lent e .1)) (tallyAt f′ k)
       go k q t vs x true h =
           let z = eqb-true k i h in
           let same : p ≡ q = just (sym there ∙ ap (getElem? (parameters (tableOf table))) (sym z) ∙ t) in
@@ -318,7 +323,8 @@ of-nothing : {i : ℕ} → Of i ≡ Nothing → ⊥
 of-nothing e = let y : _≡_ {A = ℕ} 0 1 = cc in omega arith
 
 module _ {table : List ℕ} {e : Call} {s : State} {lent : List ℕ} {settings : Settings} {values : List ℕ} where
-  nothing-set : {r : Chosen} → Settles table e s lent settings values r → r ≡ Nothing → (j : ℕ) → setBy (tableOf table) j (e .event) (stepFrom table s lent e .1) ≡ []
+  nothing-set : {r : Chosen} → Settles table e s lent settings values r → r ≡ Nothing
+      → (j : ℕ) → setBy (tableOf table) j (e .event) (stepFrom table s lent e .1) ≡ []
   nothing-set (settles-none h) n = h
   nothing-set (settles-one i p v x y w) n = absurd (of-nothing n)
 
@@ -359,7 +365,8 @@ module _ (table : List ℕ) (h : Head) (values outbox : List ℕ) (d : Done) (f 
     pub chosen-shown : (k : ℕ) → r ≡ Of k → Made table h values outbox d → Shown table (d .state .settings) values k
     chosen-shown k n m = one-shown (found (m .state) (m .lent) (m .room) (m .offered) (m .single)) k n
 
-    pub counts-set : (k : ℕ) → r ≡ Of k → Made table h values outbox d → (f′ : Figures) → Notes table (d .state .settings) values k f f′ → Counts table h values outbox d f f′
+    pub counts-set : (k : ℕ) → r ≡ Of k → Made table h values outbox d → (f′ : Figures) → Notes table (d .state .settings) values k f f′
+        → Counts table h values outbox d f f′
     counts-set k n m f′ o =
         let w = chosen-shown k n m in
         record {

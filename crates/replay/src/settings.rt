@@ -1,4 +1,5 @@
 // What a call set, read off the outbox and the values area that it left, and the figures of it (M-111).
+use super::Chosen;
 use ascii::byte;
 use figures::Figures;
 use figures::mark_of;
@@ -7,7 +8,6 @@ use promise::Done;
 use search::cursor::NextParameter;
 use search::find::parameter_by_number;
 use state::Settings;
-use super::Chosen;
 use table::layout::ParameterAt;
 use trace::Head;
 use trace::Kind;

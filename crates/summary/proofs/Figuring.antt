@@ -25,6 +25,7 @@ use Rattle.sound.proofs.Lists.{Each}
 use Rattle.sound.proofs.Accepted.{GoodParameter, accepted}
 use Rattle.sound.proofs.Records.{name-short}
 use Rattle.fitness.proofs.Whole.{drop-there, past-64}
+use Rattle.figures.specs.declared.Tally.{Tally}
 use Rattle.figures.specs.declared.Figures.{Figures}
 use Rattle.figures.specs.Figures.{isSummed, figureLine}
 use Rattle.figures.specs.Tally.{tallyAt, tallyLine, Bounded, Tallies, TellsSummed}
@@ -34,11 +35,10 @@ use Rattle.summary.specs.Summary.{figureLines}
 use Rattle.summary.specs.Figured.{tallyLines, figuresOf, Placing, Tells, Tellable}
 
 -- one line, by what the code has for the names and for whether there is more than a count
-pub tells : (table : List ℕ) (f : Figures) (k : ℕ) (q : ParameterAt) (e : Cursor) (d g : List ℕ) (at r : ℕ) (m a : List ℕ) (s : Bool)
-    → m ≡ bytesOf table (e .name) → a ≡ bytesOf table (q .name) → TellsSummed table (q .info) s
-    → Emits d at (tallyLine m a s (tallyAt f k)) g r → Tells table f k q e d at g r
-tells table f k q e d g at r m a s hm ha hs x =
-    record { is = λ h. rw (← hm, ← ha, ← hs .is (h .info)) x }
+pub tells : (table : List ℕ) (f : Figures) (k : ℕ) (q : ParameterAt) (e : Cursor) (d g : List ℕ) (at r : ℕ) (m a : List ℕ) (s : Bool) (t : Tally)
+    → m ≡ bytesOf table (e .name) → a ≡ bytesOf table (q .name) → TellsSummed table (q .info) s → t ≡ tallyAt f k
+    → Emits d at (tallyLine m a s t) g r → Tells table f k q e d at g r
+tells table f k q e d g at r m a s t hm ha hs ht x = record { is = λ h. rw (← hm, ← ha, ← hs .is (h .info), ← ht) x }
 
 -- ## All parameters
 

@@ -14,7 +14,15 @@ ghost use Rattle.ascii.specs.Writer.{Puts};
 ghost use Rattle.summary.specs.Figured.{Placing, Tells, Tellable, figuresOf};
 
 // The line of parameter k.
-fn emit_figure(table: &[u8], out: &mut [u8], at: usize, figures: Figures, k: usize, p: ParameterAt, next: Cursor) -> usize
+fn emit_figure(
+    table: &[u8],
+    out: &mut [u8],
+    at: usize,
+    figures: Figures,
+    k: usize,
+    p: ParameterAt,
+    next: Cursor,
+) -> usize
     requires { ⌜ Placing (now table) k p next ⌝ }
     ensures { λ r. ⌜ Tells (now (table .entry)) figures k p next (now (out .entry)) at (now (out .exit)) r ⌝ }
 {

@@ -27,24 +27,34 @@ enum-known-k c = search needs
 
 at-parameter-requires : tie.Need-at-parameter-requires
 at-parameter-requires c κs =
-    let start = c .before .before .before .before .before .before .before .before .before .before .before .before in
-    (start .pre .0, (start .pre .1 .0, (
-      subst (Locates (start .args .table .now) (start .args .«module» .now) (start .args .name .now))
-      (c .before .before .before .k .given .1) (c .before .before .before .before .before .locate .ensures),
-      start .pre .1 .1,
-    )))
+    let start = c .before .before .before .before .before .before .before .before .before .before .before .before in (
+      start .pre .0,
+      (
+        start .pre .1 .0,
+        (
+          subst (Locates (start .args .table .now) (start .args .«module» .now) (start .args .name .now))
+              (c .before .before .before .k .given .1) (c .before .before .before .before .before .locate .ensures),
+          start .pre .1 .1,
+        ),
+      ),
+    )
 
 enum-known-k-2 : tie.Need-enum-known-k-2
 enum-known-k-2 c = search needs
 
 at-command-requires : tie.Need-at-command-requires
 at-command-requires c κs =
-    let start = c .before .before .before .before .before .before .before .before .before .before .before in
-    (start .pre .0 .lent, (start .pre .1 .0, (
-      subst (Locates (start .args .table .now) (start .args .«module» .now) (start .args .name .now))
-      (c .before .before .k2 .given .1) (c .before .before .before .before .locate .ensures),
-      start .pre .1 .1,
-    )))
+    let start = c .before .before .before .before .before .before .before .before .before .before .before in (
+      start .pre .0 .lent,
+      (
+        start .pre .1 .0,
+        (
+          subst (Locates (start .args .table .now) (start .args .«module» .now) (start .args .name .now))
+              (c .before .before .k2 .given .1) (c .before .before .before .before .locate .ensures),
+          start .pre .1 .1,
+        ),
+      ),
+    )
 
 returns : tie.Need-returns
 returns c =
