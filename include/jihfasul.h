@@ -89,16 +89,28 @@ struct jihfasul_settings {
 };
 
 /*
+ * Of one client, since its open: the lines that it completed, the errors replied to it (each reply that begins error_), and the updates sent to
+ * it (error_update too). Each stops at 4,294,967,295. An open sets them to 0, a close keeps them. A client asks for its own by the line _count.
+ */
+struct jihfasul_counts {
+    uint32_t lines;
+    uint32_t errors;
+    uint32_t updates;
+};
+
+/*
  * What the host keeps between calls, besides the values area. It may be stored and restored byte for byte. It is unfit (number 9)
  * over a table and a values area if
  * - of a parameter: its length is above 256, or isn't 0 and its bytes in the values area are no stored form that fits (also while it is in
  *   error), or its error is above 4, or its time is above the limit;
  * - of a line: it has more than 1,024 bytes or a line feed, or bytes though it is marked overlong;
  * - of a client: it has a module active that the table doesn't have, or is closed and has anything at all.
+ * Any counts are fit, a closed client's too.
  */
 struct jihfasul_state {
     struct jihfasul_clients clients;
     struct jihfasul_settings settings;
+    struct jihfasul_counts counts[JIHFASUL_CLIENTS];
 };
 
 /* What a call answers: its number, how many of a piece's bytes it used, how many bytes of the outbox it wrote, and the next state. */
@@ -129,13 +141,13 @@ struct jihfasul_done jihfasul_start(
     const uint8_t *values, size_t values_length,
     uint64_t time);
 
-/* Opens a client, with an empty line and nothing active. Numbers 0 to 6, 8 to 11, 13. */
+/* Opens a client, with an empty line, nothing active and no counts. Numbers 0 to 6, 8 to 11, 13. */
 struct jihfasul_done jihfasul_open(
     const uint8_t *table, size_t table_length,
     const uint8_t *values, size_t values_length,
     struct jihfasul_state state, uint64_t client, uint64_t time);
 
-/* Closes a client and forgets its line and what it had active. Numbers 0 to 6, 8 to 12. */
+/* Closes a client and forgets its line and what it had active; its counts stay. Numbers 0 to 6, 8 to 12. */
 struct jihfasul_done jihfasul_close(
     const uint8_t *table, size_t table_length,
     const uint8_t *values, size_t values_length,

@@ -34,6 +34,11 @@ static void print_layout(void)
     FIELD(state, settings.length);
     FIELD(state, settings.error);
     FIELD(state, settings.time);
+    FIELD(state, counts);
+    SIZE(counts);
+    FIELD(counts, lines);
+    FIELD(counts, errors);
+    FIELD(counts, updates);
     SIZE(done);
     FIELD(done, number);
     FIELD(done, used);
@@ -86,6 +91,9 @@ static void print_state(void)
             clients->active[c], (int)clients->length[c], (const char *)clients->lines + JIHFASUL_LINE * c);
     for (int p = 0; p < 2; p++)
         printf("parameter %d: length %d, error %d, time %d\n", p, state.settings.length[p], state.settings.error[p], (int)state.settings.time[p]);
+    for (int c = 0; c < JIHFASUL_CLIENTS; c++)
+        printf("counts %d: lines %u, errors %u, updates %u\n", c, (unsigned)state.counts[c].lines, (unsigned)state.counts[c].errors,
+            (unsigned)state.counts[c].updates);
 }
 
 int main(void)
@@ -101,6 +109,8 @@ int main(void)
     piece(3, "activate\nabc");
     piece(3, "abc");
     piece(6, overlong);
+    piece(7, "x\n");
+    piece(7, "_count\n");
     keep(jihfasul_reading(table, table_length, values, sizeof values, outbox, sizeof outbox, state, 1, 777, (const uint8_t *)"true", 4));
     keep(jihfasul_reading(table, table_length, values, sizeof values, outbox, sizeof outbox, state, 1, 778, (const uint8_t *)"1", 1));
     keep(jihfasul_close(table, table_length, values, sizeof values, state, 7, 800));

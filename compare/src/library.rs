@@ -1,7 +1,7 @@
 //! The library's side: calls over areas whose every byte is watched.
 
 use crate::area::Area;
-use jihfasul::{call, Done, State};
+use jihfasul::{call, Counts, Done, State};
 use reference::history::{Answer, Call};
 use reference::operation::{Poke, OUTBOX_AREA, VALUES_AREA};
 
@@ -180,6 +180,13 @@ impl Library {
             Poke::StoredLength(number, length) => settings.length[*number] = *length,
             Poke::StoredTime(number, time) => settings.time[*number] = *time,
             Poke::StoredError(number, class) => settings.error[*number] = *class,
+            Poke::Counts(client, count) => {
+                self.state.counts[*client] = Counts {
+                    lines: *count,
+                    errors: *count,
+                    updates: *count,
+                };
+            }
             Poke::Values(place, bytes) => self.values.set(*place, bytes),
         }
     }

@@ -15,6 +15,8 @@ pub struct Seen {
     /// Of each parameter the length of its stored value, the class of its error
     /// and its time.
     settings: Vec<(u16, u8, u64)>,
+    /// Of each client its lines, its errors and its updates.
+    counts: Vec<[u32; 3]>,
 }
 
 #[derive(Debug, PartialEq)]
@@ -31,6 +33,10 @@ fn readable(line: &[u8], length: u16) -> Option<String> {
     Some(line.escape_ascii().to_string())
 }
 
+fn counted(counts: &node::Counts) -> [u32; 3] {
+    [counts.lines, counts.errors, counts.updates]
+}
+
 impl Seen {
     /// Compares what is found with what is due, part by part.
     pub fn same(&self, due: &Seen) -> Result<(), String> {
@@ -40,6 +46,9 @@ impl Seen {
         for (p, (found, due)) in self.settings.iter().zip(&due.settings).enumerate() {
             let what = format!("length, error and time of parameter {p}");
             same(&what, found, due)?;
+        }
+        for (c, (found, due)) in self.counts.iter().zip(&due.counts).enumerate() {
+            same(&format!("counts of client {c}"), found, due)?;
         }
         same("state", self, due)
     }
@@ -57,6 +66,11 @@ impl Seen {
         Seen {
             clients: clients.lines.chunks(LINE).enumerate().map(client).collect(),
             settings: (0..parameters).map(setting).collect(),
+            counts: state
+                .counts
+                .iter()
+                .map(|counts| [counts.lines, counts.errors, counts.updates])
+                .collect(),
         }
     }
 
@@ -78,6 +92,7 @@ impl Seen {
         Seen {
             clients: state.clients.iter().map(client).collect(),
             settings: state.parameters.iter().map(setting).collect(),
+            counts: state.counts.iter().map(counted).collect(),
         }
     }
 
@@ -94,6 +109,7 @@ impl Seen {
             settings: settings
                 .map(|one| (one.length, one.error, one.time))
                 .collect(),
+            counts: kept.counts.iter().map(counted).collect(),
         }
     }
 }

@@ -5,7 +5,7 @@
 use crate::error::SensorError;
 use crate::history::{self, Answer, Call};
 use crate::line::{Unfinished, LINE_FEED, MAX_LINE};
-use crate::node::{Client, Held, Node, State, CLIENTS, MAX_TIME};
+use crate::node::{Client, Counts, Held, Node, State, CLIENTS, MAX_TIME};
 use crate::refusal::Refusal;
 use crate::table::{Parameter, Table, MAX_ACCESSIBLES};
 use crate::value::{self, MAX_STORED};
@@ -17,6 +17,8 @@ pub const UNFIT: u8 = 9;
 pub struct Kept {
     pub clients: [KeptClient; CLIENTS],
     pub settings: [Setting; MAX_ACCESSIBLES],
+    /// Any numbers are fit.
+    pub counts: [Counts; CLIENTS],
     /// The values area, lent anew with each call.
     pub values: Vec<u8>,
 }
@@ -89,6 +91,7 @@ impl Kept {
         Kept {
             clients: [KeptClient::CLOSED; CLIENTS],
             settings: [Setting::default(); MAX_ACCESSIBLES],
+            counts: [Counts::default(); CLIENTS],
             values: vec![0; values_len],
         }
     }
@@ -144,6 +147,7 @@ impl Kept {
         Some(State {
             clients: clients?.try_into().ok()?,
             parameters: held?,
+            counts: self.counts,
         })
     }
 
@@ -177,6 +181,7 @@ impl Kept {
 
     /// Takes over what a call changed, and nothing else.
     fn take_over(&mut self, before: &State, after: &State) {
+        self.counts = after.counts;
         let clients = before.clients.iter().zip(&after.clients);
         for (kept, (old, new)) in self.clients.iter_mut().zip(clients) {
             if old != new {

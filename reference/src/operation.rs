@@ -4,6 +4,7 @@
 use crate::history::{Answer, Call};
 use crate::kept::{Kept, KeptClient, Setting};
 use crate::line::MAX_LINE;
+use crate::node::Counts;
 
 /// The lengths of the program's own areas; calls are lent the front of them.
 pub const VALUES_AREA: usize = 20_000;
@@ -36,6 +37,8 @@ pub enum Poke {
     StoredError(usize, u8),
     /// Bytes from a place of the values area on.
     Values(usize, Vec<u8>),
+    /// All three counts of a client.
+    Counts(usize, u32),
 }
 
 /// What stands before an operation's bytes.
@@ -152,6 +155,7 @@ impl Poke {
             Poke::StoredTime(number, time) => alone(Head::about(b't', *number, *time)),
             Poke::StoredError(number, class) => alone(Head::about(b'e', *number, *class)),
             Poke::Values(place, bytes) => Head::about(b'w', *place, 0u8).to_bytes(bytes),
+            Poke::Counts(client, count) => alone(Head::about(b'k', *client, *count)),
         }
     }
 
@@ -176,6 +180,7 @@ impl Poke {
             Poke::Values(place, bytes) => {
                 Poke::Values(*place, kept.values[*place..][..bytes.len()].to_vec())
             }
+            Poke::Counts(client, _) => Poke::Counts(*client, kept.counts[*client].lines),
         }
     }
 
@@ -196,6 +201,7 @@ impl Poke {
             Poke::Values(place, bytes) => {
                 kept.values[*place..][..bytes.len()].copy_from_slice(bytes);
             }
+            Poke::Counts(client, count) => kept.counts[*client] = Counts::all(*count),
         }
     }
 }
@@ -266,9 +272,21 @@ fn readable(bytes: &[u8]) -> String {
 fn state_lines(kept: &Kept, parameters: usize) -> String {
     let clients = kept.clients.iter().enumerate();
     let settings = kept.settings[..parameters].iter().enumerate();
+    let counts = kept.counts.iter().enumerate();
     let clients = clients.map(|(number, client)| client_line(number, client));
     let settings = settings.map(|(number, setting)| setting_line(number, setting));
-    clients.chain(settings).collect()
+    let counts = counts.map(|(number, counts)| counts_line(number, counts));
+    clients.chain(settings).chain(counts).collect()
+}
+
+/// A client's number, its lines, its errors and its updates.
+fn counts_line(number: usize, counts: &Counts) -> String {
+    let Counts {
+        lines,
+        errors,
+        updates,
+    } = counts;
+    format!("counts {number} {lines} {errors} {updates}\n")
 }
 
 /// A parameter's number, the length of its stored value, its error's class and

@@ -3,7 +3,7 @@
 
 use crate::history::{Answer, Call, History, Outcome};
 use crate::line::Unfinished;
-use crate::node::State;
+use crate::node::{Counts, State};
 use std::fmt::Write;
 
 /// Bytes in hexadecimal, `-` for none.
@@ -106,9 +106,14 @@ fn print_state(state: &State) -> String {
             Unfinished::Overlong => "overlong".to_string(),
         };
         let active = client.active;
+        let Counts {
+            lines,
+            errors,
+            updates,
+        } = state.counts[number];
         let _ = writeln!(
             text,
-            "client {number} {open} active={active:04x} line={line}"
+            "client {number} {open} active={active:04x} line={line} counts={lines},{errors},{updates}"
         );
     }
     for (number, held) in state.parameters.iter().enumerate() {

@@ -83,6 +83,8 @@ struct Log {
     table: Table,
     /// The client of each number.
     clients: [Option<String>; CLIENTS],
+    /// Who had each number last.
+    last: [Option<String>; CLIENTS],
 }
 
 impl Log {
@@ -157,6 +159,7 @@ impl Evening {
             text: HEAD.to_string(),
             table,
             clients: Default::default(),
+            last: Default::default(),
         };
         log.say(&clock(event.time), &event.who, &event.what);
         let node = node.map_err(|refusal| refusal.to_string())?;
@@ -247,7 +250,10 @@ impl Evening {
 
     fn connect(&mut self, time: u64, client: usize, who: &str) {
         match self.node.open(client as u64, time) {
-            Ok(()) => self.log.clients[client] = Some(who.to_string()),
+            Ok(()) => {
+                self.log.clients[client] = Some(who.to_string());
+                self.log.last[client] = Some(who.to_string());
+            }
             Err(refusal) => self.log.refusal(refusal),
         }
     }
@@ -267,7 +273,7 @@ impl Evening {
         }
     }
 
-    /// The values that are shown at the end.
+    /// The values that are shown at the end, and what was counted.
     fn end(&mut self) -> Result<(), Refusal> {
         self.log.caption("What the node shows at the end:");
         for number in 0..self.log.table.parameters.len() {
@@ -280,6 +286,16 @@ impl Evening {
             };
             let what = format!("{:18}  {shown}", self.log.table.parameters[number]);
             self.log.say(&clock(value.time), "node", &what);
+        }
+        self.log
+            .caption("Who talked how much, since the last connection:");
+        for client in 0..CLIENTS {
+            let counts = self.node.counts(client).unwrap_or_default();
+            if let Some(who) = self.log.last[client].clone() {
+                let (lines, errors, updates) = (counts.lines, counts.errors, counts.updates);
+                let what = format!("lines {lines}, errors {errors}, updates {updates}");
+                self.log.say("", &who, &what);
+            }
         }
         Ok(())
     }

@@ -3,7 +3,7 @@
 //! it.
 
 use jihfasul::state::{CLIENTS, LINE};
-use jihfasul::{call, Done, Shown, State, OUTBOX, VALUES};
+use jihfasul::{call, Counts, Done, Shown, State, OUTBOX, VALUES};
 use std::mem::{offset_of, size_of};
 
 /// One module with two parameters, both bool: "p", true, and "q", false.
@@ -44,7 +44,16 @@ fn print_layout() {
         "state settings.time at {}",
         offset_of!(State, settings.time)
     );
+    println!("state counts at {}", offset_of!(State, counts));
+    print_counts_layout();
     print_answers_layout();
+}
+
+fn print_counts_layout() {
+    println!("counts of {} bytes", size_of::<Counts>());
+    println!("counts lines at {}", offset_of!(Counts, lines));
+    println!("counts errors at {}", offset_of!(Counts, errors));
+    println!("counts updates at {}", offset_of!(Counts, updates));
 }
 
 fn print_answers_layout() {
@@ -86,6 +95,14 @@ fn print_state(state: &State) {
         let settings = &state.settings;
         let (length, error, time) = (settings.length[p], settings.error[p], settings.time[p]);
         println!("parameter {p}: length {length}, error {error}, time {time}");
+    }
+    for (c, counts) in state.counts.iter().enumerate() {
+        let Counts {
+            lines,
+            errors,
+            updates,
+        } = counts;
+        println!("counts {c}: lines {lines}, errors {errors}, updates {updates}");
     }
 }
 
@@ -161,6 +178,8 @@ fn main() {
     host.piece(3, b"activate\nabc");
     host.piece(3, b"abc");
     host.piece(6, &[b'x'; 1_025]);
+    host.piece(7, b"x\n");
+    host.piece(7, b"_count\n");
     host.reading(777, b"true");
     host.reading(778, b"1");
     host.keep(call::close(TABLE, &host.values, &host.state, 7, 800));

@@ -22,4 +22,4 @@ pub use outbox::{Mark, Record, Records};
 pub use recorder::Recorder;
 pub use refusal::Refusal;
 pub use sensor::SensorError;
-pub use state::{Done, Shown, State};
+pub use state::{Counts, Done, Shown, State};

@@ -4,7 +4,7 @@ use crate::call;
 use crate::outbox::{Record, Records};
 use crate::refusal::Refusal;
 use crate::sensor::SensorError;
-use crate::state::{Done, State};
+use crate::state::{Counts, Done, State};
 
 /// The bytes of a values area and of an outbox.
 pub const VALUES: usize = 16_384;
@@ -77,6 +77,12 @@ impl Node {
 
     pub fn state(&self) -> &State {
         &self.state
+    }
+
+    /// What is counted of a client since its open, also after its close;
+    /// `None` for a number above 7.
+    pub fn counts(&self, client: usize) -> Option<Counts> {
+        self.state.counts.get(client).copied()
     }
 
     /// Opens a client, with an empty line and nothing active.

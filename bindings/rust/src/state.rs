@@ -33,6 +33,17 @@ pub struct Settings {
     pub time: [u64; PARAMETERS],
 }
 
+/// Of one client, since its open: the lines that it completed, the errors
+/// replied to it and the updates sent to it. Each stops at its greatest number;
+/// a close keeps them. A client asks for its own by the line `_count`.
+#[repr(C)]
+#[derive(Clone, Copy, Debug, Default, PartialEq, Eq)]
+pub struct Counts {
+    pub lines: u32,
+    pub errors: u32,
+    pub updates: u32,
+}
+
 /// What is kept between calls, besides the values area. Any bytes are a state;
 /// a call over an unfit one is refused with number 9.
 #[repr(C)]
@@ -40,6 +51,7 @@ pub struct Settings {
 pub struct State {
     pub clients: Clients,
     pub settings: Settings,
+    pub counts: [Counts; CLIENTS],
 }
 
 impl State {
@@ -57,6 +69,11 @@ impl State {
             error: [0; PARAMETERS],
             time: [0; PARAMETERS],
         },
+        counts: [Counts {
+            lines: 0,
+            errors: 0,
+            updates: 0,
+        }; CLIENTS],
     };
 }
 

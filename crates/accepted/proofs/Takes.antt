@@ -25,10 +25,11 @@ use Rattle.state.specs.declared.Settings.{Settings}
 use Rattle.state.specs.declared.State.{State}
 use Rattle.state.specs.View.{clientAt, view, withHeld, withSetting, withStored, withLength, nextSettings}
 use Rattle.state.proofs.Forms.{stands}
+use Rattle.state.specs.Counted.{SentCounted}
 use Rattle.state.proofs.Settled.{Sized}
 use Rattle.promise.specs.Answer.{doneWith}
 use Rattle.accepted.specs.Fitting.{Fitting, Taken}
-use Rattle.accepted.proofs.Tells.{it, there, tell-room, is-told}
+use Rattle.accepted.proofs.Tells.{it, there, tell-room, tell-few, is-told}
 
 module _ (table : List ℕ) (s : State) (values outbox : List ℕ) (k t : ℕ) (bs : List ℕ) (q : ParameterAt) (e : Cursor) (g : Fitting table s values outbox k t bs q e) where
   abbrev d : Datainfo
@@ -80,6 +81,9 @@ module _ (table : List ℕ) (s : State) (values outbox : List ℕ) (k t : ℕ) (
       pub updates-room : (e .modules - 1 < 16) × ((0 + length (encodeAll sent) ≤ length outbox) × (length m + length a + length value ≤ 1024))
       updates-room = rw (named-module, named, value-is) (tell-room table outbox k t q e (g .tellable) (s .clients) (valued form) small form small)
 
+      pub read-few : {o : List ℕ} {n : ℕ} → Puts outbox 0 (encodeAll sent) o n → n ≤ 65536
+      read-few p = tell-few table outbox k t q e (g .tellable) (s .clients) (valued form) small (rw (named-module, named, value-is) at p)
+
       -- what is stored is what the plain node stores
       does : effect (tableOf table) (view table s values) (Reading k bs t)
           ≡ driverEffect (view table s values) k (it table outbox k t q e (g .tellable)) (valued form) t
@@ -88,9 +92,9 @@ module _ (table : List ℕ) (s : State) (values outbox : List ℕ) (k t : ℕ) (
 
       pub is-taken :
           Sized (s .settings) → (settings : Settings) → settings ≡ withLength (s .settings) k (r - 256 * k) t
-          → (outbox′ : List ℕ) (n : ℕ) → Puts outbox 0 (encodeAll sent) outbox′ n
-          → Taken table s values outbox (Reading k bs t) (doneWith 0 n (nextSettings s settings)) after outbox′
+          → (outbox′ : List ℕ) (n : ℕ) → Puts outbox 0 (encodeAll sent) outbox′ n → (r : State) → SentCounted (nextSettings s settings) outbox′ n r
+          → Taken table s values outbox (Reading k bs t) (doneWith 0 n r) after outbox′
       unfolding withHeld withSetting withStored parameterOf
-      is-taken z settings i outbox′ n p =
+      is-taken z settings i outbox′ n p u y =
           is-told table outbox k t q e (g .tellable) s (valued form) small values (g .standing) (stored d bs (datainfos-in-table .ofParameters table (g .tellable .accepted) k (it table outbox k t q e (g .tellable)) (there table outbox k t q e (g .tellable))) (g .fits)) (Reading k bs t) does
-          z settings (i ∙ ap (λ (j : ℕ). withLength (s .settings) k j t) size-is) after (x .is) outbox′ n (rw (named-module, named, value-is) at p)
+          z settings (i ∙ ap (λ (j : ℕ). withLength (s .settings) k j t) size-is) after (x .is) outbox′ n (rw (named-module, named, value-is) at p) u y

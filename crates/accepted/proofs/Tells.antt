@@ -20,9 +20,12 @@ use Rattle.message.specs.Reply.{Held, failed, Report}
 use Rattle.message.specs.Said.{faultAs, reportOf}
 use Rattle.message.specs.declared.say.Fault.{Fault}
 use Rattle.outbox.specs.Outbox.{Record, encodeAll}
+use Rattle.outbox.specs.Tallied.{Holds}
+use Rattle.outbox.proofs.Tallied.{puts-holds}
 use Rattle.search.specs.declared.cursor.Cursor.{Cursor}
 use Rattle.search.specs.Left.{placed}
-use Rattle.plain.specs.Node.{Setting, withSettings, clientNumbers, updatesTo}
+use Rattle.plain.specs.Node.{Node, Setting, withSettings, counting, clientNumbers, updatesTo}
+use Rattle.plain.proofs.Counts.{no-updates}
 use Rattle.plain.specs.Calls.{Event, Unreadable, Effect, driverEffect, unreadableEffect, effect}
 use Rattle.sound.specs.Theorems.{HeldFits}
 use Rattle.sound.proofs.Lists.{each-at}
@@ -33,6 +36,8 @@ use Rattle.state.specs.declared.Settings.{Settings}
 use Rattle.state.specs.declared.State.{State}
 use Rattle.state.specs.View.{clientAt, view, withHeld, withSetting, withError, areaWith, settingsWith, outboxAfter, written, nextSettings}
 use Rattle.state.specs.Fit.{clientUnfit, settingsUnfit, isUnfit}
+use Rattle.state.specs.Counted.{SentCounted}
+use Rattle.state.proofs.Counted.{sent-node, sent-fit, sent-settings}
 use Rattle.state.proofs.Settled.{Sized}
 use Rattle.state.proofs.Sets.{AllSet, all-set}
 use Rattle.promise.specs.Answer.{doneWith}
@@ -80,6 +85,9 @@ module _ (table outbox : List ℕ) (k t : ℕ) (q : ParameterAt) (e : Cursor) (g
         let home = parameter-home w k it there in
         (omega arith, (omega arith, omega (arith, name-short (bytesOf table (e .name)) (f .names .0), name-short (bytesOf table (q .name)) (f .names .1))))
 
+    pub tell-few : (h : Held) → Small h → {o : List ℕ} {n : ℕ} → Puts outbox 0 (encodeAll (updates h)) o n → n ≤ 65536
+    tell-few h small puts = let u = updates-short h small in let end = puts .ends in omega arith
+
     -- where it can't be read, by the names as they are read from the table
     module _ (f : Fault) (m a : List ℕ) (named-module : m ≡ bytesOf table (e .name)) (named : a ≡ bytesOf table (q .name)) where
       abbrev pub sent : List Record
@@ -88,13 +96,22 @@ module _ (table outbox : List ℕ) (k t : ℕ) (q : ParameterAt) (e : Cursor) (g
       pub fail-room : (e .modules - 1 < 16) × ((0 + length (encodeAll sent) ≤ length outbox) × (length m + length a + 0 ≤ 1024))
       fail-room = rw (named-module, named) (tell-room (failed (faultAs f)) tt [] (omega arith))
 
+      pub fail-few : {o : List ℕ} {n : ℕ} → Puts outbox 0 (encodeAll sent) o n → n ≤ 65536
+      fail-few puts = tell-few (failed (faultAs f)) tt (rw (named-module, named) at puts)
+
   -- it holds h, from the time t on
   module _ (s : State) (h : Held) (small : Small h) (values : List ℕ) (stands : Standing table s values) (fits : HeldFits (it .it) h)
       (ev : Event) (does : effect w (view table s values) ev ≡ driverEffect (view table s values) k it h t) where
     abbrev sets : List Setting
     sets = record { parameter = k; held = h; time = t } ∷ []
 
-    does-is : effect w (view table s values) ev ≡ record { next = withSettings (view table s values) sets; settings = sets; used = 0; records = updates (s .clients) h }
+    does-is : effect w (view table s values) ev
+        ≡ record {
+          next = counting (withSettings (view table s values) sets) (updates (s .clients) h);
+          settings = sets;
+          used = 0;
+          records = updates (s .clients) h;
+        }
     unfolding driverEffect view parameterOf
     does-is = does
 
@@ -119,26 +136,35 @@ module _ (table outbox : List ℕ) (k t : ℕ) (q : ParameterAt) (e : Cursor) (g
       unfolding isUnfit areaWith settingsWith
       still-fit = rw (i, a) (rw (is-set .fit, fit .1) refl)
 
-      is-left : Leaves table s values ev outbox (doneWith 0 n next) after outbox′
-      unfolding written outboxAfter areaWith settingsWith
-      is-left =
-          let d = sym does-is in
-          record {
-            number = refl;
-            used = ap (λ (y : Effect). y .used) d;
-            writes = puts .ends ∙ zero-add _ ∙ ap (λ (y : Effect). written (y .records)) d;
-            sends = puts .is ∙ ap (λ (y : Effect). outboxAfter outbox (y .records)) d;
-            area = a ∙ ap (λ (y : Effect). areaWith values (y .settings)) d;
-            settings = i ∙ ap (λ (y : Effect). settingsWith (s .settings) (y .settings)) d;
-            node = node-is ∙ ap (λ (y : Effect). y .next) d;
-            fit = still-fit;
-          }
+      few : n ≤ readingRoom
+      few = let u = updates-short (s .clients) h small in let end = puts .ends in omega arith
 
-      pub is-told : Taken table s values outbox ev (doneWith 0 n next) after outbox′
-      is-told =
-          let u = updates-short (s .clients) h small in
-          let end = puts .ends in
-          record { leaves = is-left; short = omega arith }
+      -- what is sent is counted
+      module _ (r : State) (y : SentCounted next outbox′ n r) where
+        holds : Holds outbox′ n (updates (s .clients) h)
+        holds = let room = g .room in puts-holds puts (omega (arith, few))
+
+        is-left : Leaves table s values ev outbox (doneWith 0 n r) after outbox′
+        unfolding written outboxAfter areaWith settingsWith
+        is-left =
+            let d = sym does-is in
+            let rs = updates (s .clients) h in
+            record {
+              number = refl;
+              used = ap (λ (y : Effect). y .used) d;
+              writes = puts .ends ∙ zero-add _ ∙ ap (λ (y : Effect). written (y .records)) d;
+              sends = puts .is ∙ ap (λ (y : Effect). outboxAfter outbox (y .records)) d;
+              area = a ∙ ap (λ (y : Effect). areaWith values (y .settings)) d;
+              settings = sent-settings table next after outbox′ n r y rs holds ∙ i ∙ ap (λ (y : Effect). settingsWith (s .settings) (y .settings)) d;
+              node =
+                  sent-node table next after outbox′ n r y rs holds (λ d above. no-updates d above (clientAt (s .clients)) (e .modules - 1) (told h))
+                  ∙ ap (λ (m : Node). counting m rs) node-is
+                  ∙ ap (λ (y : Effect). y .next) d;
+              fit = sent-fit table next after outbox′ n r y rs holds w still-fit;
+            }
+
+        pub is-told : Taken table s values outbox ev (doneWith 0 n r) after outbox′
+        is-told = record { leaves = is-left; short = few }
 
   -- ## A parameter that can't be read, by the names as they are read from the table
 
@@ -146,10 +172,11 @@ module _ (table outbox : List ℕ) (k t : ℕ) (q : ParameterAt) (e : Cursor) (g
     pub is-failed :
         Sized (s .settings) → (number : ℕ) → number ≡ faultNumber (faultAs f) → (settings : Settings) → settings ≡ withError (s .settings) k number t
         → (outbox′ : List ℕ) (n : ℕ)
-        → Puts outbox 0 (encodeAll (sent (s .clients) f m a named-module named)) outbox′ n → (values : List ℕ) (class : ℕ) → Standing table s values → faultOf class ≡ some (faultAs f)
-        → Taken table s values outbox (Unreadable k class t) (doneWith 0 n (nextSettings s settings)) values outbox′
+        → Puts outbox 0 (encodeAll (sent (s .clients) f m a named-module named)) outbox′ n → (r : State) → SentCounted (nextSettings s settings) outbox′ n r
+        → (values : List ℕ) (class : ℕ) → Standing table s values → faultOf class ≡ some (faultAs f)
+        → Taken table s values outbox (Unreadable k class t) (doneWith 0 n r) values outbox′
     unfolding effect unreadableEffect withHeld withSetting
-    is-failed z number j settings i outbox′ n puts values class stands known =
+    is-failed z number j settings i outbox′ n puts r y values class stands known =
         is-told s (failed (faultAs f)) tt values stands tt (Unreadable k class t) (rw (there, known) refl) z settings
         (i ∙ ap (λ (x : ℕ). withError (s .settings) k x t) j) values refl outbox′ n
-        (rw (named-module, named) at puts)
+        (rw (named-module, named) at puts) r y

@@ -4,6 +4,7 @@ use message::say::Sensor;
 use promise::Done;
 use search::cursor::Cursor;
 use state::State;
+use state::count::sent_counted;
 use state::setting::stored;
 use table::layout::ParameterAt;
 use update::bytes_of;
@@ -28,6 +29,7 @@ pub fn take_reading(
     ensures { λ r. ⌜ Taken (now (table .entry)) state (now (values .entry)) (now (outbox .entry)) (Reading k (now (bytes .entry)) time) r (now (values .exit)) (now (outbox .exit)) ⌝ }
 {
     let clients = state.clients;
+    let counts = state.counts;
     let at = 256 * k;
     let end = put_form(table, p.info, values, at, bytes);
     let module = bytes_of(table, home.name);
@@ -45,10 +47,16 @@ pub fn take_reading(
         time,
     );
     let settings = stored(state.settings, k, end - at, time);
+    let told = State {
+        clients,
+        settings,
+        counts,
+    };
+    let next = sent_counted(told, outbox, written);
     Done {
         number: 0,
         used: 0,
         written,
-        state: State { clients, settings },
+        state: next,
     }
 }

@@ -5,6 +5,7 @@ use message::say::fault_number;
 use promise::Done;
 use search::cursor::Cursor;
 use state::State;
+use state::count::sent_counted;
 use state::setting::failed;
 use table::layout::ParameterAt;
 use update::bytes_of;
@@ -34,16 +35,23 @@ pub fn take_unreadable(
     ensures { λ r. ⌜ ((values : List ℕ) (class : ℕ) → Standing (now (table .entry)) state values → faultOf class ≡ some (faultAs fault) → Taken (now (table .entry)) state values (now (outbox .entry)) (Unreadable k class time) r values (now (outbox .exit))) ⌝ }
 {
     let clients = state.clients;
+    let counts = state.counts;
     let module = bytes_of(table, home.name);
     let name = bytes_of(table, p.name);
     let number = home.modules - 1;
     let sensor = Sensor::Fails(fault);
     let written = put_updates_to(outbox, 0, clients, number, module, name, sensor, b"", time);
     let settings = failed(state.settings, k, fault_number(fault), time);
+    let told = State {
+        clients,
+        settings,
+        counts,
+    };
+    let next = sent_counted(told, outbox, written);
     Done {
         number: 0,
         used: 0,
         written,
-        state: State { clients, settings },
+        state: next,
     }
 }

@@ -1,9 +1,8 @@
 -- The examples, by computing. Assumes nothing.
 use mathlib.Core.Path.{_≡_, refl}
 use Rattle.report.specs.Notes.{noteMember, notedMembers, notedValue, notedReport}
-use Rattle.examples.specs.Demo.{demo, noted, valueAndTarget, staged, stage, ramp, edited, around, oneModule, reported, onOff, kelvin, initial, small, counted}
-use Rattle.examples.specs.Theorems.{examples, exchanges, changing, failing, pieceCalls, repliesOf, repliesTo, lastWritten, ExamplesAreRight, FiveMilliseconds, WholeReport, NotedReport, TablesAreGood, OutboxExample, BrokenSensor, ExchangesAreRight}
-use Rattle.examples.specs.Theorems.{ramping, Ramps, visiting, NextEdition}
+use Rattle.examples.specs.Demo.{demo, noted, stage, oneModule, reported, onOff, kelvin, initial, small, counted, valueAndTarget, ramp, staged, edited, around}
+use Rattle.examples.specs.Theorems.{examples, exchanges, changing, failing, talking, pieceCalls, repliesTo, lastWritten, ExamplesAreRight, FiveMilliseconds, WholeReport, NotedReport, TablesAreGood, OutboxExample, BrokenSensor, WhoTalks, ExchangesAreRight, ramping, Ramps, repliesOf, visiting, NextEdition}
 use Rattle.examples.proofs.Computed.{computed}
 
 pub examples-are-right : ExamplesAreRight
@@ -46,3 +45,7 @@ ramps = (refl, refl)
 pub next-edition : NextEdition
 unfolding computed stage edited staged valueAndTarget around oneModule kelvin initial small counted visiting pieceCalls repliesOf
 next-edition = (refl, refl)
+
+pub who-talks : WhoTalks
+unfolding computed stage staged valueAndTarget around oneModule kelvin initial small counted talking lastWritten
+who-talks = refl

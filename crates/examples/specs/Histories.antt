@@ -1275,6 +1275,68 @@ history-51 =
       start = 0;
       calls =
           withArea (Open 0 2000) 16384
+          ∷ withArea (Open 1 3000) 16384
+          ∷ withOutbox (Piece 0 (bytes "activate\n") 4000) 16384 32768
+          ∷ withOutbox (Piece 0 (bytes "_count x y\n") 5000) 16384 32768
+          ∷ withOutbox (Piece 1 (bytes "_counts\n") 6000) 16384 32768
+          ∷ withOutbox (Unreadable 0 2 7000) 16384 32768
+          ∷ withOutbox (Piece 0 (bytes "read t1:p\n") 8000) 16384 32768
+          ∷ withOutbox (Piece 0 (bytes "\n") 9000) 16384 32768
+          ∷ withOutbox (Piece 0 (bytes "_count\n") 10000) 16384 32768
+          ∷ withOutbox (Piece 1 (bytes "_count\n") 11000) 16384 32768
+          ∷ [];
+      due =
+          record { number = 0; used = 0; written = bytes "" }
+          ∷ record { number = 0; used = 0; written = bytes "" }
+          ∷ record { number = 0; used = 9; written = bytes "UP\0\0\u{1c}update t1:p [3,{\"t\":1.000}]\nRP\0\0\u{7}active\n" }
+          ∷ record { number = 0; used = 11; written = bytes "RP\0\0#_counted . [[2,0,1,1],{\"t\":5.000}]\n" }
+          ∷ record { number = 0; used = 8; written = bytes "RP\u{1}\0Cerror__counts  [\"ProtocolError\",\"malformed or unknown request\",{}]\n" }
+          ∷ record { number = 0; used = 0; written = bytes "UP\0\0Lerror_update t1:p [\"CommunicationFailed\",\"CommunicationFailed\",{\"t\":7.000}]\n" }
+          ∷ record { number = 0; used = 10; written = bytes "RP\0\0Jerror_read t1:p [\"CommunicationFailed\",\"CommunicationFailed\",{\"t\":7.000}]\n" }
+          ∷ record { number = 0; used = 1; written = bytes "RP\0\0<error_  [\"ProtocolError\",\"malformed or unknown request\",{}]\n" }
+          ∷ record { number = 0; used = 7; written = bytes "RP\0\0$_counted . [[5,2,2,1],{\"t\":10.000}]\n" }
+          ∷ record { number = 0; used = 7; written = bytes "RP\u{1}\0$_counted . [[2,1,0,0],{\"t\":11.000}]\n" }
+          ∷ [];
+    }
+
+unfoldable pub history-52 : History
+history-52 =
+    record {
+      table = bytes "ND\u{1}s\0MO\u{2}t1\0PA\u{1}p\0\0\u{2}\0\0\0\0\0\0\0\0\0\0\0\0\0\0\0\t\0\u{1}3EN";
+      area = 16384;
+      time = 1000;
+      start = 0;
+      calls =
+          withArea (Open 0 2000) 16384
+          ∷ withOutbox (Piece 0 (bytes "activate\n") 3000) 16384 32768
+          ∷ withArea (Open 0 4000) 16384
+          ∷ withOutbox (Piece 0 (bytes "_count\n") 5000) 16384 32768
+          ∷ withArea (Close 0 6000) 16384
+          ∷ withOutbox (Reading 0 (bytes "4") 7000) 16384 32768
+          ∷ withArea (Open 0 8000) 16384
+          ∷ withOutbox (Piece 0 (bytes "_count\n") 9000) 16384 32768
+          ∷ [];
+      due =
+          record { number = 0; used = 0; written = bytes "" }
+          ∷ record { number = 0; used = 9; written = bytes "UP\0\0\u{1c}update t1:p [3,{\"t\":1.000}]\nRP\0\0\u{7}active\n" }
+          ∷ record { number = 13; used = 0; written = bytes "" }
+          ∷ record { number = 0; used = 7; written = bytes "RP\0\0#_counted . [[2,0,1,1],{\"t\":5.000}]\n" }
+          ∷ record { number = 0; used = 0; written = bytes "" }
+          ∷ record { number = 0; used = 0; written = bytes "" }
+          ∷ record { number = 0; used = 0; written = bytes "" }
+          ∷ record { number = 0; used = 7; written = bytes "RP\0\0#_counted . [[1,0,0,0],{\"t\":9.000}]\n" }
+          ∷ [];
+    }
+
+unfoldable pub history-53 : History
+history-53 =
+    record {
+      table = bytes "ND\u{1}s\0MO\u{2}t1\0PA\u{1}p\0\0\u{2}\0\0\0\0\0\0\0\0\0\0\0\0\0\0\0\t\0\u{1}3EN";
+      area = 16384;
+      time = 1000;
+      start = 0;
+      calls =
+          withArea (Open 0 2000) 16384
           ∷ withArea (Open 8 10000000000000) 16383
           ∷ withArea (Open 0 10000000000000) 16384
           ∷ withArea (Close 1 5000) 16383
@@ -1295,8 +1357,8 @@ history-51 =
           ∷ [];
     }
 
-unfoldable pub history-52 : History
-history-52 =
+unfoldable pub history-54 : History
+history-54 =
     record {
       table = bytes "ND\u{1}s\0MO\u{2}t1\0PA\u{1}p\0\0\u{2}\0\0\0\0\0\0\0\0\0\0\0\0\0\0\0\t\0\u{1}3EN";
       area = 16384;
@@ -1314,8 +1376,8 @@ history-52 =
           ∷ [];
     }
 
-unfoldable pub history-53 : History
-history-53 =
+unfoldable pub history-55 : History
+history-55 =
     record {
       table = bytes "ND\u{1}s\0MO\u{2}t1\0PA\u{1}p\0\0\u{2}\0\0\0\0\0\0\0\0\0\0\0\0\0\0\0\t\0\u{1}3EN";
       area = 16383;
@@ -1333,8 +1395,8 @@ history-53 =
           ∷ [];
     }
 
-unfoldable pub history-54 : History
-history-54 =
+unfoldable pub history-56 : History
+history-56 =
     record {
       table = bytes "ND\u{1}s\0MO\u{2}t1\0EN";
       area = 16384;
@@ -1356,8 +1418,8 @@ history-54 =
           ∷ [];
     }
 
-unfoldable pub history-55 : History
-history-55 =
+unfoldable pub history-57 : History
+history-57 =
     record {
       table = bytes "ND\u{1}s\0MO\u{2}t1\0EN";
       area = 16384;
@@ -1379,8 +1441,8 @@ history-55 =
           ∷ [];
     }
 
-unfoldable pub history-56 : History
-history-56 =
+unfoldable pub history-58 : History
+history-58 =
     record {
       table = bytes "ND\u{1}s\0MO\u{2}t1\0PA\u{1}p\0\0\u{2}\0\0\0\0\0\0\0\0\0\0\0\0\0\0\0\t\0\u{1}3EN";
       area = 16384;
@@ -1406,8 +1468,8 @@ history-56 =
           ∷ [];
     }
 
-unfoldable pub history-57 : History
-history-57 =
+unfoldable pub history-59 : History
+history-59 =
     record {
       table = bytes "ND\u{1}s\0MO\u{2}t1\0NO\u{c}mind the gapPA\u{1}p\0\0\u{2}\0\0\0\0\0\0\0\0\0\0\0\0\0\0\0\t\0\u{1}3MO\u{2}mf\0NO\0EN";
       area = 16384;
@@ -1427,8 +1489,8 @@ history-57 =
           ∷ [];
     }
 
-unfoldable pub history-58 : History
-history-58 =
+unfoldable pub history-60 : History
+history-60 =
     record {
       table = bytes "ND\u{1}s\0ED\u{1b}ISSE,SECoP,V2021-02-17,v2.0MO\u{2}t1\0PA\u{1}p\0\0\u{2}\0\0\0\0\0\0\0\0\0\0\0\0\0\0\0\t\0\u{1}3EN";
       area = 16384;
@@ -1454,8 +1516,8 @@ history-58 =
           ∷ [];
     }
 
-unfoldable pub history-59 : History
-history-59 =
+unfoldable pub history-61 : History
+history-61 =
     record {
       table = bytes "ND\u{1}s\0ED\u{1b}ISSE,SECoP,V2021-02-17,v2.0MO\u{2}t1\0PA\u{5}value\0\u{1}\u{2}\0\0\0\0\0\0\0\0\0\0\0\0\0\0\0\t\0\u{1}3PA\u{1}p\0\0\u{2}\0\0\0\0\0\0\0\0\0\0\0\0\0\0\0\t\0\u{1}3CM\u{4}stop\0\0EN";
       area = 16384;
@@ -1487,8 +1549,8 @@ history-59 =
           ∷ [];
     }
 
-unfoldable pub history-60 : History
-history-60 =
+unfoldable pub history-62 : History
+history-62 =
     record {
       table = bytes "ND\u{1}s\0ED\u{1b}ISSE,SECoP,V2021-02-17,v2.0MO\u{2}t1\0PA\u{4}pair\0\0\u{7}\u{2}\u{4}\u{2}\u{3}off\0\0\0\0\u{2}on\0\0\0\u{1}\u{2}\0\0\0\0\0\0\0\0\0\0\0\0\0\0\0\t\0\u{5}[0,1]EN";
       area = 16384;
@@ -1508,8 +1570,8 @@ history-60 =
           ∷ [];
     }
 
-unfoldable pub history-61 : History
-history-61 =
+unfoldable pub history-63 : History
+history-63 =
     record {
       table = bytes "ND\u{1}s\0ED\u{1b}ISSE,SECoP,V2021-02-17,v2.0MO\u{2}t1\0PA\u{1}p\0\0\u{2}\0\0\0\0\0\0\0\0\0\0\0\0\0\0\0\t\0\u{1}3EN";
       area = 16384;
@@ -1537,8 +1599,8 @@ history-61 =
           ∷ [];
     }
 
-unfoldable pub history-62 : History
-history-62 =
+unfoldable pub history-64 : History
+history-64 =
     record {
       table = bytes "ND\u{1}s\0MO\u{2}t1\0PA\u{1}p\0\0\u{2}\0\0\0\0\0\0\0\0\0\0\0\0\0\0\0\t\0\u{1}3EN";
       area = 16384;
@@ -1560,8 +1622,8 @@ history-62 =
           ∷ [];
     }
 
-unfoldable pub history-63 : History
-history-63 =
+unfoldable pub history-65 : History
+history-65 =
     record {
       table = bytes "ND\u{1}s\0MO\u{2}t1\0ENEN";
       area = 16384;
@@ -1575,8 +1637,8 @@ history-63 =
           ∷ [];
     }
 
-unfoldable pub history-64 : History
-history-64 =
+unfoldable pub history-66 : History
+history-66 =
     record {
       table = bytes "ND\u{1}s\0EN";
       area = 16384;
@@ -1590,8 +1652,8 @@ history-64 =
           ∷ [];
     }
 
-unfoldable pub history-65 : History
-history-65 =
+unfoldable pub history-67 : History
+history-67 =
     record {
       table = bytes "ND\u{1}s\0MO\u{2}9x\0EN";
       area = 16384;
@@ -1605,8 +1667,8 @@ history-65 =
           ∷ [];
     }
 
-unfoldable pub history-66 : History
-history-66 =
+unfoldable pub history-68 : History
+history-68 =
     record {
       table = bytes "ND\u{1}s\0MO\u{2}t1\0ED\u{b}ISSE,SECoP,EN";
       area = 16384;
@@ -1620,8 +1682,8 @@ history-66 =
           ∷ [];
     }
 
-unfoldable pub history-67 : History
-history-67 =
+unfoldable pub history-69 : History
+history-69 =
     record {
       table = bytes "ND\u{1}s\0ED\u{b}ISSE,SECoP,ED\u{b}ISSE,SECoP,MO\u{2}t1\0EN";
       area = 16384;
@@ -1635,8 +1697,8 @@ history-67 =
           ∷ [];
     }
 
-unfoldable pub history-68 : History
-history-68 =
+unfoldable pub history-70 : History
+history-70 =
     record {
       table = bytes "ND\u{1}s\0ED$ISSE&SINE2020,SECoP,V2019-09-16,v1.0MO\u{2}t1\0EN";
       area = 16384;
@@ -1650,8 +1712,8 @@ history-68 =
           ∷ [];
     }
 
-unfoldable pub history-69 : History
-history-69 =
+unfoldable pub history-71 : History
+history-71 =
     record {
       table = bytes "ND\u{1}s\0ED\u{c}ISSE,SECoP,\"MO\u{2}t1\0EN";
       area = 16384;
@@ -1665,8 +1727,8 @@ history-69 =
           ∷ [];
     }
 
-unfoldable pub history-70 : History
-history-70 =
+unfoldable pub history-72 : History
+history-72 =
     record {
       table = bytes "ND\u{1}s\0MO\u{2}t1\0CM\u{1}c\0\u{1}\u{2}\0\0\0\0\0\0\0\u{1}\0\0\0\0\0\0\0\0EN";
       area = 16384;
@@ -1680,8 +1742,8 @@ history-70 =
           ∷ [];
     }
 
-unfoldable pub history-71 : History
-history-71 =
+unfoldable pub history-73 : History
+history-73 =
     record {
       table = bytes "ND\u{1}s\0MO\u{2}t1\0CM\u{1}c\0\u{1}\t\0\0\0\0\0\0\0\0\0\0\0\0\0\0\0\0\0\0\0\0\0\0\0\0\u{1}EN";
       area = 16384;
@@ -1695,8 +1757,8 @@ history-71 =
           ∷ [];
     }
 
-unfoldable pub history-72 : History
-history-72 =
+unfoldable pub history-74 : History
+history-74 =
     record {
       table = bytes "ND\u{1}s\0MO\u{2}t1\0PA\u{1}p\0\0\u{2}\0\0\0\0\0\0\0\0\0\0\0\0\0\0\0\t\0\u{2}3 EN";
       area = 16384;
@@ -1710,8 +1772,8 @@ history-72 =
           ∷ [];
     }
 
-unfoldable pub history-73 : History
-history-73 =
+unfoldable pub history-75 : History
+history-75 =
     record {
       table = bytes "ND\u{1}s\0MO\u{2}9x\0CM\u{1}c\0\u{2}EN";
       area = 16384;
@@ -1725,8 +1787,8 @@ history-73 =
           ∷ [];
     }
 
-unfoldable pub history-74 : History
-history-74 =
+unfoldable pub history-76 : History
+history-76 =
     record {
       table = bytes "ND\u{1}s\u{1}\"EN";
       area = 16384;
@@ -1740,8 +1802,8 @@ history-74 =
           ∷ [];
     }
 
-unfoldable pub history-75 : History
-history-75 =
+unfoldable pub history-77 : History
+history-77 =
     record {
       table = bytes "ND\u{1}s\0MO\u{2}t1\0CM\u{1}c\0\u{1}\u{4}\u{2}\u{1}a\0\0\0\0\u{1}A\0\0\0\0EN";
       area = 16384;
@@ -1755,8 +1817,8 @@ history-75 =
           ∷ [];
     }
 
-unfoldable pub history-76 : History
-history-76 =
+unfoldable pub history-78 : History
+history-78 =
     record {
       table = bytes "ND\u{1}s\0MO\u{2}t1\0PA\u{1}p\0\0\u{5}\0\u{1}\0\0\0\u{1}2EN";
       area = 16384;
@@ -1770,8 +1832,8 @@ history-76 =
           ∷ [];
     }
 
-unfoldable pub history-77 : History
-history-77 =
+unfoldable pub history-79 : History
+history-79 =
     record {
       table = bytes "ND\u{1}s\0MO\u{2}t1\0PA\u{1}m\0\0\u{4}\u{2}\u{3}off\0\0\0\0\u{2}on\0\0\u{3}è\0\u{4}\"on\"EN";
       area = 16384;
@@ -1785,8 +1847,8 @@ history-77 =
           ∷ [];
     }
 
-unfoldable pub history-78 : History
-history-78 =
+unfoldable pub history-80 : History
+history-80 =
     record {
       table = bytes "ND\u{1}s\0MO\u{2}t1\0PA\u{1}p\0\0\u{2}\0\0\0\0\0\0\0\0\0\0\0\0\0\0\0\t\0\u{2}3 EN";
       area = 16383;
@@ -1801,4 +1863,4 @@ history-78 =
     }
 
 unfoldable pub histories : List History
-histories = history-1 ∷ history-2 ∷ history-3 ∷ history-4 ∷ history-5 ∷ history-6 ∷ history-7 ∷ history-8 ∷ history-9 ∷ history-10 ∷ history-11 ∷ history-12 ∷ history-13 ∷ history-14 ∷ history-15 ∷ history-16 ∷ history-17 ∷ history-18 ∷ history-19 ∷ history-20 ∷ history-21 ∷ history-22 ∷ history-23 ∷ history-24 ∷ history-25 ∷ history-26 ∷ history-27 ∷ history-28 ∷ history-29 ∷ history-30 ∷ history-31 ∷ history-32 ∷ history-33 ∷ history-34 ∷ history-35 ∷ history-36 ∷ history-37 ∷ history-38 ∷ history-39 ∷ history-40 ∷ history-41 ∷ history-42 ∷ history-43 ∷ history-44 ∷ history-45 ∷ history-46 ∷ history-47 ∷ history-48 ∷ history-49 ∷ history-50 ∷ history-51 ∷ history-52 ∷ history-53 ∷ history-54 ∷ history-55 ∷ history-56 ∷ history-57 ∷ history-58 ∷ history-59 ∷ history-60 ∷ history-61 ∷ history-62 ∷ history-63 ∷ history-64 ∷ history-65 ∷ history-66 ∷ history-67 ∷ history-68 ∷ history-69 ∷ history-70 ∷ history-71 ∷ history-72 ∷ history-73 ∷ history-74 ∷ history-75 ∷ history-76 ∷ history-77 ∷ history-78 ∷ []
+histories = history-1 ∷ history-2 ∷ history-3 ∷ history-4 ∷ history-5 ∷ history-6 ∷ history-7 ∷ history-8 ∷ history-9 ∷ history-10 ∷ history-11 ∷ history-12 ∷ history-13 ∷ history-14 ∷ history-15 ∷ history-16 ∷ history-17 ∷ history-18 ∷ history-19 ∷ history-20 ∷ history-21 ∷ history-22 ∷ history-23 ∷ history-24 ∷ history-25 ∷ history-26 ∷ history-27 ∷ history-28 ∷ history-29 ∷ history-30 ∷ history-31 ∷ history-32 ∷ history-33 ∷ history-34 ∷ history-35 ∷ history-36 ∷ history-37 ∷ history-38 ∷ history-39 ∷ history-40 ∷ history-41 ∷ history-42 ∷ history-43 ∷ history-44 ∷ history-45 ∷ history-46 ∷ history-47 ∷ history-48 ∷ history-49 ∷ history-50 ∷ history-51 ∷ history-52 ∷ history-53 ∷ history-54 ∷ history-55 ∷ history-56 ∷ history-57 ∷ history-58 ∷ history-59 ∷ history-60 ∷ history-61 ∷ history-62 ∷ history-63 ∷ history-64 ∷ history-65 ∷ history-66 ∷ history-67 ∷ history-68 ∷ history-69 ∷ history-70 ∷ history-71 ∷ history-72 ∷ history-73 ∷ history-74 ∷ history-75 ∷ history-76 ∷ history-77 ∷ history-78 ∷ history-79 ∷ history-80 ∷ []

@@ -205,6 +205,29 @@ NextEdition =
     ∷ bytes "reply t1:target [0,{\"t\":0.000}]"
     ∷ [])
 
+-- ## Who talks how much (M-108): client 2 has completed a read, which was an error, and `_count` itself; client 5 an `activate` of two parameters, which
+-- are two updates, was told of the broken sensor, and has one module active
+
+unfoldable pub talking : List Call
+talking =
+    withArea (Open 2 0) 16384
+    ∷ withArea (Open 5 0) 16384
+    ∷ withOutbox (Piece 5 (bytes "activate t1\n") 0) 16384 32768
+    ∷ withOutbox (Unreadable 0 1 1500) 16384 32768
+    ∷ withOutbox (Piece 2 (bytes "read t1:value\n") 2000) 16384 32768
+    ∷ withOutbox (Piece 2 (bytes "_count x\n") 2000) 16384 32768
+    ∷ withOutbox (Piece 5 (bytes "_count\n") 2500) 16384 32768
+    ∷ []
+
+abbrev pub WhoTalks : Type 0
+WhoTalks = lastWritten stage talking
+    ≡ (0x52 ∷ 0x50 ∷ 0x02 ∷ 0x00 ∷ 0x42 ∷ [])
+    ++ bytes "error_read t1:value [\"HardwareError\",\"HardwareError\",{\"t\":1.500}]\n"
+    ++ (0x52 ∷ 0x50 ∷ 0x02 ∷ 0x00 ∷ 0x23 ∷ [])
+    ++ bytes "_counted . [[2,1,0,0],{\"t\":2.000}]\n"
+    ++ (0x52 ∷ 0x50 ∷ 0x05 ∷ 0x00 ∷ 0x23 ∷ [])
+    ++ bytes "_counted . [[2,0,3,1],{\"t\":2.500}]\n"
+
 -- ## Exchanges of SECoP 1.0, with document 01's error texts and times
 
 unfoldable pub exchanges : List Example

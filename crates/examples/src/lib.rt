@@ -1,7 +1,6 @@
 ghost use mathlib.Core.Bool.{true};
 ghost use mathlib.Core.Path.{_≡_};
-ghost use Rattle.examples.specs.Theorems.{Ramps};
-ghost use Rattle.examples.specs.Theorems.{ExamplesAreRight, OutboxExample, BrokenSensor, NextEdition, WholeReport, NotedReport, TablesAreGood, FiveMilliseconds, ExchangesAreRight, HistoriesAreAsDue};
+ghost use Rattle.examples.specs.Theorems.{ExamplesAreRight, OutboxExample, BrokenSensor, WhoTalks, WholeReport, NotedReport, TablesAreGood, FiveMilliseconds, ExchangesAreRight, HistoriesAreAsDue, Ramps, NextEdition};
 
 // Each function here promises a theorem about the definitions. Nothing is run.
 
@@ -29,6 +28,13 @@ pub fn broken_sensor() -> bool
 // Busy before changed, and a status that doesn't admit it, byte for byte.
 pub fn ramps() -> bool
     ensures { λ r. ⌜ (r ≡ true) × Ramps ⌝ }
+{
+    true
+}
+
+// Two clients ask how much they talk.
+pub fn who_talks() -> bool
+    ensures { λ r. ⌜ (r ≡ true) × WhoTalks ⌝ }
 {
     true
 }

@@ -10,6 +10,7 @@ use Rattle.ascii.specs.Numbers.{latest}
 use Rattle.ascii.specs.Bytes.{any, takeWhile, dropWhile, tail, same}
 use Rattle.ascii.specs.Writer.{Puts}
 use Rattle.ascii.specs.Text.{bytes}
+use Rattle.counter.specs.declared.Counts.{Counts}
 use Rattle.message.specs.Line.{Parts, whole, content, beforeSpace, afterSpace, partsOf}
 use Rattle.message.specs.Request.{request}
 use Rattle.message.specs.Parsed.{part, Parted, meaning, Asks}
@@ -58,11 +59,11 @@ encoded-one : (r : Record) → encode r ≡ encodeAll (r ∷ [])
 unfolding encodeAll
 encoded-one r = sym (append-nil (encode r))
 
--- a state by its two parts
-parts-view : (table values : List ℕ) (r : State) {f : Clients} {g : Settings} → r .clients ≡ f → r .settings ≡ g
-    → view table r values ≡ view table (record { clients = f; settings = g }) values
+-- a state by its three parts
+parts-view : (table values : List ℕ) (r : State) {f : Clients} {g : Settings} {k : List Counts} → r .clients ≡ f → r .settings ≡ g → r .counts ≡ k
+    → view table r values ≡ view table (record { clients = f; settings = g; counts = k }) values
 unfolding view
-parts-view table values r a b = ap₂ (λ (f : Clients) (g : Settings). view table (record { clients = f; settings = g }) values) a b
+parts-view table values r a b c = λ i. view table (record { clients = a i; settings = b i; counts = c i }) values
 
 -- ## On an accepted table, handed a fit state of which client c is open
 
@@ -134,7 +135,7 @@ module _ (table : List ℕ) (s : State) (values before : List ℕ) (c t : ℕ) (
         let b = active-becomes (s .clients) z c (given .lent .low) mask (k .clients) in
         let fit = still-fit (length (w .modules)) b (record { isOpen = given .isOpen; within = x .low }) clients-fit in
         carried-answered _ written [] (x .carries) (k .keeps)
-        (rw (x .unstored) (parts-view table values (r .state) refl (k .settings) ∙ client-view table s values b))
+        (rw (x .unstored) (parts-view table values (r .state) refl (k .settings) (k .counts) ∙ client-view table s values b))
         (rw (x .unstored) (rw (k .settings) (nor settings-fit fit)))
         (x .unstored)
         (k .settings)
@@ -164,7 +165,7 @@ module _ (table : List ℕ) (s : State) (values before : List ℕ) (c t : ℕ) (
         let is = all-set table (accepted table (given .lent .accepted) .few) set s values z (given .area) settings-fit
         (all-settable h f (x .status) (x .holds)) in
         carried-answered _ written set (x .carries) (y .keeps)
-        (rw (x .area) (parts-view table (areaWith values set) (r .state) (y .clients) settings ∙ is .node))
+        (rw (x .area) (parts-view table (areaWith values set) (r .state) (y .clients) settings (y .counts) ∙ is .node))
         (rw (x .area, settings, y .clients) (nor (is .fit) clients-fit))
         (x .area)
         settings

@@ -1,18 +1,19 @@
 -- Laws of requests that are carried out: replies of one record, data that is missing, and a client's active modules. Assumes nothing.
 use Prim.Native.Nat.{ℕ, _^_, _≤_, _<_}
 use native.Mathlib.Omega.{arith}
-use mathlib.Core.Path.{_≡_, refl, sym, subst, _∙_}
+use mathlib.Core.Path.{_≡_, refl, sym, ap₂, _∙_, subst}
 use mathlib.Core.Bool.{Bool, true, false}
 use mathlib.Core.List.{List, []}
 use mathlib.Core.Option.{Option, none, some}
 use lib.ListN.{length, getD, length-append, length-take}
 use Rattle.ascii.specs.Numbers.{twoBytes, latest}
 use Rattle.ascii.specs.Text.{bytes}
-use Rattle.ascii.specs.Bytes.{all, isSpace}
+use Rattle.ascii.specs.Bytes.{all, count, isSpace}
+use Rattle.counter.specs.declared.Counts.{Counts}
 use Rattle.ascii.specs.Writer.{Puts}
 use Rattle.ascii.proofs.Decimal.{seconds-low, seconds-latest}
 use Rattle.message.specs.Error.{Class, Fault, Denial, class, fault}
-use Rattle.message.specs.Reply.{Reply, identification, pong, error, errorReport, identity, replyLine}
+use Rattle.message.specs.Reply.{Reply, identification, pong, counted, error, errorReport, replyLine, identity}
 use Rattle.message.specs.Request as R
 use Rattle.message.specs.Request.{orNull}
 use Rattle.message.specs.Parsed.{part, Within}
@@ -27,16 +28,22 @@ use Rattle.report.specs.Judge.{tableNumber}
 use Rattle.sound.proofs.Accepted.{GoodEdition, accepted}
 use Rattle.outbox.specs.Outbox.{final, mark, client, body, encode}
 use Rattle.outbox.specs.Written.{RoomFor}
-use Rattle.plain.specs.Node.{Node}
+use Rattle.plain.specs.Node.{Node, below}
 use Rattle.plain.specs.Answer as Plain
 use Rattle.plain.specs.Answer.{carried, outcome}
+use Rattle.sound.specs.Theorems.{CountsHeld}
 use Rattle.sound.proofs.Room.{puts-after, puts-none}
+use Rattle.sound.proofs.Records.{says-counted}
+use Rattle.sound.proofs.Accepted.{accepted}
+use Rattle.sound.proofs.Steps.{count-low}
 use Rattle.state.specs.declared.State.{State}
+use Rattle.state.specs.View.{bit, countsAt, view}
 use Rattle.state.specs.Fit.{pastLast, isUnfit, settingsUnfit}
 use Rattle.ascii.proofs.Lists.{neither}
 use Rattle.state.proofs.Kept.{each-fit}
 use Rattle.state.proofs.Cells.{fit-at}
-use Rattle.outcome.specs.Outcome.{Sends, ComesAtAny}
+use Rattle.state.proofs.Ones.{active-ones}
+use Rattle.outcome.specs.Outcome.{Sends, Comes, ComesAtAny}
 use Rattle.outcome.specs.Ready.{Ready}
 use Rattle.outcome.specs.declared.Outcome.the-variants.{Sent}
 
@@ -73,6 +80,13 @@ module _ (d : List ℕ) (c : ℕ) (room : 32768 ≤ length d) where
   pub pong-room : (t : ℕ) → t ≤ latest → (token : List ℕ) → length token ≤ 1024 → RoomFor d 0 (final c (pong token t))
   unfolding bytes
   pong-room t h token k = final-room (pong token t) (omega (arith, pong-length token t, data-length (bytes "null") t, seconds-latest t h))
+
+  pub counted-room : (k : ℕ) (xs : List Counts) (mask : ℕ) {x : Counts} {m t : ℕ} → x ≡ countsAt xs k → m ≡ count (bit mask) (below 16) → t ≤ latest
+      → RoomFor d 0 (final c (counted x m t))
+  unfolding countsAt
+  counted-room k xs mask {x} {m} {t} e f h =
+      let held : CountsHeld x = rw e (omega arith, (omega arith, omega arith)) in
+      final-room (counted x m t) (omega (arith, says-counted x m t held (omega (arith, f, count-low (bit mask) 16)) h .1))
 
   denial-room : (a s : List ℕ) (e : Denial) → length (errorReport e) ≤ 100 → length a ≤ 1024 → length s ≤ 1024 → RoomFor d 0 (final c (error a s e))
   denial-room a s e l h k = final-room (error a s e) (omega (arith, error-length a s e))
@@ -126,16 +140,6 @@ module _ {before after : List ℕ} {c written : ℕ} where
   unfolding outcome
   ponged token t x table n values = sends (tableOf table) n t values _ (pong token t) refl x
 
--- ## Data
-
-pub no-data : (xs : List ℕ) (b : Bool) → b ≡ all isSpace xs → b ≡ true → bytes "null" ≡ orNull xs
-unfolding orNull
-no-data xs b e h = rw (sym e ∙ h)
-
-pub some-data : (xs : List ℕ) (b : Bool) → b ≡ all isSpace xs → b ≡ false → xs ≡ orNull xs
-unfolding orNull
-some-data xs b e h = rw (sym e ∙ h)
-
 -- ## The active modules of a client of a fit state
 
 module _ (table : List ℕ) (s : State) (values before : List ℕ) (c : ℕ) (given : Ready table s values before c) where
@@ -145,3 +149,25 @@ module _ (table : List ℕ) (s : State) (values before : List ℕ) (c : ℕ) (gi
       let m = length (tableOf table .modules) in
       let fit = neither (settingsUnfit (s .settings) values 0 _) _ (given .fit) .1 in
       fit-at m (s .clients) c (each-fit m (s .clients) fit c (given .lent .low)) .within
+
+-- ## Counts, of a fit state of which client c is open
+
+pub counted-told : {s : State} {before after : List ℕ} {c t written : ℕ} {x : Counts} {m : ℕ} → x ≡ countsAt (s .counts) c
+    → m ≡ count (bit (getD (s .clients .active) c 0)) (below 16) → Puts before 0 (encode (final c (counted x m t))) after written
+    → (table values : List ℕ) → Ready table s values before c → Comes table s values before c t (Sent written) values after R.count
+unfolding outcome view
+counted-told {s} {before} {after} {c} {t} {written} {x} {m} e f p table values g =
+    let w = tableOf table in
+    let active = active-ones w (s .clients) c (g .isOpen) (accepted table (g .lent .accepted) .fewModules) (mask-low table s values before c g) in
+    sends w (view table s values) t values _ (counted x m t)
+    (ap₂ (λ (y : Counts) (k : ℕ). carried (view table s values) [] [] (counted y k t)) (sym e) (sym (f ∙ active))) p
+
+-- ## Data
+
+pub no-data : (xs : List ℕ) (b : Bool) → b ≡ all isSpace xs → b ≡ true → bytes "null" ≡ orNull xs
+unfolding orNull
+no-data xs b e h = rw (sym e ∙ h)
+
+pub some-data : (xs : List ℕ) (b : Bool) → b ≡ all isSpace xs → b ≡ false → xs ≡ orNull xs
+unfolding orNull
+some-data xs b e h = rw (sym e ∙ h)

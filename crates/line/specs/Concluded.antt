@@ -60,12 +60,14 @@ module _ (before after : List ℕ) (s : State) (c t : ℕ) (r : Answered) where
     pub keeps : Keeps written
     pub settings : r .state .settings ≡ s .settings
     pub clients : r .state .clients ≡ withActive (s .clients) c mask
+    pub counts : r .state .counts ≡ s .counts
 
   -- after a status parameter k has a stored value of so many bytes, from this time on
   pub record Sets (first : Status) (k size written : ℕ) : Type 0 where
     pub keeps : Keeps written
     pub clients : r .state .clients ≡ s .clients
     pub settings : r .state .settings ≡ withLength (settingsWith (s .settings) (statusSettings first t)) k size t
+    pub counts : r .state .counts ≡ s .counts
 
   abbrev pub Concludes : List ℕ → List ℕ → Outcome → Type 0
   Concludes action specifier (Refused e) = Denies action specifier (class (classOf e))

@@ -55,6 +55,7 @@ pub fn conclude(
 {
     let clients = state.clients;
     let settings = state.settings;
+    let counts = state.counts;
     match came {
         Outcome::Refused(class) => {
             let denial = Denial::Class(class);
@@ -73,6 +74,7 @@ pub fn conclude(
                 state: State {
                     clients: next,
                     settings,
+                    counts,
                 },
                 written,
             }
@@ -84,6 +86,7 @@ pub fn conclude(
                 state: State {
                     clients,
                     settings: next,
+                    counts,
                 },
                 written,
             }

@@ -1,5 +1,5 @@
 // A request carried out, by what it asks for.
-ghost use Prim.Native.Nat.{ℕ, _≤_};
+ghost use Prim.Native.Nat.{ℕ, _≤_, _<_};
 ghost use mathlib.Core.Path.{_≡_};
 ghost use mathlib.Core.List.{List};
 ghost use lib.ListN.{length};
@@ -20,11 +20,14 @@ use message::line::Part;
 use message::line::Request;
 use message::line::is_null;
 use message::say::Class;
+use outbox::write::put_final_counted;
 use outbox::write::put_final_edition;
 use outbox::write::put_final_identification;
 use outbox::write::put_final_pong;
 use outcome::Outcome;
 use state::State;
+use state::bits::bit_count;
+use state::count::counts_of;
 use table::edition::Edition;
 use table::edition::edition_of;
 
@@ -49,6 +52,19 @@ fn ping(out: &mut [u8], client: u8, time: u64, token: &[u8]) -> Outcome
     ensures { λ r. ⌜ ((table : List ℕ) → ComesAtAny table (now (out .entry)) client time r (now (out .exit)) (R.ping (now (token .entry)))) ⌝ }
 {
     Outcome::Sent(put_final_pong(out, 0, client, token, time))
+}
+
+// "replies `_counted . [[lines,errors,updates,active],{"t":now}]`, specifier and data ignored"
+fn count(out: &mut [u8], state: State, client: u8, time: u64) -> Outcome
+    requires { ⌜ (32768 ≤ length (now out)) × ((client < 8) × (time ≤ latest)) ⌝ }
+    ensures { λ r. ⌜ ((table values : List ℕ) → Ready table state values (now (out .entry)) client
+        → Comes table state values (now (out .entry)) client time r values (now (out .exit)) R.count) ⌝ }
+{
+    let clients = state.clients;
+    let active = clients.active;
+    let modules = bit_count(active[client as usize]);
+    let counts = counts_of(state, client as usize);
+    Outcome::Sent(put_final_counted(out, 0, client, counts, modules, time))
 }
 
 // The data of a line. "Missing or all-space data is `null`"
@@ -104,6 +120,7 @@ pub fn outcome(
                 text,
             )
         }
+        Request::Count => count(out, state, client, time),
         Request::Malformed => Outcome::Refused(Class::ProtocolError),
     }
 }

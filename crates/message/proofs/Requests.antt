@@ -23,7 +23,7 @@ use Rattle.message.specs.declared.line.Switch.the-variants.{On, Off}
 use Rattle.message.specs.declared.line.Verb.{Verb}
 use Rattle.message.specs.declared.line.Verb.the-variants as Verb
 use Rattle.message.specs.declared.line.Action.{Action}
-use Rattle.message.specs.declared.line.Action.the-variants.{Identify, Describe, Ping, Scoped, Named, Unknown}
+use Rattle.message.specs.declared.line.Action.the-variants.{Identify, Describe, Ping, Scoped, Named, Count, Unknown}
 use Rattle.message.specs.declared.line.Request.{Request}
 use Rattle.message.specs.declared.line.Request.the-variants as Q
 
@@ -99,10 +99,16 @@ module _ (xs : List ℕ) {t : Bool} (e : t ≡ same xs (bytes "*IDN?")) where
                   is-check h =
                       simp (sym e ∙ n, sym e2 ∙ n2, sym e3 ∙ n3, sym e4 ∙ n4, sym e5 ∙ n5, sym e6 ∙ n6, sym e7 ∙ n7, sym e8 ∙ n8, sym e9 ∙ h)
 
-                  pub is-unknown : t9 ≡ false → Unknown ≡ actionOf xs
-                  unfolding actionOf
-                  is-unknown h =
-                      simp (sym e ∙ n, sym e2 ∙ n2, sym e3 ∙ n3, sym e4 ∙ n4, sym e5 ∙ n5, sym e6 ∙ n6, sym e7 ∙ n7, sym e8 ∙ n8, sym e9 ∙ h)
+                  module _ (n9 : t9 ≡ false) {t10 : Bool} (e10 : t10 ≡ same xs (bytes "_count")) where
+                    pub is-count : t10 ≡ true → Count ≡ actionOf xs
+                    unfolding actionOf
+                    is-count h =
+                        simp (sym e ∙ n, sym e2 ∙ n2, sym e3 ∙ n3, sym e4 ∙ n4, sym e5 ∙ n5, sym e6 ∙ n6, sym e7 ∙ n7, sym e8 ∙ n8, sym e9 ∙ n9, sym e10 ∙ h)
+
+                    pub is-unknown : t10 ≡ false → Unknown ≡ actionOf xs
+                    unfolding actionOf
+                    is-unknown h =
+                        simp (sym e ∙ n, sym e2 ∙ n2, sym e3 ∙ n3, sym e4 ∙ n4, sym e5 ∙ n5, sym e6 ∙ n6, sym e7 ∙ n7, sym e8 ∙ n8, sym e9 ∙ n9, sym e10 ∙ h)
 
 -- what a word asks for
 pub asked : Action → Parts → R.Request
@@ -111,6 +117,7 @@ asked Describe p = R.describe
 asked Ping p = R.ping (p .specifier)
 asked (Scoped w) p = scoped (switchRequest w) (p .specifier)
 asked (Named v) p = named (verbRequest v (orNull (p .payload))) (p .specifier)
+asked Count p = R.count
 asked Unknown p = R.malformed
 
 asked-cond : (b : Bool) (x y : Action) (p : Parts) → asked (cond b x y) p ≡ cond b (asked x p) (asked y p)
@@ -136,6 +143,10 @@ module _ (xs : List ℕ) (a s : Part) (w : Action) (e : w ≡ actionOf (part xs 
   pub asks-ping : w ≡ Ping → Asks xs a s Q.Ping
   unfolding asked
   asks-ping h = record { is = λ x. ap (λ (v : Action). asked v (parts xs a s x)) (sym h) ∙ asks x; inside = tt; begin = tt }
+
+  pub asks-count : w ≡ Count → Asks xs a s Q.Count
+  unfolding asked
+  asks-count h = record { is = λ x. ap (λ (v : Action). asked v (parts xs a s x)) (sym h) ∙ asks x; inside = tt; begin = tt }
 
   pub asks-nothing : w ≡ Unknown → Asks xs a s Q.Malformed
   unfolding asked

@@ -20,7 +20,7 @@ use Rattle.message.specs.declared.line.Switch.the-variants.{On, Off}
 use Rattle.message.specs.declared.line.Verb.{Verb}
 use Rattle.message.specs.declared.line.Verb.the-variants as Verb
 use Rattle.message.specs.declared.line.Action.{Action}
-use Rattle.message.specs.declared.line.Action.the-variants.{Identify, Describe, Ping, Scoped, Named, Unknown}
+use Rattle.message.specs.declared.line.Action.the-variants.{Identify, Describe, Ping, Scoped, Named, Count, Unknown}
 use Rattle.message.specs.declared.line.Request.{Request}
 use Rattle.message.specs.declared.line.Request.the-variants as Q
 
@@ -107,7 +107,8 @@ actionOf xs =
     (cond (same xs (bytes "change")) (Named Verb.Change)
     (cond (same xs (bytes "do")) (Named Verb.Execute)
     (cond (same xs (bytes "check")) (Named Verb.Check)
-    Unknown))))))))
+    (cond (same xs (bytes "_count")) Count
+    Unknown)))))))))
 
 -- the requests on modules, and on accessibles with the data x
 abbrev pub switchRequest : Switch → Option (List ℕ) → R.Request
@@ -128,6 +129,7 @@ meaning xs s x Q.Ping = R.ping s
 meaning xs s x (Q.All v) = switchRequest v none
 meaning xs s x (Q.Scoped v m) = switchRequest v (some (part xs m))
 meaning xs s x (Q.Named v m a) = verbRequest v (orNull x) (part xs m) (part xs a)
+meaning xs s x Q.Count = R.count
 meaning xs s x Q.Malformed = R.malformed
 
 -- the names of a request stand within the line
@@ -138,6 +140,7 @@ Inside xs Q.Ping = Unit
 Inside xs (Q.All v) = Unit
 Inside xs (Q.Scoped v m) = Within xs m
 Inside xs (Q.Named v m a) = (Within xs m) × (Within xs a)
+Inside xs Q.Count = Unit
 Inside xs Q.Malformed = Unit
 
 -- the module's name begins with the specifier s, the accessible's after its first `:` (58): what begins there ends with the specifier
@@ -153,6 +156,7 @@ Begin xs s Q.Ping = Unit
 Begin xs s (Q.All v) = Unit
 Begin xs s (Q.Scoped v m) = m .from ≡ s .from
 Begin xs s (Q.Named v m a) = NamedIn xs s m a
+Begin xs s Q.Count = Unit
 Begin xs s Q.Malformed = Unit
 
 -- a line's parts, with the data x

@@ -5,7 +5,7 @@ use mathlib.Core.Option.{Option, none, some}
 use Rattle.ascii.specs.Text.{bytes}
 use Rattle.message.specs.Error as Error
 use Rattle.message.specs.Error.{faultName}
-use Rattle.message.specs.Reply.{Held, heldAs, Report}
+use Rattle.message.specs.Reply.{Held, heldAs, Report, dataReport}
 use Rattle.message.specs.declared.say.Class.{Class}
 use Rattle.message.specs.declared.say.Class.the-variants.{ProtocolError, NoSuchModule, NoSuchParameter, NoSuchCommand, ReadOnly, BadJSON, WrongType, RangeError}
 use Rattle.message.specs.declared.say.Fault.{Fault}
@@ -50,3 +50,7 @@ reportOf m a h t = record { moduleName = m; accessible = a; held = h; time = t }
 -- what stands before the time in a report of why a parameter can't be read
 unfoldable pub faultFront : Error.Fault → List ℕ
 faultFront f = bytes "[\"" ++ faultName f ++ bytes "\",\"" ++ faultName f ++ bytes "\",{\"t\":"
+
+-- the line that tells counts, by their text
+unfoldable pub countedText : List ℕ → ℕ → List ℕ
+countedText text now = bytes "_counted . " ++ dataReport text now

@@ -55,6 +55,7 @@ enum Action {
     Ping,
     Scoped(Switch),
     Named(Verb),
+    Count,
     Unknown,
 }
 
@@ -66,6 +67,7 @@ pub enum Request {
     All(Switch),
     Scoped(Switch, Part),
     Named(Verb, Part, Part),
+    Count,
     Malformed,
 }
 
@@ -189,6 +191,9 @@ fn action_of(word: &[u8]) -> Action
     if same(word, b"check") {
         return Action::Named(Verb::Check);
     }
+    if same(word, b"_count") {
+        return Action::Count;
+    }
     Action::Unknown
 }
 
@@ -250,6 +255,7 @@ pub fn request_of(line: &[u8], action: Part, specifier: Part) -> Request
         Action::Ping => Request::Ping,
         Action::Scoped(switch) => scoped_request(line, specifier, switch),
         Action::Named(verb) => named_request(line, specifier, verb),
+        Action::Count => Request::Count,
         Action::Unknown => Request::Malformed,
     }
 }

@@ -1,17 +1,20 @@
 // What the node says: reports and lines, written at a position of a lent buffer, and their lengths.
 ghost use mathlib.Core.Path.{_≡_};
-ghost use mathlib.Core.List.{_++_};
+ghost use mathlib.Core.List.{_∷_, _++_};
 ghost use mathlib.Core.Option.{none, some};
 ghost use Prim.Native.Nat.{_+_, _≤_};
 ghost use lib.ListN.{length};
+ghost use Rattle.ascii.specs.Numbers.{decimal};
 ghost use Rattle.ascii.specs.Writer.{Puts};
 ghost use Rattle.message.specs.Error.{faultNumber, faultOf};
-ghost use Rattle.message.specs.Reply.{dataReport, faultReport, heldReport, reportText, classReport, errorReport, optionally, replyLine, identification, pong, error};
-ghost use Rattle.message.specs.Said.{classOf, faultAs, denialOf, sensorFault, heldBy, reportOf, faultFront};
+ghost use Rattle.message.specs.Reply.{dataReport, faultReport, heldReport, reportText, classReport, errorReport, optionally, countsText, replyLine, identification, pong, error};
+ghost use Rattle.message.specs.Said.{classOf, faultAs, denialOf, sensorFault, heldBy, reportOf, faultFront, countedText};
 use ascii::write::put;
 use ascii::write::put_byte;
+use ascii::write::put_decimal;
 use ascii::write::put_seconds;
 use ascii::write::seconds_length;
+use counter::Counts;
 
 // The error classes.
 pub enum Class {
@@ -332,4 +335,40 @@ pub fn put_error(
     let space = put(out, second, specifier);
     let report = put_byte(out, space, b' ');
     put_error_report(out, report, denial)
+}
+
+// A byte and a number of at most ten digits.
+fn put_count(out: &mut [u8], at: usize, mark: u8, n: u32) -> usize
+    requires { ⌜ at + 11 ≤ length (now out) ⌝ }
+    ensures { λ r. ⌜ (Puts (now (out .entry)) at (mark ∷ decimal n) (now (out .exit)) r) × (r ≤ at + 11) ⌝ }
+{
+    let digits = put_byte(out, at, mark);
+    put_decimal(out, digits, n as u64)
+}
+
+// "`[lines,errors,updates,active]`", at the front of a buffer of its own.
+pub fn put_counts(out: &mut [u8], counts: Counts, active: u32) -> usize
+    requires { ⌜ 64 ≤ length (now out) ⌝ }
+    ensures { λ r. ⌜ (Puts (now (out .entry)) 0 (countsText counts active) (now (out .exit)) r) × (r ≤ length (now (out .entry))) ⌝ }
+{
+    let second = put_count(out, 0, b'[', counts.lines);
+    let third = put_count(out, second, b',', counts.errors);
+    let fourth = put_count(out, third, b',', counts.updates);
+    let close = put_count(out, fourth, b',', active);
+    put_byte(out, close, b']')
+}
+
+pub fn counted_length(text: &[u8], time: u64) -> usize
+    ensures { λ r. ⌜ r ≡ length (countedText (now (text .entry)) time) ⌝ }
+{
+    data_report_length(text, time) + 11
+}
+
+// `_counted`, with the text of the counts.
+pub fn put_counted(out: &mut [u8], at: usize, text: &[u8], time: u64) -> usize
+    requires { ⌜ at + length (countedText (now text) time) ≤ length (now out) ⌝ }
+    ensures { λ r. ⌜ Puts (now (out .entry)) at (countedText (now (text .entry)) time) (now (out .exit)) r ⌝ }
+{
+    let data = put(out, at, b"_counted . ");
+    put_data_report(out, data, text, time)
 }

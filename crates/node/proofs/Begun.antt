@@ -6,7 +6,7 @@ use mathlib.Core.Bool.{Bool, cond}
 use mathlib.Core.List.{List, []}
 use mathlib.Core.Logic.{_≢_}
 use mathlib.Core.Option.{Option, none, some}
-use mathlib.Core.Path.{_≡_, refl, sym, ap, subst, fun-ext, _∙_}
+use mathlib.Core.Path.{_≡_, refl, sym, ap, ap₂, subst, fun-ext, _∙_}
 use lib.Dec.{eqb}
 use lib.ListN.{length, getD, getD-replicate}
 use Rattle.ascii.specs.Numbers.{latest}
@@ -15,16 +15,18 @@ use Rattle.table.specs.Layout.{readTable, orEmpty, tableOf}
 use Rattle.table.specs.Search.{placedFrom, parameters}
 use Rattle.report.specs.Judge.{lowest, tableNumber}
 use Rattle.report.proofs.Faults.{lowest-first}
-use Rattle.plain.specs.Node.{Client, closed, initially, begin, showing, withClients, noneOpen}
+use Rattle.counter.specs.declared.Counts.{Counts}
+use Rattle.counter.specs.Counts.{noCounts}
+use Rattle.plain.specs.Node.{Client, closed, initially, begin, showing, withClients, withCounts, noneOpen}
 use Rattle.plain.specs.Calls.{startNumber, started}
 use Rattle.state.specs.declared.Clients.{Clients}
 use Rattle.state.specs.declared.State.{State}
-use Rattle.state.specs.View.{isSet, clientAt, valueAt, view}
+use Rattle.state.specs.View.{isSet, clientAt, valueAt, countsAt, view}
 use Rattle.state.proofs.Views.{begun-view}
 use Rattle.sound.proofs.Accepted.{accepted}
 use Rattle.promise.specs.declared.Done.{Done}
 use Rattle.promise.specs.Promise.{blank, Begins}
-use Rattle.promise.proofs.Blank.{zeros, blank-size, blank-error, blank-fit}
+use Rattle.promise.proofs.Blank.{zeros, blank-size, blank-error, blank-counts, blank-fit}
 use Rattle.node.proofs.Refused.{Quiet}
 use Rattle.promise.specs.Answer.{quietDone}
 
@@ -50,10 +52,11 @@ blank-closed t c = not-open (blank t .clients) c (zeros 8 c)
 
 -- bytes that can't be read are a table of no parameters
 unread-view : (table : List ℕ) → readTable table ≡ none → (s : State) (values : List ℕ) (t : ℕ) → ((c : ℕ) → clientAt (s .clients) c ≡ closed)
-    → view table s values ≡ begin (tableOf table) t
+    → ((c : ℕ) → countsAt (s .counts) c ≡ noCounts) → view table s values ≡ begin (tableOf table) t
 unfolding view begin tableOf orEmpty parameters placedFrom valueAt initially
-unread-view table e s values t h =
-    rw e (ap (λ (f : ℕ → Client). withClients (noneOpen (λ p. showing [] 0)) f) (fun-ext h))
+unread-view table e s values t h z =
+    rw e
+    (ap₂ (λ (f : ℕ → Client) (g : ℕ → Counts). withCounts (withClients (noneOpen (λ p. showing [] 0)) f) g) (fun-ext h) (fun-ext z))
 
 blank-view : (table values : List ℕ) (t : ℕ) → ((p : ℕ) → p < length (parameters (tableOf table)) → getD (blank t .settings .time) p 0 ≡ t)
     → view table (blank t) values ≡ begin (tableOf table) t
@@ -61,10 +64,10 @@ unfolding tableOf orEmpty
 blank-view table values t h = go (readTable table) refl
   where
     go : (o : Option Table) → readTable table ≡ o → view table (blank t) values ≡ begin (tableOf table) t
-    go none e = unread-view table e (blank t) values t (blank-closed t)
+    go none e = unread-view table e (blank t) values t (blank-closed t) (blank-counts t)
     go (some w) e =
         let is : tableOf table ≡ w = ap orEmpty e in
-        begun-view table w e (blank t) values t (blank-closed t) (λ p l. blank-size t p) (λ p l. blank-error t p) (λ p l. h p (rw is l))
+        begun-view table w e (blank t) values t (blank-closed t) (λ p l. blank-size t p) (λ p l. blank-error t p) (λ p l. h p (rw is l)) (blank-counts t)
         ∙ ap (λ (x : Table). begin x t) (sym is)
 
 -- ## Answers

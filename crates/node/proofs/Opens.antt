@@ -17,6 +17,7 @@ use Rattle.state.specs.declared.State.{State}
 use Rattle.state.specs.View.{isSet, view, nextClients}
 use Rattle.state.specs.Fit.{isUnfit}
 use Rattle.state.specs.Changed.{withOpened, withClosed}
+use Rattle.state.specs.Counted.{Cleared}
 use Rattle.state.proofs.Becomes.{Sized}
 use Rattle.state.proofs.Cells.{opened-becomes, closed-becomes}
 use Rattle.promise.specs.declared.Done.{Done}
@@ -91,13 +92,15 @@ module _ (table : List ℕ) (s : State) (values : List ℕ) (c t : ℕ) where
         pub close-closed : not b ≡ true → Quiet r 12 s → Answers closing r
         close-closed y q = refused-second table s values [] closing numbered-close lent ok (not-high h) (ap (λ (z : Bool). fault 12 (not z)) (is-open judged (not-true b y))) q
 
-        pub open-good : {x : Clients} → b ≡ false → Sized (s .clients) → x ≡ withOpened (s .clients) c → Quiet r 0 (next x) → Answers opening r
-        open-good {x} y z d q =
-            subst (Answers opening) (sym q)
-            (accepts table s values opening [] (quietDone 0 (next x)) values []
+        pub open-good : {x : Clients} → b ≡ false → Sized (s .clients) → x ≡ withOpened (s .clients) c → {u : State} → Cleared (next x) c u
+            → Quiet r 0 u → Answers opening r
+        open-good {x} y z d {u} k q =
+            let low : c < 8 = omega arith in
+            subst (Answers opening) (sym (q ∙ ap (quietDone 0) (k .is)))
+            (accepts table s values opening [] _ values []
             (not-refused table s values [] opening numbered-open lent ok (not-high h) (ap (fault 13) (is-open judged y)))
             (omega arith)
-            (opens table s values (fit lent ok) c t x (opened-becomes (s .clients) z c (omega arith) d)))
+            (opens table s values (fit lent ok) c t x (opened-becomes (s .clients) z c low d) (k .size) low))
 
         pub close-good : {x : Clients} → not b ≡ false → Sized (s .clients) → x ≡ withClosed (s .clients) c → Quiet r 0 (next x) → Answers closing r
         close-good {x} y z d q =

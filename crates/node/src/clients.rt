@@ -6,6 +6,7 @@ use state::State;
 use state::client::closed;
 use state::client::is_open;
 use state::client::opened;
+use state::count::cleared;
 ghost use mathlib.Core.List.{[]};
 ghost use lib.ListN.{length};
 ghost use Rattle.plain.specs.Calls.{Open, Close, withArea};
@@ -38,14 +39,13 @@ pub extern "C" fn jihfasul_open(
         return quiet(13, state);
     }
     let settings = state.settings;
-    let next = opened(clients, c);
-    quiet(
-        0,
-        State {
-            clients: next,
-            settings,
-        },
-    )
+    let counts = state.counts;
+    let next = State {
+        clients: opened(clients, c),
+        settings,
+        counts,
+    };
+    quiet(0, cleared(next, c))
 }
 
 // "close forgets both": the line and what is active.
@@ -72,12 +72,14 @@ pub extern "C" fn jihfasul_close(
         return quiet(12, state);
     }
     let settings = state.settings;
+    let counts = state.counts; // "close keeps them"
     let next = closed(clients, c);
     quiet(
         0,
         State {
             clients: next,
             settings,
+            counts,
         },
     )
 }

@@ -1,5 +1,6 @@
 // The start of a node.
 use crate::judge::quiet;
+use counter::Counts;
 use describe::judge::table_number;
 use promise::Done;
 use state::Clients;
@@ -9,7 +10,7 @@ ghost use mathlib.Core.Path.{_≡_};
 ghost use Rattle.promise.specs.Promise as Promise;
 ghost use Rattle.promise.specs.Promise.{Begins};
 
-// A state with no client open and no value set, with the same time for every parameter.
+// A state with no client open and no value set, with the same time for every parameter, and all counts 0.
 fn blank(time: u64) -> State
     ensures { λ r. ⌜ r ≡ Promise.blank time ⌝ }
 {
@@ -26,6 +27,11 @@ fn blank(time: u64) -> State
             error: [0; 64],
             time: [time; 64],
         },
+        counts: [Counts {
+            lines: 0,
+            errors: 0,
+            updates: 0,
+        }; 8],
     }
 }
 

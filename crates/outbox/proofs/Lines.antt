@@ -9,14 +9,16 @@ use lib.ListN.{length, drop}
 use Rattle.ascii.specs.Text.{bytes}
 use Rattle.ascii.specs.Bytes.{all, same, head, after, isSome, isIn, isDigit, isLetter}
 use Rattle.ascii.specs.Names.{isName, isNameByte}
-use Rattle.ascii.specs.Numbers.{seconds}
+use Rattle.ascii.specs.Numbers.{decimal, seconds}
+use Rattle.ascii.proofs.Digits.{decimal-digits}
 use Rattle.ascii.proofs.Lists.{both, Lacks, lacks, before, beyond, before-at, beyond-at}
 use Rattle.message.specs.Error.{Class, ProtocolError, NoSuchModule, NoSuchParameter, NoSuchCommand, ReadOnly, BadJSON, WrongType, RangeError, className, classText, Fault, HardwareError, CommunicationFailed, ReadFailed, OutOfRange, faultName, Denial, class, fault}
-use Rattle.message.specs.Reply.{Held, valued, failed, Report, Reply, identification, describing, pong, active, inactive, reply, changed, done, checked, error, dataReport, faultReport, heldReport, reportText, classReport, errorReport, optionally, identity, replyLine, updateWord, updateLine}
+use Rattle.message.specs.Reply.{Held, valued, failed, Report, Reply, identification, describing, pong, active, inactive, reply, changed, done, error, dataReport, faultReport, heldReport, reportText, classReport, errorReport, optionally, replyLine, updateWord, updateLine, begins, countsText, counted, checked, identity}
 use Rattle.message.specs.Said.{faultFront}
-use Rattle.outbox.specs.Theorems.{Word, NamedReport, IsValue, ValueReport, Edition, WellFormedReply}
+use Rattle.counter.specs.declared.Counts.{Counts}
+use Rattle.outbox.specs.Theorems.{Word, NamedReport, IsValue, ValueReport, WellFormedReply, Edition}
 use Rattle.outbox.proofs.Lists.{beforeLast, beyondLast, before-last-eq, beyond-last-eq, without, without-eq}
-use Rattle.outbox.proofs.Numbers.{numberFrom, seconds-read, seconds-lacks}
+use Rattle.outbox.proofs.Numbers.{numberFrom, decimal-read, seconds-read, seconds-lacks}
 
 -- ## Data reports: the time is what follows the last `:` (58)
 
@@ -44,9 +46,6 @@ module _ (v : List ℕ) (t : ℕ) where
   value-read = rw (data-parts, before-last-eq 58 (bytes "[" ++ v ++ bytes ",{\"t\"") (seconds t) no-colon, without-eq (bytes "[" ++ v) (bytes ",{\"t\""))
 
 -- ## Reports of why a parameter can't be read: what stands before the time tells which
-
-begins : List ℕ → List ℕ → Bool
-begins w xs = isSome (after w xs)
 
 readFault : List ℕ → Fault
 readFault xs =
@@ -186,6 +185,47 @@ pong-read : (token : List ℕ) (now : ℕ) → Word token → readPong (token ++
 unfolding readPong bytes
 pong-read token now h = simp (append-assoc, before-at, beyond-at, time-read)
 
+-- counts: each number ends at a comma (44), the last at the bracket (93)
+readNumber : List ℕ → ℕ
+readNumber xs = numberFrom 0 (xs ++ [])
+
+number-read : (n : ℕ) → readNumber (decimal n) ≡ n
+unfolding readNumber numberFrom
+number-read n = decimal-read n []
+
+numbers-lack : (s : ℕ) → isDigit s ≡ false → (n : ℕ) → Lacks s (decimal n)
+numbers-lack s f n = lacks isDigit s f (decimal n) (decimal-digits n)
+
+readCounts : List ℕ → ℕ → Reply
+readCounts xs now =
+    let second = beyond 44 xs in
+    let third = beyond 44 second in
+    counted (record { lines = readNumber (before 44 xs); errors = readNumber (before 44 second); updates = readNumber (before 44 third) })
+    (readNumber (before 93 (beyond 44 third)))
+    now
+
+counts-parts : (x : Counts) (n : ℕ)
+    → countsText x n ≡ 91 ∷ (decimal (x .lines) ++ 44 ∷ (decimal (x .errors) ++ 44 ∷ (decimal (x .updates) ++ 44 ∷ (decimal n ++ 93 ∷ []))))
+unfolding countsText bytes
+counts-parts x n =
+    let a : List ℕ = 91 ∷ decimal (x .lines) in
+    let b : List ℕ = 44 ∷ decimal (x .errors) in
+    let c : List ℕ = 44 ∷ decimal (x .updates) in
+    let d : List ℕ = 44 ∷ decimal n in
+    append-assoc (a ++ b ++ c) d (93 ∷ []) ∙ append-assoc (a ++ b) c (d ++ 93 ∷ []) ∙ append-assoc a b (c ++ (d ++ 93 ∷ []))
+
+readCounted : List ℕ → Reply
+readCounted xs = readCounts (drop 1 (readValue xs)) (readTime xs)
+
+counted-read : (x : Counts) (n now : ℕ) → readCounted (dataReport (countsText x n) now) ≡ counted x n now
+unfolding readCounted readCounts isIn
+counted-read x n now =
+    let l = numbers-lack 44 refl (x .lines) in
+    let e = numbers-lack 44 refl (x .errors) in
+    let u = numbers-lack 44 refl (x .updates) in
+    let m = numbers-lack 93 refl n in
+    rw (value-read, time-read, counts-parts) (simp (before-at, beyond-at, number-read))
+
 readScope : List ℕ → Option (List ℕ)
 readScope [] = none
 readScope (b ∷ m) = some m
@@ -209,7 +249,8 @@ readReply xs =
     (cond (begins (bytes "changed") xs) (changed (readReport readValued (drop 8 xs)))
     (cond (begins (bytes "done") xs) (done (readReport readValued (drop 5 xs)))
     (cond (begins (bytes "checked") xs) (checked (readReport readValued (drop 8 xs)))
-    (readError (drop 6 xs)))))))))))
+    (cond (begins (bytes "_counted") xs) (readCounted (drop 11 xs))
+    (readError (drop 6 xs))))))))))))
 
 -- what a table gives begins as no other line does
 given-read : (x : List ℕ) (r : Reply) → Edition (some x) → cond (begins (bytes "ISSE,SECoP,") x) (identification (some x)) r ≡ identification (some x)
@@ -230,4 +271,5 @@ reply-read (reply r) h = ap reply (report-read r h)
 reply-read (changed r) h = ap changed (report-read r h)
 reply-read (done r) h = ap done (report-read r h)
 reply-read (checked r) h = ap checked (report-read r h)
+reply-read (counted x n now) h = counted-read x n now
 reply-read (error a s c) h = error-read a s c (h .0) (h .1)

@@ -7,7 +7,7 @@ use mathlib.Core.Path.{_≡_}
 use Rattle.ascii.specs.Text.{bytes}
 use Rattle.ascii.specs.Bytes.{isSome, after, all, isSpace}
 use Rattle.ascii.specs.Names.{isName}
-use Rattle.message.specs.Reply.{Held, valued, failed, Report, Reply, identification, describing, pong, active, inactive, reply, changed, done, checked, error}
+use Rattle.message.specs.Reply.{Held, valued, failed, Report, Reply, identification, describing, pong, active, inactive, reply, changed, done, counted, error, checked}
 use Rattle.outbox.specs.Outbox.{Record, final, update, orderChange, orderCommand, encodeAll}
 
 -- a word of a line: no space in it
@@ -47,6 +47,7 @@ WellFormedReply (reply r) = ValueReport r
 WellFormedReply (changed r) = ValueReport r
 WellFormedReply (done r) = ValueReport r
 WellFormedReply (checked r) = ValueReport r
+WellFormedReply (counted x n now) = Unit {0}
 WellFormedReply (error a s d) = Word a × Word s
 
 abbrev pub WellFormed : Record → Type 0

@@ -1,4 +1,5 @@
-// Outbox records: their bytes can be read back, and are written into a lent buffer.
+// Outbox records: their bytes can be read back, are written into a lent buffer, and are counted there.
+pub mod tally;
 pub mod write;
 
 ghost use mathlib.Core.Path.{_≡_};

@@ -6,17 +6,21 @@ ghost use lib.ListN.{length};
 ghost use Rattle.ascii.specs.Text.{bytes};
 ghost use Rattle.ascii.specs.Numbers.{twoBytes};
 ghost use Rattle.ascii.specs.Writer.{Puts};
-ghost use Rattle.message.specs.Reply.{valued, reportText, optionally, identification, pong, error};
-ghost use Rattle.message.specs.Said.{denialOf, heldBy, reportOf};
+ghost use Rattle.message.specs.Reply.{valued, reportText, optionally, identification, pong, counted, error};
+ghost use Rattle.message.specs.Said.{denialOf, heldBy, reportOf, countedText};
 ghost use Rattle.outbox.specs.Outbox.{encode, final, update, orderChange, orderCommand};
 ghost use Rattle.outbox.specs.Written.{sealed, Room, LineRoom, RoomFor, describingStart, toldReply, switchedReply};
 use ascii::write::put;
 use ascii::write::put_byte;
+use counter::Counts;
 use message::say::Denial;
 use message::say::Sensor;
+use message::say::counted_length;
 use message::say::error_length;
 use message::say::named_length;
 use message::say::pong_length;
+use message::say::put_counted;
+use message::say::put_counts;
 use message::say::put_error;
 use message::say::put_identification;
 use message::say::put_named;
@@ -79,6 +83,34 @@ pub fn put_final_pong(out: &mut [u8], at: usize, client: u8, token: &[u8], time:
     let line = put_header(out, at, b"RP", client, size + 1);
     let end = put_pong(out, line, token, time);
     put_byte(out, end, 10)
+}
+
+// `_counted`, by the text of the counts.
+fn put_counted_record(out: &mut [u8], at: usize, client: u8, text: &[u8], time: u64) -> usize
+    requires { ⌜ LineRoom (now out) at (bytes "RP") client (countedText (now text) time) ⌝ }
+    ensures { λ r. ⌜ Puts (now (out .entry)) at (sealed (bytes "RP") client (countedText (now (text .entry)) time ++ bytes "\n")) (now (out .exit)) r ⌝ }
+{
+    let size = counted_length(text, time);
+    let line = put_header(out, at, b"RP", client, size + 1);
+    let end = put_counted(out, line, text, time);
+    put_byte(out, end, 10)
+}
+
+// Four numbers of at most ten digits have room in 64 bytes.
+pub fn put_final_counted(
+    out: &mut [u8],
+    at: usize,
+    client: u8,
+    counts: Counts,
+    modules: u32,
+    time: u64,
+) -> usize
+    requires { ⌜ RoomFor (now out) at (final client (counted counts modules time)) ⌝ }
+    ensures { λ r. ⌜ Puts (now (out .entry)) at (encode (final client (counted counts modules time))) (now (out .exit)) r ⌝ }
+{
+    let mut text = [0; 64];
+    let end = put_counts(&mut text, counts, modules);
+    put_counted_record(out, at, client, &text[..end], time)
 }
 
 pub fn put_final_error(

@@ -10,7 +10,7 @@ use Rattle.ascii.specs.Names.{isName}
 use Rattle.ascii.proofs.Lists.{same-is}
 use Rattle.table.specs.Table.{Table}
 use Rattle.message.specs.Line.{Parts}
-use Rattle.message.specs.Request.{Request, identify, describe, ping, activate, deactivate, read, change, execute, check, malformed, modulePart, accessiblePart, named, orNull, request}
+use Rattle.message.specs.Request.{Request, identify, describe, ping, activate, deactivate, read, change, execute, check, count, malformed, modulePart, accessiblePart, named, orNull, request}
 use Rattle.message.specs.Error.{class, ProtocolError}
 use Rattle.plain.specs.Node.{Node}
 use Rattle.plain.specs.Answer.{Outcome, refused, outcome, conclude, answerParts, settingsOf, partsSet}
@@ -33,6 +33,7 @@ module _ (w : Table) (h : w .edition ≡ none) (n : Node) (c now : ℕ) where
   same-request (change m a v) = refl
   same-request (execute m a v) = refl
   same-request (check m a v) = rw h
+  same-request count = refl
   same-request malformed = refl
 
   -- it is refused whatever its names are

@@ -4,4 +4,5 @@ pub mod Clients
 pub mod Outcomes
 pub mod Busy
 pub mod Notes
+pub mod Counts
 pub mod Editions

@@ -4,7 +4,7 @@ use mathlib.Core.List.{List, [], _∷_}
 use mathlib.Core.Path.{_≡_, refl, ap}
 use Rattle.table.specs.Table.{Table}
 use Rattle.message.specs.Line.{Parts}
-use Rattle.message.specs.Request.{Request, identify, describe, ping, activate, deactivate, read, change, execute, check, malformed, request}
+use Rattle.message.specs.Request.{Request, identify, describe, ping, activate, deactivate, read, change, execute, count, malformed, request, check}
 use Rattle.plain.specs.Node.{Node}
 use Rattle.plain.specs.Answer.{outcome, conclude, answerParts, settingsOf, partsSet}
 use Rattle.plain.specs.Notes.{formerly, formerParts, AsBefore}
@@ -21,6 +21,7 @@ module _ (w : Table) (n : Node) (c now : ℕ) where
   same-outcome (change m a v) h = refl
   same-outcome (execute m a v) h = refl
   same-outcome (check m a v) h = refl
+  same-outcome count h = refl
   same-outcome malformed h = refl
 
   same-sets : (r : Request) → settingsOf (outcome w n c now r) ≡ settingsOf (formerly w n c now r)
@@ -34,6 +35,7 @@ module _ (w : Table) (n : Node) (c now : ℕ) where
   same-sets (change m a v) = refl
   same-sets (execute m a v) = refl
   same-sets (check m a v) = refl
+  same-sets count = refl
   same-sets malformed = refl
 
   pub lines-are-as-before : (p : Parts) → AsBefore w n c now p

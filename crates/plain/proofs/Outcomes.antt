@@ -1,6 +1,6 @@
 -- What a request comes to, by the kinds of outcome that there are: an error, a reply alone, a change of what the sender has active, a setting of a
 -- parameter, an order of a command. What holds of each kind holds of every request; so, too, of what one request comes to at two nodes that hold the
--- same values. Assumes nothing.
+-- same values and, of the client that asks, the same counts and as many active modules. Assumes nothing.
 use Prim.Native.Nat.{ℕ}
 use mathlib.Core.Bool.{Bool, true, false, cond}
 use mathlib.Core.List.{List, [], _∷_, _++_}
@@ -16,12 +16,12 @@ use Rattle.table.specs.Search.{Placed, parameters, commands, findModule, findPa
 use Rattle.table.proofs.Search.{parameter-there, parameter-named, command-there, command-named}
 use Rattle.report.specs.Report.{report}
 use Rattle.message.specs.Line.{Parts}
-use Rattle.message.specs.Request.{Request, identify, describe, ping, activate, deactivate, read, change, execute, check, malformed}
+use Rattle.message.specs.Request.{Request, identify, describe, ping, activate, deactivate, read, change, execute, count, malformed, check}
 use Rattle.message.specs.Error.{Fault, class, fault, Class, ProtocolError, NoSuchModule, NoSuchParameter, NoSuchCommand, ReadOnly, BadJSON, WrongType, RangeError}
-use Rattle.message.specs.Reply.{Held, valued, failed, Report, Reply, identification, describing, pong, reply, done, checked, error}
+use Rattle.message.specs.Reply.{Held, valued, failed, Report, Reply, identification, describing, pong, reply, done, counted, error, checked}
 use Rattle.outbox.specs.Outbox.{Record, final, orderCommand}
-use Rattle.plain.specs.Node.{Value, holding, showing, Node, reportOf}
-use Rattle.plain.specs.Answer.{Outcome, refused, carried, found, letIn, argumentVerdict, argumentForm, activates, deactivates, inScope, tells, reads, sets, shows, judging, changes, checks, does, outcome, conclude}
+use Rattle.plain.specs.Node.{Value, holding, showing, Node, activeCount, reportOf}
+use Rattle.plain.specs.Answer.{Outcome, refused, carried, found, letIn, argumentVerdict, argumentForm, activates, deactivates, inScope, tells, reads, sets, changes, does, outcome, conclude, shows, judging, checks}
 
 -- ## What an outcome leaves and sends
 
@@ -52,15 +52,21 @@ pub record LetIn (w : Table) (k : ℕ × Placed Parameter) (v : List ℕ) : Type
   pub writable : k .1 .it .readonly ≡ false
   pub fitting : verdict (k .1 .it .datainfo) v ≡ fits
 
--- requests that are answered by a reply alone, with the reply, where these values are held
-pub data Tells (w : Table) (now : ℕ) (values : ℕ → Value) : Request → Reply → Type 0 where
-  by-identify : Tells w now values identify (identification (w .edition))
-  by-describe : Tells w now values describe (describing (report w))
-  by-ping : {token : List ℕ} → Tells w now values (ping token) (pong token now)
-  by-read : (k : ℕ × Placed Parameter) → getElem? (parameters w) (k .0) ≡ some (k .1) → (v : List ℕ) (t : ℕ) → values (k .0) ≡ showing v t
-      → Tells w now values (read (k .1 .moduleName) (k .1 .it .name)) (reply (reportOf (k .1) (showing v t)))
+-- requests of client c that are answered by a reply alone, with the reply, at a node
+pub data Tells (w : Table) (n : Node) (c now : ℕ) : Request → Reply → Type 0 where
+  by-identify : Tells w n c now identify (identification (w .edition))
+  by-describe : Tells w n c now describe (describing (report w))
+  by-ping : {token : List ℕ} → Tells w n c now (ping token) (pong token now)
+  by-read : (k : ℕ × Placed Parameter) → getElem? (parameters w) (k .0) ≡ some (k .1) → (v : List ℕ) (t : ℕ) → n .values (k .0) ≡ showing v t
+      → Tells w n c now (read (k .1 .moduleName) (k .1 .it .name)) (reply (reportOf (k .1) (showing v t)))
   by-check : (k : ℕ × Placed Parameter) (v : List ℕ) → LetIn w k v → isSome (w .edition) ≡ true
-      → Tells w now values (check (k .1 .moduleName) (k .1 .it .name) v) (checked (reportOf (k .1) (showing (storedForm (k .1 .it .datainfo) v) now)))
+      → Tells w n c now (check (k .1 .moduleName) (k .1 .it .name) v) (checked (reportOf (k .1) (showing (storedForm (k .1 .it .datainfo) v) now)))
+  by-count : Tells w n c now count (counted (n .counts c) (activeCount w (n .clients c)) now)
+
+-- two nodes tell client c the same of itself
+pub record SameCounts (w : Table) (m n : Node) (c : ℕ) : Type 0 where
+  pub counts : m .counts c ≡ n .counts c
+  pub active : activeCount w (m .clients c) ≡ activeCount w (n .clients c)
 
 -- the modules that an activation is about: all, or the one that is named
 pub data Scope (w : Table) : Option (List ℕ) → (ℕ → Bool) → Type 0 where
@@ -84,7 +90,7 @@ pub record Kinds (w : Table) (m n : Node) (c now : ℕ) (Q : Request → Outcome
   -- a read of parameter k, which can't be read
   pub failing : (k : ℕ × Placed Parameter) (f : Fault) (t : ℕ) → getElem? (parameters w) (k .0) ≡ some (k .1) → n .values (k .0) ≡ holding (failed f) t
       → Q (read (k .1 .moduleName) (k .1 .it .name)) (refused (fault f t)) (refused (fault f t))
-  pub telling : (q : Request) (r : Reply) → Tells w now (n .values) q r → Q q (carried m [] [] r) (carried n [] [] r)
+  pub telling : (q : Request) (r : Reply) → Tells w n c now q r → Q q (carried m [] [] r) (carried n [] [] r)
   pub activating : (s : Option (List ℕ)) (wanted : ℕ → Bool) → Scope w s wanted
       → Q (activate s) (activates w m c now wanted s) (activates w n c now wanted s)
   pub deactivating : (s : Option (List ℕ)) (wanted : ℕ → Bool) → Scope w s wanted
@@ -96,7 +102,8 @@ pub record Kinds (w : Table) (m n : Node) (c now : ℕ) (Q : Request → Outcome
 
 -- ## Every request
 
-module _ (w : Table) (m n : Node) (same : m .values ≡ n .values) (c now : ℕ) (Q : Request → Outcome → Outcome → Type 0) (h : Kinds w m n c now Q) where
+module _ (w : Table) (m n : Node) (same : m .values ≡ n .values) (c now : ℕ) (own : SameCounts w m n c)
+    (Q : Request → Outcome → Outcome → Type 0) (h : Kinds w m n c now Q) where
   found-hold : {A : Type 0} (q : Request) (x : Class) (o : Option A) (f g : A → Outcome) → ((a : A) → o ≡ some a → Q q (f a) (g a))
       → Q q (found x o f) (found x o g)
   unfolding found
@@ -185,6 +192,9 @@ module _ (w : Table) (m n : Node) (same : m .values ≡ n .values) (c now : ℕ)
       let-in-hold (execute (k .1 .moduleName) (k .1 .it .name) v) (argumentVerdict (k .1 .it .argument) v) _ _
       (λ f. h .doing k v (record { there = t; fitting = f }))
 
+  count-hold : Q count (carried m [] [] (counted (m .counts c) (activeCount w (m .clients c)) now)) (carried n [] [] (counted (n .counts c) (activeCount w (n .clients c)) now))
+  count-hold = rw (own .counts, own .active) (h .telling count _ by-count)
+
   -- What holds of each kind holds of what a request comes to at both nodes.
   pub outcomes-hold : (q : Request) → Q q (outcome w m c now q) (outcome w n c now q)
   unfolding outcome
@@ -206,9 +216,10 @@ module _ (w : Table) (m n : Node) (same : m .values ≡ n .values) (c now : ℕ)
       edition-hold (check s a v) _ _ (λ t.
       named-hold (λ (x : Parameter). x .name) (λ x y. check x y v) s a NoSuchParameter (findParameter w s a) _ _ (parameter-named w s a)
       (λ k e. check-hold t v k (parameter-there w s a k e)))
+  outcomes-hold count = count-hold
   outcomes-hold malformed = h .bad malformed ProtocolError
 
 -- The same at one node.
 pub outcome-holds : (P : Request → Outcome → Type 0) (w : Table) (n : Node) (c now : ℕ) → Kinds w n n c now (λ q o p. P q o)
     → (q : Request) → P q (outcome w n c now q)
-outcome-holds P w n c now h q = outcomes-hold w n n refl c now (λ q o p. P q o) h q
+outcome-holds P w n c now h q = outcomes-hold w n n refl c now (record { counts = refl; active = refl }) (λ q o p. P q o) h q

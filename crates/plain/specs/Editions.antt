@@ -9,7 +9,7 @@ use Rattle.ascii.specs.Text.{bytes}
 use Rattle.ascii.specs.Bytes.{same}
 use Rattle.table.specs.Table.{Table}
 use Rattle.message.specs.Line.{Parts}
-use Rattle.message.specs.Request.{Request, identify, describe, ping, activate, deactivate, read, change, execute, check, malformed, request}
+use Rattle.message.specs.Request.{Request, identify, describe, ping, activate, deactivate, read, change, execute, check, count, malformed, request}
 use Rattle.message.specs.Error.{class, ProtocolError}
 use Rattle.message.specs.Reply.{identification}
 use Rattle.plain.specs.Node.{Node}
@@ -32,6 +32,7 @@ module _ (w : Table) (n : Node) (c now : ℕ) where
   firstOutcome (change m a v) = outcome w n c now (change m a v)
   firstOutcome (execute m a v) = outcome w n c now (execute m a v)
   firstOutcome (check m a v) = refused (class ProtocolError)
+  firstOutcome count = outcome w n c now count
   firstOutcome malformed = refused (class ProtocolError)
 
   -- a line with these parts

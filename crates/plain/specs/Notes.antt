@@ -7,7 +7,7 @@ use Rattle.table.specs.Table.{Table}
 use Rattle.report.specs.Report.{report}
 use Rattle.report.specs.Notes.{notedReport}
 use Rattle.message.specs.Line.{Parts}
-use Rattle.message.specs.Request.{Request, identify, describe, ping, activate, deactivate, read, change, execute, check, malformed, request}
+use Rattle.message.specs.Request.{Request, identify, describe, ping, activate, deactivate, read, change, execute, count, malformed, request, check}
 use Rattle.message.specs.Reply.{describing}
 use Rattle.outbox.specs.Outbox.{Record, final}
 use Rattle.plain.specs.Node.{Node}
@@ -26,6 +26,7 @@ module _ (w : Table) (n : Node) (c now : ℕ) where
   formerly (change m a v) = outcome w n c now (change m a v)
   formerly (execute m a v) = outcome w n c now (execute m a v)
   formerly (check m a v) = outcome w n c now (check m a v)
+  formerly count = outcome w n c now count
   formerly malformed = outcome w n c now malformed
 
   -- the next node and the records of a line, and what it set

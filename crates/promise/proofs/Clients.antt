@@ -12,11 +12,14 @@ use Rattle.table.specs.Layout.{tableOf}
 use Rattle.table.specs.Table.{Table}
 use Rattle.table.specs.Search.{parameters}
 use Rattle.outbox.specs.Outbox.{encodeAll}
-use Rattle.plain.specs.Node.{Client, closed, Node, withClient, fresh, receive, clientNumbers}
+use Rattle.counter.specs.Counts.{noCounts}
+use Rattle.plain.specs.Node.{Client, closed, Node, withClient, withCount, fresh, receive, clientNumbers}
 use Rattle.plain.specs.Calls.{Event, Open, Close, Piece, Effect, effect, pieceEffect, ended, endedSets, beforeFeed, hasFeed, usedOf}
 use Rattle.state.specs.declared.Clients.{Clients}
 use Rattle.state.specs.declared.State.{State}
-use Rattle.state.specs.View.{isSet, clientAt, view, areaWith, settingsWith, outboxAfter, written, nextClients}
+use Rattle.state.specs.View.{isSet, clientAt, view, areaWith, settingsWith, outboxAfter, written, nextClients, nextCounts}
+use Rattle.state.specs.Counted.{countsCleared}
+use Rattle.state.proofs.Counted.{cleared-view}
 use Rattle.state.specs.Fit.{clientUnfit, settingsUnfit, isUnfit}
 use Rattle.state.proofs.Becomes.{Becomes, Always, Joinable}
 use Rattle.ascii.proofs.Lists.{neither}
@@ -121,10 +124,22 @@ module _ (table : List ℕ) (s : State) (values : List ℕ) (fit : isUnfit (tabl
             (still-fit (length (tableOf table .modules)) b h (fit-parts (tableOf table) s values fit .1));
       }
 
-  pub opens : Becomes (s .clients) c fresh Always r
-      → Leaves table s values (Open c t) [] (quietDone 0 next) values []
-  unfolding effect
-  opens b = quiet (Open c t) fresh 0 Always b tt refl []
+  -- an open, besides, sets the client's counts to 0
+  pub opens : Becomes (s .clients) c fresh Always r → length (s .counts) ≡ 8 → c < 8
+      → Leaves table s values (Open c t) [] (quietDone 0 (nextCounts next (countsCleared (s .counts) c))) values []
+  unfolding effect isUnfit written outboxAfter encodeAll areaWith settingsWith
+  opens b z low =
+      record {
+        number = refl;
+        used = refl;
+        writes = refl;
+        sends = refl;
+        area = refl;
+        settings = refl;
+        node = cleared-view table next values z c low ∙ ap (λ (n : Node). withCount n c noCounts) (client-view table s values b);
+        fit = with-clients (tableOf table) s values r fit
+            (still-fit (length (tableOf table .modules)) b tt (fit-parts (tableOf table) s values fit .1));
+      }
 
   pub closes : Becomes (s .clients) c closed Always r
       → Leaves table s values (Close c t) [] (quietDone 0 next) values []

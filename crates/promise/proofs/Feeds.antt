@@ -12,12 +12,15 @@ use Rattle.ascii.specs.Writer.{Puts}
 use Rattle.table.specs.Layout.{tableOf}
 use Rattle.message.specs.Line.{Line, whole, overlong, printable, withoutReturn, content, partsOf}
 use Rattle.outbox.specs.Outbox.{Record, encodeAll}
-use Rattle.plain.specs.Node.{Client, Node, withClient, lineOf, receive, emptied}
+use Rattle.counter.specs.Counts.{linesCounted}
+use Rattle.plain.specs.Node.{Client, Node, withClient, withCount, lineOf, receive, emptied, lineTaken}
 use Rattle.plain.specs.Answer.{answer, answerSets}
 use Rattle.plain.specs.Calls.{Piece, Effect, effect, pieceEffect, ended, endedSets, beforeFeed, hasFeed, usedOf}
 use Rattle.state.specs.declared.Clients.{Clients}
 use Rattle.state.specs.declared.State.{State}
-use Rattle.state.specs.View.{isSet, lineBytes, lineAt, clientAt, view, areaWith, settingsWith, outboxAfter, written, nextClients}
+use Rattle.state.specs.View.{isSet, lineBytes, lineAt, clientAt, view, areaWith, settingsWith, outboxAfter, written, nextClients, nextCounts}
+use Rattle.state.specs.Counted.{lineCounted}
+use Rattle.state.proofs.Counted.{line-view}
 use Rattle.state.specs.Fit.{clientUnfit, isUnfit}
 use Rattle.state.proofs.Becomes.{Becomes, Always, Joinable}
 use Rattle.state.proofs.Views.{client-view}
@@ -43,10 +46,16 @@ module _ (table : List ℕ) (s : State) (values outbox : List ℕ) (c t : ℕ) (
   pub held-answer : (P : Node → List ℕ → Type 0) → isSet (s .clients .open) c ≡ true
       → (isSet (s .clients .overlong) c ≡ true → getD (s .clients .length) c 0 ≡ 0)
       → Becomes (s .clients) c (emptied (clientAt (s .clients) c)) Always r
-      → P (view table (nextClients s r) values) (content (whole (lineBytes (s .clients) c)))
-      → P (withClient (view table s values) c (emptied (view table s values .clients c))) (content (lineOf (view table s values .clients c)))
+      → length (s .counts) ≡ 8 → c < 8
+      → P (view table (nextCounts (nextClients s r) (lineCounted (s .counts) c)) values) (content (whole (lineBytes (s .clients) c)))
+      → P (lineTaken (view table s values) c) (content (lineOf (view table s values .clients c)))
   unfolding view
-  held-answer P o h b x = subst₂ P (client-view table s values b) (sym (held-content (s .clients) c o h)) x
+  held-answer P o h b z low x =
+      subst₂ P
+      (line-view table (nextClients s r) values z c low
+      ∙ ap (λ (n : Node). withCount n c (linesCounted (view table s values .counts c) 1)) (client-view table s values b))
+      (sym (held-content (s .clients) c o h))
+      x
 
 -- a piece with a line feed: `held` is the state with the piece's bytes, and a what answering its line leaves
 module _ (table : List ℕ) (s : State) (values outbox : List ℕ) (c t : ℕ) (r : Clients) where

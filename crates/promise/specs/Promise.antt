@@ -6,6 +6,7 @@ use mathlib.Core.Logic.{_≢_}
 use mathlib.Core.Path.{_≡_}
 use lib.Dec.{eqb}
 use lib.ListN.{length, replicate}
+use Rattle.counter.specs.Counts.{noCounts}
 use Rattle.table.specs.Layout.{tableOf}
 use Rattle.plain.specs.Node.{Node, Setting}
 use Rattle.plain.specs.Calls.{Call, Answer, startNumber, started, stepIf, settingsIf}
@@ -41,7 +42,7 @@ pub record Kept (table : List ℕ) (e : Call) (s : State) (values outbox : List 
 
 -- ## A start
 
--- a state with no client open, no value set and no error, with the same time for every parameter
+-- a state with no client open, no value set and no error, with the same time for every parameter, and all counts 0
 unfoldable pub blank : ℕ → State
 blank time =
     record {
@@ -54,6 +55,7 @@ blank time =
             lines = replicate 8192 0;
           };
       settings = record { length = replicate 64 0; error = replicate 64 0; time = replicate 64 time };
+      counts = replicate 8 noCounts;
     }
 
 -- What a start promises; it writes nothing. "A refused start returns ..": a blank state with time 0.

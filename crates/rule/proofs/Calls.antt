@@ -21,7 +21,10 @@ use Rattle.message.specs.Request.{Request}
 use Rattle.message.specs.Error.{Fault, faultOf}
 use Rattle.message.specs.Reply.{failed, Reply}
 use Rattle.outbox.specs.Outbox.{Record, final}
-use Rattle.plain.specs.Node.{Client, closed, fresh, Node, put, withClient, withValue, isOpen, lineOf, receive, emptied, reportOf, clientNumbers, updatesTo, holding, showing, withClients}
+use Rattle.counter.specs.Counts.{linesCounted}
+use Rattle.plain.specs.Node as Node
+use Rattle.plain.specs.Node.{Client, closed, Value, Node, put, withClient, withValue, withCount, isOpen, lineOf, receive, emptied, lineTaken, counting, reportOf}
+use Rattle.plain.specs.Node.{clientNumbers, updatesTo, holding, showing, withClients}
 use Rattle.plain.specs.Answer.{Outcome, outcome, statusOf, activates, deactivates, sets, answerParts, answer}
 use Rattle.plain.specs.Calls.{Event, Open, Close, Piece, Reading, Unreadable, Call, ownFaults, callNumber, readingVerdict, beforeFeed, hasFeed, ended, pieceEffect, driverEffect, readingEffect, unreadableEffect, effect, settle, stepIf}
 use Rattle.plain.specs.History.{step}
@@ -52,9 +55,9 @@ quiet w n c now =
 
 -- ## Lines
 
--- n with client c's line emptied
+-- n with client c's line emptied, and counted
 abbrev pub idle : Node → ℕ → Node
-idle n c = withClient n c (emptied (n .clients c))
+idle n c = lineTaken n c
 
 abbrev pub outcomeAt : Table → Node → ℕ → List ℕ → ℕ → Outcome
 outcomeAt w n c bs t = outcome w (idle n c) c t (requestOf n c bs)
@@ -62,30 +65,39 @@ outcomeAt w n c bs t = outcome w (idle n c) c t (requestOf n c bs)
 -- a line of client c was carried out, and left the node m and the records rs
 pub record Answered (w : Table) (n : Node) (c : ℕ) (bs : List ℕ) (t : ℕ) (m : Node) (rs : List Record) : Type 0 where
   pub isOpen : isOpen (n .clients c) ≡ true
-  pub node : m ≡ nodeAfter (idle n c) (outcomeAt w n c bs t)
+  pub node : m ≡ counting (nodeAfter (idle n c) (outcomeAt w n c bs t)) rs
   pub records : rs ≡ before (outcomeAt w n c bs t) ++ (final c (replyTo (partsAt n c bs) (outcomeAt w n c bs t)) ∷ [])
+
+-- what is sent where parameter k, which is p, is set to v by its driver, and the node that this leaves
+abbrev pub told : Node → Placed Parameter → Value → List Record
+told n p v = updatesTo (n .clients) (p .home) (reportOf p v) clientNumbers
+
+abbrev pub toldNode : Node → ℕ → Placed Parameter → Value → Node
+toldNode n k p v = counting (withValue n k v) (told n p v)
 
 -- what an accepted event does
 pub data Did (w : Table) (n : Node) : Event → Node → List Record → Type 0 where
-  opened : {c t : ℕ} → Did w n (Open c t) (withClient n c fresh) []
+  opened : {c t : ℕ} → Did w n (Open c t) (Node.opened n c) []
   shut : {c t : ℕ} → Did w n (Close c t) (withClient n c closed) []
   received : {c : ℕ} {bs : List ℕ} {t : ℕ} → hasFeed bs ≡ false → Did w n (Piece c bs t) (withClient n c (receive (n .clients c) (beforeFeed bs))) []
   read : {k : ℕ} {bs : List ℕ} {t : ℕ} (p : Placed Parameter) → getElem? (parameters w) k ≡ some p
       → verdict (p .it .datainfo) bs ≡ fits
-      → Did w n (Reading k bs t) (withValue n k (showing (storedForm (p .it .datainfo) bs) t))
-      (updatesTo (n .clients) (p .home) (reportOf p (showing (storedForm (p .it .datainfo) bs) t)) clientNumbers)
+      → Did w n (Reading k bs t) (toldNode n k p (showing (storedForm (p .it .datainfo) bs) t)) (told n p (showing (storedForm (p .it .datainfo) bs) t))
   unread : {k class t : ℕ} (p : Placed Parameter) (f : Fault) → getElem? (parameters w) k ≡ some p → faultOf class ≡ some f
-      → Did w n (Unreadable k class t) (withValue n k (holding (failed f) t))
-      (updatesTo (n .clients) (p .home) (reportOf p (holding (failed f) t)) clientNumbers)
+      → Did w n (Unreadable k class t) (toldNode n k p (holding (failed f) t)) (told n p (holding (failed f) t))
   line : {c : ℕ} {bs : List ℕ} {t : ℕ} {m : Node} {rs : List Record} → hasFeed bs ≡ true → Answered w n c bs t m rs
       → Did w n (Piece c bs t) m rs
 
+-- what is sent is counted
+abbrev counted : Node × List Record → Node × List Record
+counted r = (counting (r .0) (r .1), r .1)
+
 answer-is : (w : Table) (n : Node) (c : ℕ) (x : Client) (t : ℕ) → emptied x ≡ emptied (n .clients c)
-    → answer w (withClient n c x) c t ≡ answerParts w (idle n c) c t (partsOf (content (lineOf x)))
+    → answer w (withClient n c x) c t ≡ counted (answerParts w (idle n c) c t (partsOf (content (lineOf x))))
 unfolding answer
 answer-is w n c x t e =
     ap₂
-    (λ (m : Node) (y : Client). answerParts w m c t (partsOf (content (lineOf y))))
+    (λ (m : Node) (y : Client). counted (answerParts w (withCount m c (linesCounted (n .counts c) 1)) c t (partsOf (content (lineOf y)))))
     (ap (withClients n)
     (put-put (n .clients) c x (emptied (put (n .clients) c x c)) ∙ ap (put (n .clients) c) (ap emptied (put-at (n .clients) c x) ∙ e)))
     (put-at (n .clients) c x)
@@ -96,11 +108,12 @@ unfolding answerParts requestOf
 answered w n c bs t h =
     let e =
     answer-is w n c (receive (n .clients c) (beforeFeed bs)) t (emptied-received (n .clients c) (beforeFeed bs))
-    ∙ concluded w (idle n c) c t (partsAt n c bs) (outcomeAt w n c bs t) in
+    ∙ ap counted (concluded w (idle n c) c t (partsAt n c bs) (outcomeAt w n c bs t)) in
+    let r = ap (λ (x : Node × List Record). x .1) e in
     record {
       isOpen = h;
-      node = ap (λ (x : Node × List Record). x .0) e;
-      records = ap (λ (x : Node × List Record). x .1) e;
+      node = ap (λ (x : Node × List Record). x .0) e ∙ ap (counting (nodeAfter (idle n c) (outcomeAt w n c bs t))) (sym r);
+      records = r;
     }
 
 -- ## Numbers of accepted calls

@@ -14,7 +14,7 @@ use Rattle.message.specs.Request.{change, check}
 use Rattle.message.specs.Error.{Denial, class, Class, NoSuchModule, NoSuchParameter, ReadOnly, BadJSON, WrongType, RangeError}
 use Rattle.message.specs.Reply.{Report, Reply, changed, checked}
 use Rattle.outbox.specs.Outbox.{Record, final}
-use Rattle.plain.specs.Node.{Node, Setting}
+use Rattle.plain.specs.Node.{Node, Setting, counting}
 use Rattle.plain.specs.Answer.{Outcome, refused, carried, found, letIn, sets, shows, judging, changes, checks, outcome}
 use Rattle.plain.specs.Calls.{Piece}
 use Rattle.plain.proofs.Outcomes.{nodeAfter, before, replyTo}
@@ -55,13 +55,13 @@ module _ (w : Table) (n : Node) (c t : ℕ) where
       (found-alike NoSuchModule (findModule w a) _ _ (λ y. found-alike NoSuchParameter (findParameter w a x) _ _ (judged-alike v)))
 
 -- a line whose outcome leaves the node alters nothing
-nothing : (n m : Node) (c : ℕ) (rs : List Record) (r : Reply) → m ≡ idle n c → rs ≡ final c r ∷ [] → AltersNothing n m rs c r
+nothing : (n m : Node) (c : ℕ) (rs : List Record) (r : Reply) → m ≡ counting (idle n c) rs → rs ≡ final c r ∷ [] → AltersNothing n m rs c r
 nothing n m c rs r e f = record { alone = f; values = ap (λ (y : Node). y .values) e; clients = ap (λ (y : Node). y .clients) e }
 
 -- by what the change comes to, y, and the check, z
 as-change : (n : Node) (c : ℕ) (p q : Parts) (m m′ : Node) (rs rs′ : List Record) (y z : Outcome) → Alike (idle n c) y z
-    → (m ≡ nodeAfter (idle n c) z) × (rs ≡ before z ++ (final c (replyTo p z) ∷ []))
-    → (m′ ≡ nodeAfter (idle n c) y) × (rs′ ≡ before y ++ (final c (replyTo q y) ∷ []))
+    → (m ≡ counting (nodeAfter (idle n c) z) rs) × (rs ≡ before z ++ (final c (replyTo p z) ∷ []))
+    → (m′ ≡ counting (nodeAfter (idle n c) y) rs′) × (rs′ ≡ before y ++ (final c (replyTo q y) ∷ []))
     → AsChange n c p m rs q m′ rs′
 as-change n c p q m m′ rs rs′ _ _ (refusing e) g h = both-refused e (nothing n m c rs _ (g .0) (g .1)) (nothing n m′ c rs′ _ (h .0) (h .1))
 as-change n c p q m m′ rs rs′ (carried _ _ before-it _) _ (letting r) g h =

@@ -20,8 +20,8 @@ use Rattle.message.specs.Request.{Request, activate, deactivate, read, change, 
 use Rattle.message.specs.Error.{Class, NoSuchModule}
 use Rattle.message.specs.Reply.{Held, valued, failed}
 use Rattle.outbox.specs.Outbox.{Record, final}
-use Rattle.plain.specs.Node.{Client, Node, withClient, isOpen, isActive, emptied, activated}
-use Rattle.plain.specs.Answer.{Outcome, outcome, found, letIn, argumentVerdict, inScope, activates, deactivates, tells, reads, judging, changes, sets, does}
+use Rattle.plain.specs.Node.{counting, Client, Node, withClient, isOpen, isActive, emptied, activated}
+use Rattle.plain.specs.Answer.{Outcome, outcome, found, letIn, argumentVerdict, inScope, activates, deactivates, tells, reads, changes, sets, does, judging}
 use Rattle.plain.specs.Calls.{Piece, hasFeed}
 use Rattle.plain.proofs.Put.{put-at}
 use Rattle.plain.proofs.Clients.{emptied-open, activated-active}
@@ -116,10 +116,10 @@ ended-line (line _ h) f = h
 -- what it leaves and sends where it asks for q, which comes to x
 pub comes-to : {w : Table} {n m : Node} {rs : List Record} {c : ℕ} {bs : List ℕ} {t : ℕ} → Answered w n c bs t m rs → (q : Request) (x : Outcome)
     → requestOf n c bs ≡ q → outcome w (idle n c) c t q ≡ x
-    → (m ≡ nodeAfter (idle n c) x) × (rs ≡ before x ++ (final c (replyTo (partsAt n c bs) x) ∷ []))
+    → (m ≡ counting (nodeAfter (idle n c) x) rs) × (rs ≡ before x ++ (final c (replyTo (partsAt n c bs) x) ∷ []))
 comes-to {w} {n} {m} {rs} {c} {bs} {t} h q x e f =
     let g = ap (outcome w (idle n c) c t) e ∙ f in
-    (h .node ∙ ap (nodeAfter (idle n c)) g, h .records ∙ ap (λ y. before y ++ (final c (replyTo (partsAt n c bs) y) ∷ [])) g)
+    (h .node ∙ ap (λ y. counting (nodeAfter (idle n c) y) rs) g, h .records ∙ ap (λ y. before y ++ (final c (replyTo (partsAt n c bs) y) ∷ [])) g)
 
 pub good-changes-are-made : GoodChangesAreMade
 good-changes-are-made table n c m x v k p e r g bs t l z f q =
@@ -129,7 +129,7 @@ good-changes-are-made table n c m x v k p e r g bs t l z f q =
 
 -- what is read, a value or an error, alters nothing
 told-alone : (w : Table) (n m : Node) (c t : ℕ) (q : Parts) (p : Placed Parameter) (x : Held) (u : ℕ) (rs : List Record)
-    → m ≡ nodeAfter (idle n c) (tells w (idle n c) c t p x u)
+    → m ≡ counting (nodeAfter (idle n c) (tells w (idle n c) c t p x u)) rs
     → rs ≡ before (tells w (idle n c) c t p x u) ++ (final c (replyTo q (tells w (idle n c) c t p x u)) ∷ [])
     → AltersNothing n m rs c (readReply q p x u)
 unfolding tells readReply
@@ -151,7 +151,7 @@ good-commands-are-ordered table n c m x v k p e r bs t l z f q =
 
 -- what a client that sent a line has active, where it was given other active modules
 given : {w : Table} {n m : Node} {rs : List Record} {c : ℕ} {bs : List ℕ} {t : ℕ} → Answered w n c bs t m rs → (f : ℕ → Bool)
-    → m ≡ withClient (idle n c) c (activated f (idle n c .clients c)) → (i : ℕ) → isActive (m .clients c) i ≡ f i
+    → m ≡ counting (withClient (idle n c) c (activated f (idle n c .clients c))) rs → (i : ℕ) → isActive (m .clients c) i ≡ f i
 given {n = n} {c = c} h f e i =
     let x : Client = idle n c .clients c in
     ap (λ (y : Node). isActive (y .clients c) i) e

@@ -20,7 +20,7 @@ use Rattle.plain.specs.Calls.{Event, Piece, Lent, Call, Answer, callNumber, use
 use Rattle.plain.specs.History.{step}
 use Rattle.plain.proofs.Put.{put-at, put-other}
 use Rattle.plain.proofs.Clients.{emptied-line, activated-line}
-use Rattle.plain.proofs.Outcomes.{nodeAfter, before, replyTo, Tells, by-identify, by-describe, by-ping, by-read, by-check, doneOf, outcome-holds}
+use Rattle.plain.proofs.Outcomes.{nodeAfter, before, replyTo, Tells, by-identify, by-describe, by-ping, by-read, by-count, doneOf, outcome-holds, by-check}
 use Rattle.rule.specs.Theorems.{partsAt, requestOf, OfPiece, of-piece, ParametersBelong, PieceUsed, PiecesAreUsed, ReadTold, ReadsAreTrue, CommandOrdered, CommandsAreOrdered}
 use Rattle.rule.proofs.Told.{apart, told-kind}
 use Rattle.rule.proofs.Calls.{idle, outcomeAt, Did, received, line, accepted-call, Line-of, line-of, line-of-final}
@@ -43,7 +43,7 @@ record Reads (w : Table) (n : Node) (q : Request) (o : Outcome) (r : Report) : T
 abbrev ReadIn : Table → Node → Parts → Request → Outcome → Type 0
 ReadIn w n p q o = (r : Report) → reply r ≡ replyTo p o → Reads w n q o r
 
-told-read : {w : Table} {now : ℕ} {n : Node} {q : Request} {x : Reply} → Tells w now (n .values) q x → (r : Report)
+told-read : {w : Table} {n : Node} {c now : ℕ} {q : Request} {x : Reply} → Tells w n c now q x → (r : Report)
     → reply r ≡ x → Reads w n q (carried n [] [] x) r
 told-read by-identify r e = apart (reply r) _ (λ z. omega arith) e
 told-read by-describe r e = apart (reply r) _ (λ z. omega arith) e
@@ -51,6 +51,7 @@ told-read by-ping r e = apart (reply r) _ (λ z. omega arith) e
 told-read (by-read k h v t i) r e =
     record { k = k; there = h; asked = refl; tells = reply-is r _ e ∙ ap (reportOf (k .1)) (sym i); alone = refl }
 told-read (by-check k v l i) r e = apart (reply r) _ (λ z. omega arith) e
+told-read by-count r e = apart (reply r) _ (λ z. omega arith) e
 
 read-in : (w : Table) (n : Node) (c now : ℕ) (p : Parts) (q : Request) → ReadIn w n p q (outcome w n c now q)
 unfolding activates deactivates sets

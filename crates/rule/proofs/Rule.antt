@@ -17,21 +17,20 @@ use Rattle.message.specs.Line.{Parts}
 use Rattle.message.specs.Request.{Request, change}
 use Rattle.message.specs.Reply.{valued, failed, Report, Reply, active, inactive, changed, error}
 use Rattle.outbox.specs.Outbox.{Record, final, update, orderChange, orderCommand}
-use Rattle.plain.specs.Node.{Setting, withSettings}
-use Rattle.plain.specs.Node.{Client, closed, fresh, Value, Node, put, withValue, isOpen, isActive, receive, emptied, activated, reportOf, clientNumbers, updatesTo, holding, showing}
-use Rattle.plain.specs.Answer.{Outcome, refused, carried, outcome, busy, statusOf, busySettings, busyUpdates, activates, deactivates, sets}
+use Rattle.plain.specs.Node.{counting, Client, closed, fresh, Value, Node, put, withValue, isOpen, isActive, receive, emptied, activated, reportOf, clientNumbers, updatesTo, holding, showing, Setting, withSettings}
+use Rattle.plain.specs.Answer.{Outcome, refused, carried, outcome, activates, deactivates, sets, busy, statusOf, busySettings, busyUpdates}
 use Rattle.plain.specs.Calls.{Event, Piece, Reading, Unreadable, Answer, beforeFeed}
 use Rattle.plain.specs.History.{step}
 use Rattle.plain.proofs.Put.{put-at, put-other, put-all}
 use Rattle.plain.proofs.Busy.{IsStatus, status-is, status-other, set-more}
 use Rattle.plain.proofs.Clients.{active-open, receive-active, emptied-open, emptied-active, activated-active}
-use Rattle.plain.proofs.Outcomes.{nodeAfter, before, replyTo, Tells, by-identify, by-describe, by-ping, by-read, by-check, LetIn, outcome-holds}
+use Rattle.plain.proofs.Outcomes.{nodeAfter, before, replyTo, Tells, by-identify, by-describe, by-ping, by-read, by-count, LetIn, outcome-holds, by-check}
 use Rattle.rule.specs.Records.{updatesFor, repliesFor, inScopeOf, reportsOf, activeBy, activeAfter}
 use Rattle.rule.specs.Theorems.{partsAt, requestOf, ToActive, UpdatesGoToActiveClients, Set, ReadingSets, ReadingsAreSentToAll, UnreadableSets, UnreadablesAreSentToAll, Changed, ChangeSets, OfPiece, of-piece, ChangesAreSentToAll, BySetting, by-reading, by-unreadable, by-change, ValuesAlterBySettings, InitialUpdates, ActivationsSendAll, ActivationsAreOnesOwn, AltersNothing, ErrorsAlterNothing}
 use Rattle.rule.proofs.Laws.{updates-append, replies-append, no-final-replies, updates-to-member, updates-of-member, updates-of-for, sent-once, sent-never}
 use Rattle.rule.proofs.Laws.{busy-once, busy-never}
 use Rattle.rule.proofs.Told.{kind, apart, told-kind, scope-is}
-use Rattle.rule.proofs.Calls.{quiet, idle, outcomeAt, Answered, Did, opened, shut, received, read, unread, line, every-call, accepted-call, Line-of, line-of, line-of-final, refusals-alter-nothing}
+use Rattle.rule.proofs.Calls.{quiet, idle, toldNode, outcomeAt, Answered, Did, opened, shut, received, read, unread, line, every-call, accepted-call, Line-of, line-of, line-of-final, refusals-alter-nothing}
 
 -- ## Errors
 
@@ -54,7 +53,7 @@ no-error w n c now =
     })
 
 altered : (n m : Node) (rs : List Record) (c : ℕ) (p : Parts) (o : Outcome) (r : Reply) → kind r ≡ 0 → NoError o
-    → m ≡ nodeAfter (idle n c) o → rs ≡ before o ++ (final c (replyTo p o) ∷ []) → r ≡ replyTo p o → AltersNothing n m rs c r
+    → m ≡ counting (nodeAfter (idle n c) o) rs → rs ≡ before o ++ (final c (replyTo p o) ∷ []) → r ≡ replyTo p o → AltersNothing n m rs c r
 altered n m rs c p (refused x) r i h e f g =
     record {
       alone = f ∙ ap (λ y. final c y ∷ []) (sym g);
@@ -93,7 +92,7 @@ reading-sets {w} {n} {k = k} {bs} {t} (read p q f) =
     record {
       p = p;
       fitting = f;
-      set = set-sent w n (withValue n k v) k p v _ q refl (λ d. refl);
+      set = set-sent w n (toldNode n k p v) k p v _ q refl (λ d. refl);
       records = refl;
     }
 
@@ -104,7 +103,7 @@ unreadable-sets {w} {n} {k = k} {t = t} (unread p f q i) =
       p = p;
       f = f;
       known = i;
-      set = set-sent w n (withValue n k v) k p v _ q refl (λ d. refl);
+      set = set-sent w n (toldNode n k p v) k p v _ q refl (λ d. refl);
       records = refl;
     }
 
@@ -175,7 +174,7 @@ module _ (w : Table) (n m : Node) (c t : ℕ) (k : ℕ × Placed Parameter) (v :
   abbrev finally : List Record
   finally = final c (changed (reportOf (k .1) value)) ∷ []
 
-  module _ (node : m ≡ withSettings (idle n c) (first ++ (record { parameter = k .0; held = valued v; time = t } ∷ [])))
+  module _ (node : m ≡ counting (withSettings (idle n c) (first ++ (record { parameter = k .0; held = valued v; time = t } ∷ []))) rs)
       (records : rs ≡ orderChange c (k .0) v ∷ ((busied (idle n c .clients) ++ updates (idle n c .clients)) ++ finally)) where
     clients-are : m .clients ≡ idle n c .clients
     clients-are = ap (λ (x : Node). x .clients) node
@@ -209,7 +208,7 @@ module _ (w : Table) (n m : Node) (c t : ℕ) (k : ℕ × Placed Parameter) (v :
   unfolding sets
   answered-change bs h e =
       was-changed
-      (h .node ∙ ap (nodeAfter (idle n c)) e)
+      (h .node ∙ ap (λ o. counting (nodeAfter (idle n c) o) rs) e)
       (h .records ∙ ap (λ o. before o ++ (final c (replyTo (partsAt n c bs) o) ∷ [])) e)
 
 changed-line : {w : Table} {n m : Node} {rs : List Record} {c : ℕ} (r : Report) {e : Event} → Line-of w n m rs c (changed r) e
@@ -351,7 +350,7 @@ given-active w n c f r o h d i = go (eqb d c) refl
         ∙ ap (λ x. activeBy w i (isActive (n .clients x) i) (r ∷ [])) (sym (eqb-true d c e))
     go false e = refl
 
-told-active : {w : Table} {now : ℕ} {values : ℕ → Value} {q : Request} {r : Reply} → Tells w now values q r → (i : ℕ) (b : Bool)
+told-active : {w : Table} {n : Node} {c now : ℕ} {q : Request} {r : Reply} → Tells w n c now q r → (i : ℕ) (b : Bool)
     → activeBy w i b (r ∷ []) ≡ b
 unfolding activeBy
 told-active by-identify i b = refl
@@ -359,6 +358,7 @@ told-active by-describe i b = refl
 told-active by-ping i b = refl
 told-active (by-read k e v t j) i b = refl
 told-active (by-check k v l e) i b = refl
+told-active by-count i b = refl
 
 leaves-active : (w : Table) (n : Node) (c now : ℕ) (p : Parts) → isOpen (n .clients c) ≡ true → (q : Request)
     → LeavesActive w n c p (outcome w n c now q)
@@ -470,6 +470,10 @@ to-active : (w : Table) (m : Node) (k : ℕ) (p : Placed Parameter) (d : ℕ) (r
 to-active w m k p d r t e h =
     record { k = k; p = p; there = t; tells = e; isActive = h; isOpen = active-open (m .clients d) (p .home) h }
 
+-- what is counted makes no difference
+still-active : (w : Table) (m : Node) (rs : List Record) (d : ℕ) (r : Report) → ToActive w m d r → ToActive w (counting m rs) d r
+still-active w m rs d r h = to-active w (counting m rs) (h .k) (h .p) d r (h .there) (h .tells) (h .isActive)
+
 -- of a setting
 set-active : (w : Table) (n : Node) (k : ℕ) (p : Placed Parameter) (x : Value) → getElem? (parameters w) k ≡ some p → (d : ℕ) (r : Report)
     → List·Memᴰ (update d r) (updatesTo (n .clients) (p .home) (reportOf p x) clientNumbers) → ToActive w (withValue n k x) d r
@@ -544,7 +548,7 @@ line-active w n m c bs t rs h d r k =
     let a : isOpen (idle n c .clients c) ≡ true =
     ap isOpen (put-at (n .clients) c (emptied (n .clients c))) ∙ emptied-open (n .clients c) ∙ h .isOpen in
     ⊎-elim
-    (λ i. subst (λ x. ToActive w x d r) (sym (h .node)) (to-actives w (idle n c) c t a (requestOf n c bs) d r i))
+    (λ i. subst (λ x. ToActive w x d r) (sym (h .node)) (still-active w _ rs d r (to-actives w (idle n c) c t a (requestOf n c bs) d r i)))
     (λ i. absurd (not-update d r (final c (replyTo (partsAt n c bs) o)) refl (List·Memᴰ·eq-of-singleton i)))
     (List·Memᴰ·append-cases (before o) (subst (List·Memᴰ (update d r)) (h .records) k))
 
@@ -554,8 +558,8 @@ did-active opened d r k = absurd (List·Memᴰ·not-nil k)
 did-active shut d r k = absurd (List·Memᴰ·not-nil k)
 did-active (received f) d r k = absurd (List·Memᴰ·not-nil k)
 did-active {w} {n} (read {k = i} {bs = bs} {t = t} p q f) d r k =
-    set-active w n i p (showing (storedForm (p .it .datainfo) bs) t) q d r k
-did-active {w} {n} (unread {k = i} {t = t} p f q j) d r k = set-active w n i p (holding (failed f) t) q d r k
+    still-active w _ _ d r (set-active w n i p (showing (storedForm (p .it .datainfo) bs) t) q d r k)
+did-active {w} {n} (unread {k = i} {t = t} p f q j) d r k = still-active w _ _ d r (set-active w n i p (holding (failed f) t) q d r k)
 did-active {w} {n} (line {c = c} {bs = bs} {t = t} {m = m} {rs = rs} f h) d r k = line-active w n m c bs t rs h d r k
 
 pub updates-go-to-active-clients : UpdatesGoToActiveClients

@@ -8,7 +8,7 @@ use lib.ListN.{length, take}
 use Rattle.ascii.specs.Bytes.{isSome}
 use Rattle.table.specs.Table.{Parameter, Module, Table}
 use Rattle.table.specs.Search.{Placed, findModule}
-use Rattle.message.specs.Reply.{Report, Reply, identification, describing, pong, active, inactive, reply, changed, done, checked, error}
+use Rattle.message.specs.Reply.{Report, Reply, identification, describing, pong, active, inactive, reply, changed, done, counted, error, checked}
 use Rattle.outbox.specs.Outbox.{Record, final, update, orderChange, orderCommand}
 use Rattle.plain.specs.Node.{Client, Value, showing, isActive, reportOf}
 use Rattle.plain.specs.Answer.{busy}
@@ -79,6 +79,7 @@ activeBy w i b (reply x ∷ rs) = activeBy w i b rs
 activeBy w i b (changed x ∷ rs) = activeBy w i b rs
 activeBy w i b (done x ∷ rs) = activeBy w i b rs
 activeBy w i b (checked x ∷ rs) = activeBy w i b rs
+activeBy w i b (counted x n t ∷ rs) = activeBy w i b rs
 activeBy w i b (error a s x ∷ rs) = activeBy w i b rs
 
 -- whether client d has module i active after an accepted event, by d's own opens, closes and replies alone

@@ -19,7 +19,7 @@ use Rattle.table.specs.Table.{Parameter, Command, parameter, Module, Table}
 use Rattle.table.specs.Layout.{tableOf}
 use Rattle.table.specs.Search.{Placed, parameters, commands, findParameter, findCommand}
 use Rattle.outbox.specs.Outbox.{Record, final, update, orderChange, orderCommand}
-use Rattle.plain.specs.Node.{Value, Node, put, withClient, setValues, isOpen, isActive, lineOf, receive, emptied, reportOf, clientNumbers, updatesTo, updatesOf, holding, showing}
+use Rattle.plain.specs.Node.{Value, Node, put, withClient, setValues, isOpen, isActive, lineOf, receive, emptied, lineTaken, counting, reportOf, clientNumbers, updatesTo, updatesOf, holding, showing}
 use Rattle.plain.specs.Answer.{argumentVerdict, argumentForm, busy, statusOf, busySettings, busyUpdates}
 use Rattle.plain.specs.Calls.{Event, Piece, Reading, Unreadable, Lent, Call, Answer, beforeFeed, hasFeed, usedOf, settingsIf}
 use Rattle.plain.specs.History.{step}
@@ -294,13 +294,13 @@ CommandsAreOrdered = (table : List ℕ) (n : Node) (e : Call) (c : ℕ) (r : Rep
     → OfPiece c (λ bs t. CommandOrdered (tableOf table) n c bs t r (step table n e .1 .records)) (e .event)
 
 -- And every good command is ordered: one that is there, with an argument that fits. It is done at the time of the line feed, and of the node only
--- the sender's line is emptied.
+-- the sender's line is emptied, and what is counted alters.
 pub record Ordered (n m : Node) (c k : ℕ) (p : Placed Command) (offered : List ℕ) (t : ℕ) (rs : List Record) : Type 0 where
   pub records : rs
       ≡ orderCommand c k (argumentForm (p .it .argument) offered)
       ∷ final c (done (record { moduleName = p .moduleName; accessible = p .it .name; held = valued (bytes "null"); time = t }))
       ∷ []
-  pub node : m ≡ withClient n c (emptied (n .clients c))
+  pub node : m ≡ counting (lineTaken n c) rs
 
 abbrev pub GoodCommandsAreOrdered : Type 0
 GoodCommandsAreOrdered = (table : List ℕ) (n : Node) (c : ℕ) (m x offered : List ℕ) (k : ℕ) (p : Placed Command)

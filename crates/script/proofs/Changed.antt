@@ -9,8 +9,9 @@ use lib.ListN.{set}
 use Rattle.state.specs.declared.Clients.{Clients}
 use Rattle.state.specs.declared.Settings.{Settings}
 use Rattle.state.specs.declared.State.{State}
+use Rattle.state.specs.View.{nextClients, nextSettings, nextCounts}
 use Rattle.script.specs.declared.operation.Operation.{Operation}
-use Rattle.script.specs.Poke.{withNumber, withLines, withLength, withTime, withError, pokedBy}
+use Rattle.script.specs.Poke.{withNumber, withLines, withLength, withTime, withError, withCounts, partPoked, pokedBy}
 
 module _ (s : Clients) (code c v : ℕ) where
   pub number-past : 7 < c → s ≡ withNumber s code c v
@@ -71,29 +72,47 @@ module _ (s : Settings) (p v : ℕ) where
   unfolding withError
   error-set h = rw (le-ltb 63 p h) refl
 
+module _ (s : State) (c v : ℕ) where
+  pub counts-past : 7 < c → s ≡ withCounts s c v
+  unfolding withCounts
+  counts-past h = rw (lt-ltb 7 c h) refl
+
+  pub counts-set : c ≤ 7
+      → nextCounts s (set (s .counts) c (record { lines = v % 4294967296; errors = v % 4294967296; updates = v % 4294967296 })) ≡ withCounts s c v
+  unfolding withCounts
+  counts-set h = rw (le-ltb 7 c h) refl
+
 module _ (s : State) (o : Operation) (bs : List ℕ) where
-  pub poked-length : o .code ≡ 122 → {x : Settings} → x ≡ withLength (s .settings) (o .number) (o .time)
-      → record { clients = s .clients; settings = x } ≡ pokedBy s o bs
+  pub poked-counts : o .code ≡ 107 → {x : State} → x ≡ withCounts s (o .number) (o .time) → x ≡ pokedBy s o bs
   unfolding pokedBy
+  poked-counts e q = rw e q
+
+  pub poked-others : o .code ≢ 107 → {x : State} → x ≡ partPoked s o bs → x ≡ pokedBy s o bs
+  unfolding pokedBy
+  poked-others n q = rw (ne-eqb (o .code) 107 n) q
+
+  pub poked-length : o .code ≡ 122 → {x : Settings} → x ≡ withLength (s .settings) (o .number) (o .time)
+      → nextSettings s x ≡ partPoked s o bs
+  unfolding partPoked
   poked-length e q = rw (e, q) refl
 
   pub poked-time : o .code ≡ 116 → {x : Settings} → x ≡ withTime (s .settings) (o .number) (o .time)
-      → record { clients = s .clients; settings = x } ≡ pokedBy s o bs
-  unfolding pokedBy
+      → nextSettings s x ≡ partPoked s o bs
+  unfolding partPoked
   poked-time e q = rw (e, q) refl
 
   pub poked-error : o .code ≡ 101 → {x : Settings} → x ≡ withError (s .settings) (o .number) (o .time)
-      → record { clients = s .clients; settings = x } ≡ pokedBy s o bs
-  unfolding pokedBy
+      → nextSettings s x ≡ partPoked s o bs
+  unfolding partPoked
   poked-error e q = rw (e, q) refl
 
   pub poked-lines : o .code ≡ 108 → {x : Clients} → x ≡ withLines (s .clients) (o .number) bs
-      → record { clients = x; settings = s .settings } ≡ pokedBy s o bs
-  unfolding pokedBy
+      → nextClients s x ≡ partPoked s o bs
+  unfolding partPoked
   poked-lines e q = rw (e, q) refl
 
   pub poked-client : o .code ≢ 122 → o .code ≢ 116 → o .code ≢ 101 → o .code ≢ 108 → {x : Clients}
       → x ≡ withNumber (s .clients) (o .code) (o .number) (o .time)
-      → record { clients = x; settings = s .settings } ≡ pokedBy s o bs
-  unfolding pokedBy
+      → nextClients s x ≡ partPoked s o bs
+  unfolding partPoked
   poked-client u v e w q = rw (ne-eqb (o .code) 122 u, ne-eqb (o .code) 116 v, ne-eqb (o .code) 101 e, ne-eqb (o .code) 108 w, q) refl

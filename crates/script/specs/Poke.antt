@@ -7,6 +7,7 @@ use lib.ListN.{set}
 use Rattle.state.specs.declared.Clients.{Clients}
 use Rattle.state.specs.declared.Settings.{Settings}
 use Rattle.state.specs.declared.State.{State}
+use Rattle.state.specs.View.{nextClients, nextSettings, nextCounts}
 use Rattle.script.specs.declared.operation.Operation.{Operation}
 use Rattle.script.specs.Within.{within}
 
@@ -37,11 +38,21 @@ withTime s p v = cond (ltb 63 p) s record { length = s .length; error = s .error
 unfoldable pub withError : Settings → ℕ → ℕ → Settings
 withError s p v = cond (ltb 63 p) s record { length = s .length; error = set (s .error) p (v % 256); time = s .time }
 
+-- of client c, all three counts become v
+unfoldable pub withCounts : State → ℕ → ℕ → State
+withCounts s c v =
+    let n = v % 4294967296 in
+    cond (ltb 7 c) s (nextCounts s (set (s .counts) c (record { lines = n; errors = n; updates = n })))
+
 -- by the code: `z` a length, `t` a time, `e` an error's class, `l` the lines, and else what a client has
+unfoldable pub partPoked : State → Operation → List ℕ → State
+partPoked s o bs =
+    cond (eqb (o .code) 122) (nextSettings s (withLength (s .settings) (o .number) (o .time)))
+    (cond (eqb (o .code) 116) (nextSettings s (withTime (s .settings) (o .number) (o .time)))
+    (cond (eqb (o .code) 101) (nextSettings s (withError (s .settings) (o .number) (o .time)))
+    (cond (eqb (o .code) 108) (nextClients s (withLines (s .clients) (o .number) bs))
+    (nextClients s (withNumber (s .clients) (o .code) (o .number) (o .time))))))
+
+-- `k` the counts
 unfoldable pub pokedBy : State → Operation → List ℕ → State
-pokedBy s o bs =
-    cond (eqb (o .code) 122) (record { clients = s .clients; settings = withLength (s .settings) (o .number) (o .time) })
-    (cond (eqb (o .code) 116) (record { clients = s .clients; settings = withTime (s .settings) (o .number) (o .time) })
-    (cond (eqb (o .code) 101) (record { clients = s .clients; settings = withError (s .settings) (o .number) (o .time) })
-    (cond (eqb (o .code) 108) (record { clients = withLines (s .clients) (o .number) bs; settings = s .settings })
-    (record { clients = withNumber (s .clients) (o .code) (o .number) (o .time); settings = s .settings }))))
+pokedBy s o bs = cond (eqb (o .code) 107) (withCounts s (o .number) (o .time)) (partPoked s o bs)

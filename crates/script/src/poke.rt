@@ -1,13 +1,14 @@
 // Changes of a kept state from outside, as a host makes that stores it and brings it back, rightly or wrongly.
 use crate::operation::Operation;
 use ascii::write::put;
+use counter::Counts;
 use state::Clients;
 use state::Settings;
 use state::State;
 ghost use mathlib.Core.Path.{_≡_};
 ghost use Rattle.promise.specs.Promise as Promise;
 ghost use Rattle.script.specs.Within.{within};
-ghost use Rattle.script.specs.Poke.{withNumber, withLines, withLength, withTime, withError, pokedBy};
+ghost use Rattle.script.specs.Poke.{withNumber, withLines, withLength, withTime, withError, withCounts, partPoked, pokedBy};
 
 // The state of a refused start: no client open and every number 0.
 pub fn blank() -> State
@@ -26,6 +27,11 @@ pub fn blank() -> State
             error: [0; 64],
             time: [0; 64],
         },
+        counts: [Counts {
+            lines: 0,
+            errors: 0,
+            updates: 0,
+        }; 8],
     }
 }
 
@@ -116,33 +122,74 @@ fn with_error(s: Settings, parameter: u64, value: u64) -> Settings
     next
 }
 
-// The state with the change that an operation names.
-pub fn poked(state: State, o: Operation, bytes: &[u8]) -> State
-    ensures { λ r. ⌜ r ≡ pokedBy state o (now (bytes .entry)) ⌝ }
+// All three counts of a client become a number.
+fn with_counts(s: State, client: u64, value: u64) -> State
+    ensures { λ r. ⌜ r ≡ withCounts s client value ⌝ }
+{
+    if client > 7 {
+        return s;
+    }
+    let c = client as usize;
+    let n = (value % 4294967296) as u32;
+    let clients = s.clients;
+    let settings = s.settings;
+    let mut counts = s.counts;
+    counts[c] = Counts {
+        lines: n,
+        errors: n,
+        updates: n,
+    };
+    State {
+        clients,
+        settings,
+        counts,
+    }
+}
+
+// The state with a change of its clients or its settings.
+fn poked_part(state: State, o: Operation, bytes: &[u8]) -> State
+    ensures { λ r. ⌜ r ≡ partPoked state o (now (bytes .entry)) ⌝ }
 {
     let clients = state.clients;
     let settings = state.settings;
+    let counts = state.counts;
     let code = o.code;
     match code {
         b'z' => State {
             clients,
             settings: with_length(settings, o.number, o.time),
+            counts,
         },
         b't' => State {
             clients,
             settings: with_time(settings, o.number, o.time),
+            counts,
         },
         b'e' => State {
             clients,
             settings: with_error(settings, o.number, o.time),
+            counts,
         },
         b'l' => State {
             clients: with_lines(clients, o.number, bytes),
             settings,
+            counts,
         },
         _ => State {
             clients: with_number(clients, code, o.number, o.time),
             settings,
+            counts,
         },
     }
+}
+
+// The state with the change that an operation names.
+pub fn poked(state: State, o: Operation, bytes: &[u8]) -> State
+    ensures { λ r. ⌜ r ≡ pokedBy state o (now (bytes .entry)) ⌝ }
+{
+    let code = o.code;
+    if code == b'k' {
+        return with_counts(state, o.number, o.time);
+    }
+    poked_part(state, o, bytes)
 }

@@ -1,7 +1,8 @@
 // What is written to standard output. A call has a line: its name, the number, how many bytes it used and wrote, the digests of the whole
 // outbox and of the whole values area after it, then what it wrote or, if it was refused, whether the state is what it was (for a start: the
 // state with every number 0). A state has a line for each client (number, open, overlong, active modules, length of its line and the line)
-// and for each parameter (number, length of its stored value, class of its error, time). Bytes outside 32 to 126 and the backslash are written as a backslash
+// and for each parameter (number, length of its stored value, class of its error, time), and then one for each client's counts (number, lines, errors,
+// updates). Bytes outside 32 to 126 and the backslash are written as a backslash
 // and two hexadecimal digits.
 use crate::operation::Operation;
 use crate::poke::blank;
@@ -169,9 +170,42 @@ fn same_settings(a: Settings, b: Settings) -> bool {
     true
 }
 
+fn same_count(a: State, b: State, c: usize) -> bool {
+    if 7 < c {
+        return true;
+    }
+    let left = a.counts[c];
+    let right = b.counts[c];
+    if left.lines != right.lines {
+        return false;
+    }
+    if left.errors != right.errors {
+        return false;
+    }
+    left.updates == right.updates
+}
+
+fn same_counts(a: State, b: State) -> bool {
+    let mut c = 0;
+    while c < 8 {
+        if !same_count(a, b, c) {
+            return false;
+        }
+        c += 1;
+    }
+    true
+}
+
+fn same_parts(a: State, b: State) -> bool {
+    if !same_clients(a.clients, b.clients) {
+        return false;
+    }
+    same_settings(a.settings, b.settings)
+}
+
 fn write_kept(before: State, after: State) {
-    if same_clients(before.clients, after.clients) {
-        if same_settings(before.settings, after.settings) {
+    if same_parts(before, after) {
+        if same_counts(before, after) {
             io::write_all(STDOUT_FILENO, b" kept\n");
             return;
         }
@@ -300,8 +334,34 @@ fn write_parameters(s: Settings, count: u64) {
     }
 }
 
+fn long(n: u32) -> u64 {
+    n as u64
+}
+
+fn write_count(s: State, c: usize) {
+    if 7 < c {
+        return;
+    }
+    let one = s.counts[c];
+    io::write_all(STDOUT_FILENO, b"counts");
+    write_number(c as u64);
+    write_number(long(one.lines));
+    write_number(long(one.errors));
+    write_number(long(one.updates));
+    io::write_all(STDOUT_FILENO, b"\n");
+}
+
+fn write_counts(s: State) {
+    let mut c = 0;
+    while c < 8 {
+        write_count(s, c);
+        c += 1;
+    }
+}
+
 // The state, with the first so many parameters.
 pub fn write_state(state: State, count: u64) {
     write_clients(state.clients);
     write_parameters(state.settings, count);
+    write_counts(state);
 }

@@ -5,3 +5,4 @@ pub mod Calls
 pub mod Second
 pub mod Accepted
 pub mod Moves
+pub mod Counts

@@ -6,14 +6,15 @@ use mathlib.Core.Option.{Option, none, some}
 use mathlib.Core.Path.{_≡_, refl, _∙_, ap, ap₂, fun-ext}
 use lib.Dec.{eqb, ltb}
 use lib.ListN.{length}
+use Rattle.ascii.specs.Bytes.{count}
 use Rattle.table.specs.Table.{Parameter, Table}
 use Rattle.table.specs.Search.{Placed, parameters}
 use Rattle.message.specs.Line.{Line, whole, Parts}
 use Rattle.message.specs.Request.{Request, request}
 use Rattle.message.specs.Reply.{valued, Report, Reply, active, inactive, changed}
 use Rattle.outbox.specs.Outbox.{Record, orderChange}
-use Rattle.plain.specs.Node.{Client, closed, connected, Node, put, withClient, Setting, settingValue, withSettings, isOpen, isActive, activated, reportOf, clientNumbers, updatesTo, updatesOf, withClients}
-use Rattle.plain.specs.Answer.{Outcome, refused, carried, statusOf, busySettings, busyUpdates, activates, deactivates, sets, outcome, conclude, answerParts}
+use Rattle.plain.specs.Node.{Client, closed, connected, Node, put, withClient, Setting, settingValue, withSettings, isOpen, isActive, activated, reportOf, clientNumbers, updatesTo, updatesOf, withClients, below, activeCount}
+use Rattle.plain.specs.Answer.{Outcome, refused, carried, activates, deactivates, sets, outcome, conclude, answerParts, statusOf, busySettings, busyUpdates}
 use Rattle.plain.proofs.Put.{put-all, put-same}
 use Rattle.plain.proofs.Clients.{activated-open}
 use Rattle.plain.proofs.Outcomes.{outcomes-hold}
@@ -55,6 +56,11 @@ active-relined : (x : Client) (l : Line) (i : ℕ) → isActive (relined x l) i 
 unfolding isActive
 active-relined closed l i = refl
 active-relined (connected k a) l i = refl
+
+-- as many modules are active
+count-relined : (w : Table) (x : Client) (l : Line) → activeCount w (relined x l) ≡ activeCount w x
+unfolding activeCount
+count-relined w x l = ap (λ (f : ℕ → Bool). count f (below (length (w .modules)))) (fun-ext (active-relined x l))
 
 pub updates-woven : (f : ℕ → Client) (s : ℕ → Line) (i : ℕ) (r : Report) (cs : List ℕ)
     → updatesTo (λ d. relined (f d) (s d)) i r cs ≡ updatesTo f i r cs
@@ -106,7 +112,7 @@ module _ (w : Table) (c now : ℕ) (n : Node) (s : ℕ → Line) where
   through : (q : Request) → Through n s (outcome w (weave n s) c now q) (outcome w n c now q)
   unfolding activates deactivates
   through =
-      outcomes-hold w (weave n s) n refl c now (λ q. Through n s)
+      outcomes-hold w (weave n s) n refl c now (record { counts = refl; active = count-relined w (n .clients c) (s c) }) (λ q. Through n s)
       (record {
         bad = λ q x. (refl, tt);
         failing = λ k f t h e. (refl, tt);

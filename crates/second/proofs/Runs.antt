@@ -14,7 +14,9 @@ use Rattle.message.specs.Line.{Line, whole, with-byte, content, partsOf}
 use Rattle.message.specs.Error.{Fault, faultOf}
 use Rattle.message.specs.Reply.{Held, valued, failed}
 use Rattle.outbox.specs.Outbox.{Record}
-use Rattle.plain.specs.Node.{Client, closed, connected, Node, put, withClient, withValue, fresh, isOpen, lineOf, receive, emptied, reportOf, clientNumbers, holding, withClients}
+use Rattle.counter.specs.Counts.{noCounts, linesCounted}
+use Rattle.plain.specs.Node.{Client, closed, connected, Node, put, withClient, withValue, fresh, isOpen, lineOf, receive, emptied, reportOf, clientNumbers, updatesTo, holding, withClients}
+use Rattle.plain.specs.Node.{withCount, opened, lineTaken, counting}
 use Rattle.plain.specs.Answer.{answerParts, answer}
 use Rattle.plain.specs.Calls.{Effect, driverEffect, readingEffect, unreadableEffect}
 use Rattle.plain.specs.History.{Mark, feeds, opens, closes, reads, fails, Item, byte, mark, markOf, itemOf, consIf, own, marks, standing, after, runNode, runSent, joined}
@@ -60,10 +62,17 @@ module _ (w : Table) where
       let r = run-append x y (after w n i .0) in
       λ j. (r j .0, (ap (λ q. after w n i .1 ++ q .1) r ∙ sym (append-assoc (after w n i .1) (run (after w n i .0) x .1) _)) j)
 
+  -- a line is counted; so is what is sent
+  abbrev withLine : Node → ℕ → Node
+  withLine n c = withCount n c (linesCounted (n .counts c) 1)
+
+  abbrev told : Node × List Record → Node × List Record
+  told r = (counting (r .0) (r .1), r .1)
+
   -- the same by marks alone, at a node whose lines are not looked at, where each client's lines are given
   abbrev afterMark : Node → (ℕ → Line) → Mark → Node × List Record
-  afterMark n s (feeds c t) = answerParts w n c t (partsOf (content (lineOf (relined (n .clients c) (s c)))))
-  afterMark n s (opens c t) = (withClient n c fresh, [])
+  afterMark n s (feeds c t) = told (answerParts w (withLine n c) c t (partsOf (content (lineOf (relined (n .clients c) (s c))))))
+  afterMark n s (opens c t) = (opened n c, [])
   afterMark n s (closes c t) = (withClient n c closed, [])
   afterMark n s (reads p bs t) = outOf (readingEffect n p (getElem? (parameters w) p) bs t)
   afterMark n s (fails p k t) = outOf (unreadableEffect n p (getElem? (parameters w) p) (faultOf k) t)
@@ -93,20 +102,21 @@ module _ (w : Table) where
       → outOf (driverEffect (weave n s) p q h t) ≡ (weave (driverEffect n p q h t .next) s, driverEffect n p q h t .records)
   unfolding driverEffect
   after-driver n s p q h t =
-      λ i. (weave (withValue n p (holding h t)) s, updates-woven (n .clients) s (q .home) (reportOf q (holding h t)) clientNumbers i)
+      let e = updates-woven (n .clients) s (q .home) (reportOf q (holding h t)) clientNumbers in
+      ap (λ (rs : List Record). (weave (counting (withValue n p (holding h t)) rs) s, rs)) e
 
   after-mark : (n : Node) (s : ℕ → Line) (m : Mark)
       → after w (weave n s) (mark m) ≡ (weave (afterMark n s m .0) (reset s m), afterMark n s m .1)
   unfolding after answer emptied readingEffect unreadableEffect put markOf
   after-mark n s (feeds c t) =
       let p = partsOf (content (lineOf (relined (n .clients c) (s c)))) in
-      ap (λ m. answerParts w m c t p) (ap (withClient (weave n s) c) (go (n .clients c) (s c)) ∙ weave-line n s c (whole []))
-      ∙ answered w c t p n (put s c (whole []))
+      ap (λ m. told (answerParts w (withLine m c) c t p)) (ap (withClient (weave n s) c) (go (n .clients c) (s c)) ∙ weave-line n s c (whole []))
+      ∙ ap told (answered w c t p (withLine n c) (put s c (whole [])))
     where
       go : (x : Client) (l : Line) → emptied (relined x l) ≡ relined x (whole [])
       go closed l = refl
       go (connected k a) l = refl
-  after-mark n s (opens c t) = λ i. (weave-put n s c fresh (whole []) i, [])
+  after-mark n s (opens c t) = ap (λ (m : Node). (withCount m c noCounts, [])) (weave-put n s c fresh (whole []))
   after-mark n s (closes c t) = λ i. (weave-put n s c closed (whole []) i, [])
   after-mark n s (reads p bs t) = go (getElem? (parameters w) p)
     where
@@ -148,7 +158,7 @@ module _ (w : Table) where
       → afterMark n s m ≡ afterMark n (λ d. firstLine (lines s (mark m ∷ x) d)) m
   unfolding own consIf itemOf markOf
   mark-lines n s (feeds c t) x =
-      ap (λ q. answerParts w n c t (partsOf (content (lineOf (relined (n .clients c) (firstLine (seen (s c) (consIf q (mark (feeds c t)) (own c x)))))))))
+      ap (λ q. told (answerParts w (withLine n c) c t (partsOf (content (lineOf (relined (n .clients c) (firstLine (seen (s c) (consIf q (mark (feeds c t)) (own c x))))))))))
       (sym (eq-eqb c c refl))
   mark-lines n s (opens c t) x = refl
   mark-lines n s (closes c t) x = refl
@@ -202,7 +212,7 @@ module _ (w : Table) where
   after-open n (byte c b) d =
       put-open n c (receive (n .clients c) (b ∷ [])) (byte c b) (receive-open (n .clients c) (b ∷ [])) d
   after-open n (mark (feeds c t)) d =
-      answered-open w c t _ (withClient n c (emptied (n .clients c))) d
+      answered-open w c t _ (lineTaken n c) d
       ∙ put-open n c (emptied (n .clients c)) (mark (feeds c t)) (emptied-open (n .clients c)) d
   after-open n (mark (opens c t)) d = put-open n c fresh (mark (opens c t)) refl d
   after-open n (mark (closes c t)) d = put-open n c closed (mark (closes c t)) refl d

@@ -1,8 +1,9 @@
-// Demand 3's second half, as promises: nothing is run.
+// Demand 3's second half, and that counts are true of a history, as promises: nothing is run.
 ghost use mathlib.Core.Bool.{true};
 ghost use mathlib.Core.Path.{_≡_};
 ghost use Rattle.second.specs.Theorems.{HistoriesAreTheirItems, SecondHistoriesAreAlike, AcceptedCallsAreSecond, CallsMayChangePlaces};
 ghost use Rattle.second.specs.Theorems.{PiecesMayBeMingled, PiecesMayBeCut, UnusedMayBeOffered};
+ghost use Rattle.second.specs.Counts.{CountsAreTrue};
 
 // A history leaves and sends what the items that its accepted calls used leave and send.
 pub fn histories_are_their_items() -> bool
@@ -49,6 +50,14 @@ pub fn pieces_may_be_cut() -> bool
 // What stands after a piece's line feed is not used, and may be anything.
 pub fn unused_may_be_offered() -> bool
     ensures { λ r. ⌜ (r ≡ true) × UnusedMayBeOffered ⌝ }
+{
+    true
+}
+
+// A client's counts are the numbers of its used line feeds, of the errors replied to it and of the updates sent to it since its open, up to where
+// they stop.
+pub fn counts_are_true() -> bool
+    ensures { λ r. ⌜ (r ≡ true) × CountsAreTrue ⌝ }
 {
     true
 }

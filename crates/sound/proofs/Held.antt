@@ -1,6 +1,7 @@
 -- Small changes of a sound node leave it sound. Assumes nothing.
-use Prim.Native.Nat.{ℕ, _≤_, _<_}
+use Prim.Native.Nat.{ℕ, _+_, _≤_, _<_, min}
 use mathlib.Core.Bool.{Bool, false, not, _&&_, _||_}
+use mathlib.Core.List.{List}
 use mathlib.Core.Option.{some}
 use mathlib.Core.Path.{_≡_, refl}
 use native.Mathlib.Omega.{arith}
@@ -9,11 +10,14 @@ use lib.ListN.{length, getElem?}
 use borrow.Author.Tests.{le-ltb}
 use Rattle.ascii.specs.Bytes.{all}
 use Rattle.ascii.specs.Numbers.{latest}
+use Rattle.counter.specs.declared.Counts.{Counts}
+use Rattle.counter.specs.Counts.{highest, stopping, linesCounted, allCounted}
+use Rattle.outbox.specs.Outbox.{Record}
 use Rattle.table.specs.Table.{Parameter, Table}
 use Rattle.table.specs.Search.{Placed, parameters}
-use Rattle.plain.specs.Node.{Client, closed, connected, Value, Node, withClient, withValue, lineOf, isActive, emptied, activated, initially, begin}
+use Rattle.plain.specs.Node.{Client, closed, connected, Value, Node, withClient, withValue, lineOf, isActive, emptied, activated, initially, begin, withCount, counting}
 use Rattle.plain.proofs.Put.{put-all}
-use Rattle.sound.specs.Theorems.{LineHeld, ClientHeld, ValueHeld, Sound}
+use Rattle.sound.specs.Theorems.{LineHeld, ClientHeld, ValueHeld, CountsHeld, Sound}
 use Rattle.sound.proofs.Lists.{each-at}
 use Rattle.sound.proofs.Accepted.{Accepted, GoodParameter}
 
@@ -26,6 +30,7 @@ module _ (w : Table) where
         values = s .values;
         clients = put-all (λ j. ClientHeld w) (n .clients) c x k (s .clients);
         above = put-all (λ j y. 7 < j → y ≡ closed) (n .clients) c x (λ i. absurd (omega arith)) (s .above);
+        counts = s .counts;
       }
 
   pub with-value : (n : Node) (k : ℕ) (v : Value)
@@ -37,6 +42,7 @@ module _ (w : Table) where
             put-all (λ j y. (p : Placed Parameter) → getElem? (parameters w) j ≡ some p → ValueHeld (p .it) y) (n .values) k v h (s .values);
         clients = s .clients;
         above = s .above;
+        counts = s .counts;
       }
 
   pub begun : Accepted w → (t : ℕ) → t ≤ latest → Sound w (begin w t)
@@ -46,6 +52,28 @@ module _ (w : Table) where
         values = λ k p e. rw e (each-at GoodParameter (parameters w) (a .allParameters) k p e .1, h);
         clients = λ c. tt;
         above = λ c i. refl;
+        counts = λ c. (omega arith, (omega arith, omega arith));
+      }
+
+  -- ## Counts
+
+  pub with-count : (n : Node) (c : ℕ) (x : Counts) → CountsHeld x → Sound w n → Sound w (withCount n c x)
+  with-count n c x h s =
+      record { values = s .values; clients = s .clients; above = s .above; counts = put-all (λ j. CountsHeld) (n .counts) c x h (s .counts) }
+
+  stops : (k n : ℕ) → stopping k n ≤ highest
+  stops k n = omega arith
+
+  pub one-line : (x : Counts) → CountsHeld x → CountsHeld (linesCounted x 1)
+  one-line x h = (stops (x .lines) 1, h .1)
+
+  pub with-counting : (n : Node) (rs : List Record) → Sound w n → Sound w (counting n rs)
+  with-counting n rs s =
+      record {
+        values = s .values;
+        clients = s .clients;
+        above = s .above;
+        counts = λ c. (stops (n .counts c .lines) 0, (stops (n .counts c .errors) _, stops (n .counts c .updates) _));
       }
 
   -- ## Clients

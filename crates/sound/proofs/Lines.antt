@@ -13,7 +13,7 @@ use Rattle.ascii.specs.Bytes.{all, takeWhile, dropWhile, tail, same, isPrintabl
 use Rattle.ascii.specs.Names.{isName}
 use Rattle.ascii.proofs.Lists.{both, all-one, all-append}
 use Rattle.message.specs.Line.{Line, whole, overlong, with-byte, withoutReturn, printable, content, Parts, beforeSpace, afterSpace, partsOf}
-use Rattle.message.specs.Request.{Request, identify, describe, ping, activate, deactivate, read, change, execute, check, malformed, modulePart, accessiblePart, scoped, named, orNull, request}
+use Rattle.message.specs.Request.{Request, identify, describe, ping, activate, deactivate, read, change, execute, count, malformed, modulePart, accessiblePart, scoped, named, orNull, request, check}
 use Rattle.outbox.specs.Theorems.{Word, Named}
 use Rattle.table.specs.Table.{Table}
 use Rattle.plain.specs.Node.{Client, closed, connected, receive}
@@ -110,6 +110,7 @@ Asked (read m a) = Unit {0}
 Asked (change m a v) = Unit {0}
 Asked (execute m a v) = Unit {0}
 Asked (check m a v) = Unit {0}
+Asked count = Unit {0}
 Asked malformed = Unit {0}
 
 asked-scoped : (f : Option (List ℕ) → Request) → ((m : Option (List ℕ)) → Named m → Asked (f m)) → (s : List ℕ)
@@ -137,4 +138,5 @@ asked p h =
     either Asked (is (bytes "read")) (λ e. asked-named read (λ m a. tt) s) λ e.
     either Asked (is (bytes "change")) (λ e. asked-named (λ m a. change m a (orNull (p .payload))) (λ m a. tt) s) λ e.
     either Asked (is (bytes "do")) (λ e. asked-named (λ m a. execute m a (orNull (p .payload))) (λ m a. tt) s) λ e.
-    either Asked (is (bytes "check")) (λ e. asked-named (λ m a. check m a (orNull (p .payload))) (λ m a. tt) s) λ e. tt
+    either Asked (is (bytes "check")) (λ e. asked-named (λ m a. check m a (orNull (p .payload))) (λ m a. tt) s) λ e.
+    either Asked (is (bytes "_count")) (λ e. tt) λ e. tt

@@ -1,5 +1,7 @@
 -- Records that are well formed, and the bytes that they take. Assumes nothing.
 use Prim.Native.Nat.{ℕ, suc, _+_, _*_, _≤_}
+use Rattle.counter.specs.declared.Counts.{Counts}
+use Rattle.counter.specs.Counts.{highest}
 use mathlib.Core.Bool.{Bool, true, false, cond, not, _&&_}
 use mathlib.Core.List.{List, [], _∷_, _++_}
 use mathlib.Core.Option.{Option, none, some}
@@ -12,11 +14,11 @@ use borrow.Author.Tests.{leb-true}
 use Rattle.ascii.specs.Text.{bytes}
 use Rattle.ascii.specs.Bytes.{all, head, isDigit}
 use Rattle.ascii.specs.Names.{isName, isNameByte}
-use Rattle.ascii.specs.Numbers.{twoBytes, latest}
-use Rattle.ascii.proofs.Decimal.{seconds-latest}
+use Rattle.ascii.specs.Numbers.{decimal, twoBytes, latest}
+use Rattle.ascii.proofs.Decimal.{decimal-short, seconds-latest}
 use Rattle.ascii.proofs.Lists.{both}
 use Rattle.message.specs.Error.{Fault, Denial, class, fault}
-use Rattle.message.specs.Reply.{Held, valued, failed, Report, Reply, identification, describing, pong, active, inactive, reply, changed, done, checked, error, dataReport, faultReport, heldReport, reportText, errorReport, optionally, identity, replyLine, updateWord, updateLine}
+use Rattle.message.specs.Reply.{Held, valued, failed, Report, Reply, identification, describing, pong, active, inactive, reply, changed, done, counted, error, dataReport, countsText, faultReport, heldReport, reportText, errorReport, optionally, replyLine, updateWord, updateLine, checked, identity}
 use Rattle.message.proofs.Said.{fault-short, class-short}
 use Rattle.outbox.specs.Outbox.{Record, final, update, body, encode, encodeAll}
 use Rattle.outbox.specs.Theorems.{Word, Named, IsValue, WellFormed, WellFormedReply, AllWellFormed}
@@ -25,6 +27,7 @@ use Rattle.table.specs.Table.{Parameter}
 use Rattle.table.specs.Layout.{begins}
 use Rattle.table.specs.Search.{Placed}
 use Rattle.plain.specs.Node.{Client, Value, isActive, reportOf, updatesTo, updatesOf}
+use Rattle.sound.specs.Theorems.{CountsHeld}
 use Rattle.sound.proofs.Accepted.{GoodNames, GoodEdition}
 use Rattle.sound.proofs.Room.{encode-append}
 
@@ -144,6 +147,19 @@ says-done r f v = ((f .names, v), omega (arith, reply-short r f))
 pub says-checked : (r : Report) → Fine r → IsValue (r .held) → Says (checked r) 415
 unfolding replyLine bytes
 says-checked r f v = ((f .names, v), omega (arith, reply-short r f))
+
+count-short : (n : ℕ) → n ≤ highest → length (decimal n) ≤ 10
+count-short n h = decimal-short 9 n (omega arith)
+
+counts-short : (x : Counts) (n : ℕ) → CountsHeld x → n ≤ highest → length (countsText x n) ≤ 45
+unfolding countsText bytes
+counts-short x n h i =
+    simp length-append
+    (omega (arith, count-short (x .lines) (h .0), count-short (x .errors) (h .1 .0), count-short (x .updates) (h .1 .1), count-short n i))
+
+pub says-counted : (x : Counts) (n t : ℕ) → CountsHeld x → n ≤ highest → t ≤ latest → Says (counted x n t) 79
+unfolding replyLine bytes
+says-counted x n t h i j = (tt, simp length-append (omega (arith, data-short (countsText x n) t j, counts-short x n h i)))
 
 pub says-error : (a s : List ℕ) (d : Denial) → DeniedInTime d → Word a → Word s → length a ≤ 1024 → length s ≤ 1024 → Says (error a s d) 2122
 unfolding replyLine bytes

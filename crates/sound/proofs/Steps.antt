@@ -1,6 +1,6 @@
 -- One call: an accepted one leaves a sound node, and writes well-formed records of at most 32,019 bytes. Assumes nothing.
 use Prim.Native.Nat.{ℕ, zero, suc, _+_, _*_, _≤_}
-use mathlib.Core.Bool.{Bool, true, false, not}
+use mathlib.Core.Bool.{Bool, true, false, cond, not}
 use mathlib.Core.List.{List, [], _∷_, _++_}
 use mathlib.Core.Option.{Option, none, some}
 use mathlib.Core.Path.{_≡_, refl, sym, subst}
@@ -9,7 +9,8 @@ use native.Mathlib.Omega.{arith}
 use lib.ListN.{length, getElem?}
 use borrow.Author.Tests.{not-false}
 use Rattle.ascii.specs.Text.{bytes}
-use Rattle.ascii.specs.Bytes.{all}
+use Rattle.counter.specs.Counts.{noCounts, linesCounted}
+use Rattle.ascii.specs.Bytes.{all, count}
 use Rattle.ascii.specs.Numbers.{latest}
 use Rattle.datainfo.specs.Datainfo.{Datainfo}
 use Rattle.fit.specs.Fit.{Verdict, fits, severity, verdict, storedForm, isFit, isStored}
@@ -17,7 +18,7 @@ use Rattle.form.proofs.Stored.{stored, stored-short, short-stored}
 use Rattle.message.specs.Line.{Parts, content, partsOf}
 use Rattle.message.specs.Request.{Request, request}
 use Rattle.message.specs.Error.{Fault, faultOf}
-use Rattle.message.specs.Reply.{Held, valued, failed, Reply, identification, pong, active, inactive, reply, changed, done, checked, error}
+use Rattle.message.specs.Reply.{Held, valued, failed, Reply, identification, pong, active, inactive, reply, changed, done, counted, error, checked}
 use Rattle.outbox.specs.Outbox.{Record, final, orderChange, orderCommand, body}
 use Rattle.outbox.specs.Theorems.{Named}
 use Rattle.table.specs.Table.{Parameter, Command, Table}
@@ -26,22 +27,22 @@ use Rattle.table.specs.Search.{Placed, parameters, commands}
 use Rattle.report.specs.Report.{report}
 use Rattle.report.specs.Judge.{lowest}
 use Rattle.report.proofs.Faults.{no-fault, lowest-none}
-use Rattle.plain.specs.Node.{withValues, withSettings}
-use Rattle.plain.specs.Node.{closed, Value, Node, withClient, withValue, Setting, fresh, lineOf, receive, emptied, reportOf, clientNumbers, updatesTo, holding, showing}
+use Rattle.plain.specs.Node.{closed, Value, Node, withClient, withValue, Setting, Client, fresh, opened, isActive, below, activeCount, lineOf, receive, emptied, lineTaken, counting, reportOf, clientNumbers, updatesTo, holding, showing, withValues, withSettings}
 use Rattle.plain.specs.Answer.{busy, statusOf, busySettings, busyUpdates}
 use Rattle.plain.specs.Answer.{Outcome, refused, carried, argumentVerdict, argumentForm, activates, deactivates, sets, outcome, conclude, answerParts, answer}
 use Rattle.plain.specs.Calls.{Event, Open, Close, Piece, Reading, Unreadable, Call, readingVerdict, ownFaults, callNumber, beforeFeed, hasFeed, ended, Effect, pieceEffect, driverEffect, readingEffect, unreadableEffect, effect, settle, stepIf}
 use Rattle.plain.specs.History.{step}
 use Rattle.plain.proofs.Numbers.{accepted-call}
+use Rattle.plain.proofs.Outcomes.{Tells, by-identify, by-describe, by-ping, by-read, by-count, LetIn, Allowed, doneOf, ordering, outcome-holds}
 use Rattle.plain.proofs.Busy.{status-is, busy-stored, set-more}
-use Rattle.plain.proofs.Outcomes.{Tells, by-identify, by-describe, by-ping, by-read, by-check, LetIn, Allowed, doneOf, ordering, outcome-holds}
+use Rattle.plain.proofs.Outcomes.{by-check}
 use Rattle.sound.specs.Theorems.{HeldFits, ValueHeld, Sound}
 use Rattle.sound.proofs.Lists.{each-at}
 use Rattle.sound.proofs.Tabled.{ParameterIn}
 use Rattle.sound.proofs.Accepted.{Accepted, GoodParameter, GoodCommand, client-low, time-low}
-use Rattle.sound.proofs.Records.{Small, DeniedInTime, Fine, Says, says-within, says-identification, says-describing, says-pong, says-active, says-inactive, says-reply, says-changed, says-done, says-checked, says-error, Written, written-none, written-one, written-append, written-within, written-final, written-to, written-of}
+use Rattle.sound.proofs.Records.{Small, DeniedInTime, Fine, Says, says-within, says-identification, says-describing, says-pong, says-active, says-inactive, says-reply, says-changed, says-done, says-counted, says-error, Written, written-none, written-one, written-append, written-within, written-final, written-to, written-of, says-checked}
 use Rattle.sound.proofs.Lines.{before-feed, received, content-short, ShortWord, parts-words, Asked, asked}
-use Rattle.sound.proofs.Held.{with-client, with-value, line-held, emptied-held, more-active, less-active}
+use Rattle.sound.proofs.Held.{with-client, with-value, with-count, one-line, with-counting, line-held, emptied-held, more-active, less-active}
 
 -- a node that is left, and the records that are written
 pub record Kept (w : Table) (n : Node) (rs : List Record) : Type 0 where
@@ -52,6 +53,16 @@ pub record Kept (w : Table) (n : Node) (rs : List Record) : Type 0 where
 abbrev pub Comes : Table → ℕ → Outcome → Type 0
 Comes w c (refused e) = DeniedInTime e
 Comes w c (carried m ss rs r) = Kept w m (rs ++ (final c r ∷ []))
+
+-- of the first k numbers
+pub count-low : (f : ℕ → Bool) (k : ℕ) → count f (below k) ≤ k
+unfolding count below
+count-low f zero = omega arith
+count-low f (suc k) = one (f k) (count-low f k)
+  where
+    one : (b : Bool) → count f (below k) ≤ k → cond b 1 0 + count f (below k) ≤ suc k
+    one true h = omega arith
+    one false h = omega arith
 
 fit-is : (v : Verdict) → v ≡ fits → isFit v ≡ true
 unfolding isFit severity
@@ -102,6 +113,11 @@ module _ (w : Table) (a : Accepted w) (n : Node) (s : Sound w n) where
     new-updates : Written (updatesTo (n .clients) (p .home) (reportOf p new) clientNumbers) 3360
     new-updates = written-to (n .clients) (p .home) (reportOf p new) (fine k p e new new-value) clientNumbers
 
+  -- no more modules are active than there are
+  active-few : (x : Client) → activeCount w x ≤ length (w .modules)
+  unfolding activeCount
+  active-few x = count-low (isActive x) (length (w .modules))
+
   -- requests of client c at the time t
   module _ (c : ℕ) (low : c ≤ 7) (t : ℕ) (h : t ≤ latest) where
     comes : (m : Node) (ss : List Setting) (rs : List Record) (r : Reply) (j k : ℕ) → Sound w m → Written rs j → Says r k → j + (k + 6) ≤ 32019
@@ -131,7 +147,7 @@ module _ (w : Table) (a : Accepted w) (n : Node) (s : Sound w n) where
         (with-client w n c _ low (less-active w (n .clients c) wanted (s .clients c)) s) written-none (says-inactive m e) (omega arith)
 
     -- a reply alone
-    told-short : (q : Request) (r : Reply) → Tells w t (n .values) q r → Asked q → Says r 32013
+    told-short : (q : Request) (r : Reply) → Tells w n c t q r → Asked q → Says r 32013
     told-short _ _ by-identify q = says-within (identification (w .edition)) 16384 32013 (omega arith) (says-identification (w .edition) (a .edition))
     told-short _ _ by-describe q = says-describing (report w) (a .short)
     told-short _ _ (by-ping {token}) q = says-within (pong token t) 1057 32013 (omega arith) (says-pong token t (q .0) (q .1) h)
@@ -144,8 +160,12 @@ module _ (w : Table) (a : Accepted w) (n : Node) (s : Sound w n) where
         let i = let-in-stored w a k v l in
         says-within (checked (reportOf (k .1) x)) 415 32013 (omega arith)
         (says-checked (reportOf (k .1) x) (fine (k .0) (k .1) (l .there) x (i, h)) tt)
+    told-short _ _ by-count q =
+        let m = activeCount w (n .clients c) in
+        says-within (counted (n .counts c) m t) 79 32013 (omega arith)
+        (says-counted (n .counts c) m t (s .counts c) (omega (arith, active-few (n .clients c), a .fewModules)) h)
 
-    comes-tells : (q : Request) (r : Reply) → Tells w t (n .values) q r → Asked q → Comes w c (carried n [] [] r)
+    comes-tells : (q : Request) (r : Reply) → Tells w n c t q r → Asked q → Comes w c (carried n [] [] r)
     comes-tells q r u i = only r 32013 (told-short q r u i) (omega arith)
 
     -- what is set and sent of a status first
@@ -228,14 +248,15 @@ module _ (w : Table) (a : Accepted w) (n : Node) (s : Sound w n) where
   quiet = record { sound = s; written = written-within 32019 (omega arith) written-none }
 
   -- a line feed, or none yet
-  answered : (c t : ℕ) → c ≤ 7 → t ≤ latest → (b : Bool) → Kept w (ended w n c t b .0) (ended w n c t b .1)
+  pub answered : (c t : ℕ) → c ≤ 7 → t ≤ latest → (b : Bool) → Kept w (ended w n c t b .0) (ended w n c t b .1)
   unfolding ended answer
   answered c t low h false = quiet
   answered c t low h true =
       let l = lineOf (n .clients c) in
-      answered-parts w a (withClient n c (emptied (n .clients c)))
-      (with-client w n c (emptied (n .clients c)) low (emptied-held w (n .clients c) (s .clients c)) s) c low t h
-      (partsOf (content l)) (parts-words (content l) (content-short l (line-held w (n .clients c) (s .clients c))))
+      let m = with-client w n c (emptied (n .clients c)) low (emptied-held w (n .clients c) (s .clients c)) s in
+      let k = answered-parts w a (lineTaken n c) (with-count w _ c (linesCounted (n .counts c) 1) (one-line w (n .counts c) (s .counts c)) m) c low t h
+      (partsOf (content l)) (parts-words (content l) (content-short l (line-held w (n .clients c) (s .clients c)))) in
+      record { sound = with-counting w _ _ (k .sound); written = k .written }
 
   -- what a driver tells is held
   told-in : (k : ℕ) (p : Placed Parameter) → getElem? (parameters w) k ≡ some p → (x : Held) → HeldFits (p .it) x → (t : ℕ) → t ≤ latest
@@ -243,7 +264,7 @@ module _ (w : Table) (a : Accepted w) (n : Node) (s : Sound w n) where
   unfolding driverEffect
   told-in k p e x f t h =
       record {
-        sound = new-node w a n s k p e x f t h;
+        sound = with-counting w _ _ (new-node w a n s k p e x f t h);
         written = written-within 32019 (omega arith) (new-updates w a n s k p e x f t h);
       }
 
@@ -270,7 +291,8 @@ module _ (table : List ℕ) (a : Accepted (tableOf table)) where
     unfolding ownFaults effect pieceEffect all
     effected (Open c t) z =
         let low = client-low c (lowest-none _ z 1) in
-        quiet w a (withClient n c fresh) (with-client w n c fresh low ((omega arith, refl), λ i e. refl) s)
+        let m = with-client w n c fresh low ((omega arith, refl), λ i e. refl) s in
+        quiet w a (opened n c) (with-count w _ c noCounts (omega arith, (omega arith, omega arith)) m)
     effected (Close c t) z =
         let low = client-low c (lowest-none _ z 1) in
         quiet w a (withClient n c closed) (with-client w n c closed low tt s)

@@ -8,6 +8,8 @@ use lib.Dec.{eqb}
 use lib.ListN.{length, getElem?}
 use Rattle.ascii.specs.Bytes.{all}
 use Rattle.ascii.specs.Numbers.{latest}
+use Rattle.counter.specs.declared.Counts.{Counts}
+use Rattle.counter.specs.Counts.{highest}
 use Rattle.datainfo.specs.Datainfo.{Datainfo}
 use Rattle.fit.specs.Fit.{isStored}
 use Rattle.form.specs.Theorems.{InTable}
@@ -42,11 +44,16 @@ HeldFits p (failed f) = Unit {0}
 abbrev pub ValueHeld : Parameter → Value → Type 0
 ValueHeld p v = HeldFits p (v .held) × (v .time ≤ latest)
 
--- the contrary of document 01's "State is unfit if", of what a plain node holds
+-- each count "stops at 4,294,967,295"
+abbrev pub CountsHeld : Counts → Type 0
+CountsHeld x = (x .lines ≤ highest) × ((x .errors ≤ highest) × (x .updates ≤ highest))
+
+-- the contrary of document 01's "State is unfit if", of what a plain node holds; and its counts
 pub record Sound (w : Table) (n : Node) : Type 0 where
   pub values : (k : ℕ) (p : Placed Parameter) → getElem? (parameters w) k ≡ some p → ValueHeld (p .it) (n .values k)
   pub clients : (c : ℕ) → ClientHeld w (n .clients c)
   pub above : (c : ℕ) → 7 < c → n .clients c ≡ closed
+  pub counts : (c : ℕ) → CountsHeld (n .counts c)
 
 -- Every datainfo of an accepted table, of a parameter or of an argument, is one of which the theorems of stored forms speak
 -- (`form::stored_forms`): read from the table's bytes, with good names.

@@ -12,3 +12,5 @@ pub mod Settled
 pub mod Stands
 pub mod Views
 pub mod Sets
+pub mod Ones
+pub mod Counted

@@ -13,7 +13,7 @@ use Rattle.state.specs.View.{bit}
 use Rattle.state.specs.Fit.{pastLast}
 
 -- a number below 2 is 0 or 1
-digit : (P : ℕ → Type 0) → P 0 → P 1 → (n : ℕ) → n < 2 → P n
+pub digit : (P : ℕ → Type 0) → P 0 → P 1 → (n : ℕ) → n < 2 → P n
 digit P a b zero h = a
 digit P a b (suc zero) h = b
 digit P a b (suc (suc n)) h = absurd (omega arith)
@@ -38,7 +38,7 @@ xor-digits x h y k =
     x
     h
 
-small : (n : ℕ) → n % 2 < 2
+pub small : (n : ℕ) → n % 2 < 2
 small n = mod-lt n (omega arith)
 
 bit-or : (a b j : ℕ) → bit (bitOr a b) j ≡ bit a j || bit b j

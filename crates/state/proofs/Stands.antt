@@ -24,7 +24,7 @@ use Rattle.sound.proofs.Lists.{each-at}
 use Rattle.sound.proofs.Accepted.{GoodParameter, accepted}
 use Rattle.state.specs.declared.Clients.{Clients}
 use Rattle.state.specs.declared.State.{State}
-use Rattle.state.specs.View.{isSet, bit, lineBytes, lineAt, clientAt, storedText, shown, valueAt, view}
+use Rattle.state.specs.View.{isSet, bit, lineBytes, lineAt, clientAt, storedText, shown, valueAt, countsAt, view}
 use Rattle.state.specs.Fit.{clientUnfit, settingsUnfit, isUnfit}
 use Rattle.state.proofs.Becomes.{Sized}
 use Rattle.ascii.proofs.Lists.{neither}
@@ -106,11 +106,12 @@ module _ (table : List ℕ) (e : tableNumber table ≡ 0) (s : State) (values : 
       go false g = not-false _ g
 
 pub fit-is-sound : (table : List ℕ) (s : State) (values : List ℕ) → Sized (s .clients) → tableNumber table ≡ 0 → isUnfit (tableOf table) s values ≡ false → Sound (tableOf table) (view table s values)
-unfolding isUnfit view
+unfolding isUnfit view countsAt
 fit-is-sound table s values z e h =
     let n = neither (settingsUnfit (s .settings) values 0 (parameters (tableOf table))) _ h in
     record {
       values = value-held table e s values (n .0);
       clients = client-held (tableOf table) (s .clients) z (n .1);
       above = λ c l. past (tableOf table) (s .clients) z (n .1) c (omega arith);
+      counts = λ c. (omega arith, (omega arith, omega arith));
     }

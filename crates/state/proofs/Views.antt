@@ -1,6 +1,6 @@
 -- Laws of the plain node that a state stands for: a change of the state is the plain node's own small change. Assumes nothing.
 use Prim.Native.Nat.{ℕ, _≤_, _<_}
-use mathlib.Core.Path.{_≡_, refl, ap, ap₂, fun-ext}
+use mathlib.Core.Path.{_≡_, refl, ap, ap₂, fun-ext, _∙_}
 use mathlib.Core.Bool.{false}
 use mathlib.Core.List.{List}
 use mathlib.Core.Option.{Option, none, some}
@@ -9,14 +9,16 @@ use Rattle.table.specs.Table.{Parameter, Table}
 use Rattle.table.specs.Layout.{readTable, orEmpty, tableOf}
 use Rattle.table.specs.Search.{Placed, parameters}
 use Rattle.table.proofs.Places.{initial-lies}
+use Rattle.counter.specs.declared.Counts.{Counts}
+use Rattle.counter.specs.Counts.{noCounts}
 use Rattle.message.specs.Error.{Fault, faultNumber, faultOf}
 use Rattle.message.specs.Reply.{failed, heldAs}
-use Rattle.plain.specs.Node.{Client, closed, Value, withClient, withValue, initially, begin, holding, showing, withClients, withValues, noneOpen}
+use Rattle.plain.specs.Node.{Client, closed, Value, withClient, withValue, initially, begin, holding, showing, withClients, withValues, withCounts, noneOpen}
 use Rattle.sound.proofs.Lists.{there-low}
 use Rattle.state.specs.declared.Clients.{Clients}
 use Rattle.state.specs.declared.Settings.{Settings}
 use Rattle.state.specs.declared.State.{State}
-use Rattle.state.specs.View.{shown, valueAt, clientAt, view, withStored, withLength, withError, nextClients, nextSettings}
+use Rattle.state.specs.View.{shown, valueAt, clientAt, countsAt, view, withStored, withLength, withError, nextClients, nextSettings}
 use Rattle.state.specs.Fit.{settingsUnfit}
 use Rattle.state.proofs.Becomes.{Becomes}
 use Rattle.state.proofs.Settled.{Sized, stored-view, failed-view}
@@ -69,8 +71,10 @@ module _ (table : List ℕ) (w : Table) (read : readTable table ≡ some w) (s :
 -- the node after an accepted start: no client is open, nothing is set, no parameter is in error, and all times are the start's
 pub begun-view : (table : List ℕ) (w : Table) → readTable table ≡ some w → (s : State) (values : List ℕ) (t : ℕ) → ((c : ℕ) → clientAt (s .clients) c ≡ closed)
     → ((p : ℕ) → p < length (parameters w) → getD (s .settings .length) p 0 ≡ 0) → ((p : ℕ) → p < length (parameters w) → getD (s .settings .error) p 0 ≡ 0)
-    → ((p : ℕ) → p < length (parameters w) → getD (s .settings .time) p 0 ≡ t)
+    → ((p : ℕ) → p < length (parameters w) → getD (s .settings .time) p 0 ≡ t) → ((c : ℕ) → countsAt (s .counts) c ≡ noCounts)
     → view table s values ≡ begin w t
 unfolding view begin tableOf orEmpty
-begun-view table w read s values t c n k m =
-    rw read (ap₂ (λ (f : ℕ → Client) (g : ℕ → Value). withClients (noneOpen g) f) (fun-ext c) (fun-ext (started table w read (s .settings) values t n k m)))
+begun-view table w read s values t c n k m z =
+    rw read
+    (ap₂ (λ (f : ℕ → Client) (g : ℕ → Value). withCounts (withClients (noneOpen g) f) (countsAt (s .counts))) (fun-ext c) (fun-ext (started table w read (s .settings) values t n k m))
+    ∙ ap (withCounts (begin w t)) (fun-ext z))

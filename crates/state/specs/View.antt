@@ -1,5 +1,5 @@
 -- The plain node that a state stands for, with the table and the values area that it is handed in with (document 01, "Numbers a call
--- answers with"; M-102). Assumes nothing.
+-- answers with"; M-102, M-108). Assumes nothing.
 use Prim.Native.Nat.{ℕ, _*_, _/_, _%_, _^_}
 use mathlib.Core.Bool.{Bool, cond, not}
 use mathlib.Core.List.{List, [], _∷_}
@@ -7,6 +7,8 @@ use mathlib.Core.Option.{Option, none, some}
 use lib.Dec.{eqb}
 use lib.ListN.{length, getD, set, take, drop, getElem?}
 use lib.Seq.{sets}
+use Rattle.counter.specs.declared.Counts.{Counts}
+use Rattle.counter.specs.Counts.{noCounts, allCounted}
 use Rattle.message.specs.Line.{Line, whole, overlong}
 use Rattle.message.specs.Error.{faultNumber, faultOf}
 use Rattle.message.specs.Reply.{Held, valued, failed, heldAs}
@@ -66,18 +68,30 @@ valueAt table s values p none = showing [] 0
 valueAt table s values p (some x) =
     holding (heldAs (faultOf (getD (s .error) p 0)) (shown table s values p (x .it))) (getD (s .time) p 0)
 
--- a state with other clients; with other settings
+-- ## Counts
+
+-- client c's, of the eight. A count is a u32, and so at most where it stops: nothing is cut off here
+unfoldable pub countsAt : List Counts → ℕ → Counts
+countsAt xs c = allCounted (getD xs c noCounts) 0 0 0
+
+-- ## States
+
+-- a state with other clients; with other settings; with other counts
 abbrev pub nextClients : State → Clients → State
-nextClients s r = record { clients = r; settings = s .settings }
+nextClients s r = record { clients = r; settings = s .settings; counts = s .counts }
 
 abbrev pub nextSettings : State → Settings → State
-nextSettings s r = record { clients = s .clients; settings = r }
+nextSettings s r = record { clients = s .clients; settings = r; counts = s .counts }
+
+abbrev pub nextCounts : State → List Counts → State
+nextCounts s r = record { clients = s .clients; settings = s .settings; counts = r }
 
 unfoldable pub view : List ℕ → State → List ℕ → Node
 view table s values =
     record {
       clients = clientAt (s .clients);
       values = λ p. valueAt table (s .settings) values p (getElem? (parameters (tableOf table)) p);
+      counts = countsAt (s .counts);
     }
 
 -- "An accepted setting writes its stored form ..": from the parameter's place on, and nothing else is written

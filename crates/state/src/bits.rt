@@ -3,6 +3,8 @@ ghost use mathlib.Core.Path.{_≡_};
 ghost use mathlib.Core.Bool.{not, _&&_, _||_};
 ghost use Prim.Native.Nat.{ℕ, _<_, _≤_};
 ghost use lib.Dec.{eqb, ltb};
+ghost use Rattle.ascii.specs.Bytes.{count};
+ghost use Rattle.plain.specs.Node.{below};
 ghost use Rattle.state.specs.View.{bit};
 ghost use Rattle.state.specs.Fit.{pastLast};
 
@@ -50,4 +52,11 @@ pub fn is_past(mask: u16, n: usize) -> bool
     ensures { λ r. ⌜ r ≡ pastLast mask n ⌝ }
 {
     (mask as u32) >> n != 0
+}
+
+// How many bits are set, of the 16.
+pub fn bit_count(mask: u16) -> u32
+    ensures { λ r. ⌜ r ≡ count (bit mask) (below 16) ⌝ }
+{
+    u16::count_ones(mask)
 }

@@ -2,7 +2,10 @@
 // table and a values area is judged by each call (number 9).
 pub mod bits;
 pub mod client;
+pub mod count;
 pub mod setting;
+
+use counter::Counts;
 
 // Of each of the eight clients: whether it is open and inside an overlong line (0: no, anything else: yes), a bit for each active module
 // (the lowest for the first), the length of its unfinished line, and the lines, 1,024 bytes for each client.
@@ -24,8 +27,10 @@ pub struct Settings {
     pub time: [u64; 64],
 }
 
+// Counts of each of the eight clients, of one that is closed too.
 #[repr(C)]
 pub struct State {
     pub clients: Clients,
     pub settings: Settings,
+    pub counts: [Counts; 8],
 }

@@ -185,7 +185,13 @@ module _ (table : List ℕ) (s : State) (values : List ℕ) (c : ℕ) (scope : S
   node = noneOpen (shownAt table (s .settings) values c scope)
 
   sound : Sound (tableOf table) node
-  sound = record { values = value-held table (g .lent .accepted) s values fit; clients = λ i. tt; above = λ i l. refl }
+  sound =
+      record {
+        values = value-held table (g .lent .accepted) s values fit;
+        clients = λ i. tt;
+        above = λ i l. refl;
+        counts = λ i. (omega arith, (omega arith, omega arith));
+      }
 
   fine-at : (j : ℕ) (x : Placed Parameter) → getElem? (parameters (tableOf table)) j ≡ some x → Fine (Node.reportOf x (shownAt table (s .settings) values c scope j))
   fine-at j x y = fine (tableOf table) (accepted table (g .lent .accepted)) node sound j x y (node .values j) (sound .values j x y)

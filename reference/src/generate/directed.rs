@@ -68,6 +68,8 @@ fn over_good_tables() -> Vec<(&'static str, Script)> {
         ("what nearly admits busy", nearly_admitted()),
         ("no target and no status", other_names()),
         ("errors of a status", broken_status()),
+        ("who talks how much", who_talks()),
+        ("counts of another open", counts_of_another_open()),
         ("the lowest of several numbers", lowest_numbers()),
         ("start too late", late_start()),
         ("start with a short values area", short_start()),
@@ -627,6 +629,32 @@ fn broken_status() -> Script {
         .unreadable(3, 2)
         .lines(&["change a:target 1", "change b:target 1"])
         .lines(&["read a:status", "read b:status"])
+}
+
+/// Each line feed counts, each error reply and each update; other custom
+/// actions are not built.
+fn who_talks() -> Script {
+    started(vec![three()])
+        .open(0)
+        .open(1)
+        .lines(&["activate", "_count x y"])
+        .line(1, "_counts")
+        .unreadable(0, 2)
+        .lines(&["read t1:p", "", "_count"])
+        .line(1, "_count")
+}
+
+/// An open begins anew, a refused one doesn't; a close forgets nothing of it.
+fn counts_of_another_open() -> Script {
+    started(vec![three()])
+        .open(0)
+        .line(0, "activate")
+        .open(0)
+        .line(0, "_count")
+        .close(0)
+        .reading(0, "4")
+        .open(0)
+        .line(0, "_count")
 }
 
 /// Calls with several faults.

@@ -32,7 +32,7 @@ pub fn line_with_end(random: &mut Random, table: &Table) -> Vec<u8> {
 
 /// A line without its end.
 pub fn line(random: &mut Random, table: &Table) -> Vec<u8> {
-    match random.below(48) {
+    match random.below(50) {
         0 => plain_request(random, "*IDN?"),
         1 => plain_request(random, "describe"),
         2..=3 => plain_request(random, "ping"),
@@ -49,6 +49,7 @@ pub fn line(random: &mut Random, table: &Table) -> Vec<u8> {
             .to_vec(),
         45 => [b" ", &line(random, table)[..]].concat(),
         46 => with_odd_byte(random, table),
+        47..=48 => plain_request(random, "_count"),
         _ => garbage(random),
     }
 }
@@ -221,6 +222,9 @@ fn unknown_action(random: &mut Random, table: &Table) -> Vec<u8> {
         "Check",
         "checked",
         "_custom",
+        "_Count",
+        "_counts",
+        "_counted",
         "update",
         "error_read",
         "changed",

@@ -184,6 +184,11 @@ pub fn started(table: &[u8], clients: &[u64], time: u64) -> Node {
     node
 }
 
+/// The lab's node with these clients open.
+pub fn lab_node(clients: &[u64]) -> Node {
+    started(&lab(), clients, 1_000)
+}
+
 /// Sends a piece that must be accepted and gives the bytes used and written.
 pub fn send_bytes(node: &mut Node, client: u64, time: u64, bytes: &[u8]) -> (usize, Vec<u8>) {
     let taken = node

@@ -217,6 +217,8 @@ fn unfit_clients() {
     assert_unfit(&[Poke::Active(0, 2)]);
     assert_fit(&[Poke::Active(0, 1)]);
     assert_fit(&[Poke::Open(0, 255)]);
+    assert_fit(&[Poke::Counts(0, u32::MAX)]);
+    assert_fit(&[Poke::Counts(7, 1)]);
 }
 
 #[test]
@@ -278,6 +280,7 @@ fn what_a_program_is_to_print() {
         Operation::Poke(Poke::Open(3, 7)),
         Operation::Poke(Poke::Overlong(3, 9)),
         Operation::Poke(Poke::StoredError(1, 2)),
+        Operation::Poke(Poke::Counts(3, 4_294_967_294)),
         Operation::Show(2),
     ];
     let pattern = (0..40_000).map(|at| (at % 251) as u8);
@@ -304,7 +307,15 @@ fn what_a_program_is_to_print() {
          client 6 0 0 0 0\n\
          client 7 0 0 0 0\n\
          parameter 0 1 0 7\n\
-         parameter 1 0 2 5\n"
+         parameter 1 0 2 5\n\
+         counts 0 0 0 0\n\
+         counts 1 1 0 0\n\
+         counts 2 0 0 0\n\
+         counts 3 4294967294 4294967294 4294967294\n\
+         counts 4 0 0 0\n\
+         counts 5 0 0 0\n\
+         counts 6 0 0 0\n\
+         counts 7 0 0 0\n"
     );
     assert_eq!(output(&operations), expected);
 }

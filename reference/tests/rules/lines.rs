@@ -1,11 +1,7 @@
 //! Lines and their answers.
 
 use crate::build::*;
-use reference::node::Node;
-
-fn lab_node(clients: &[u64]) -> Node {
-    started(&lab(), clients, 1_000)
-}
+use reference::node::Counts;
 
 fn error(action: &str, specifier: &str, class: &str) -> String {
     let text = match class {
@@ -322,7 +318,7 @@ fn protocol_errors_repeat_what_was_sent() {
 #[test]
 fn errors_of_each_class_in_their_order() {
     let mut node = lab_node(&[0]);
-    let before = node.state().clone();
+    let mut before = node.state().clone();
     let cases = [
         // Modules before accessibles, accessibles before data.
         ("read tx:target", "NoSuchModule"),
@@ -379,6 +375,11 @@ fn errors_of_each_class_in_their_order() {
             "{line}"
         );
     }
+    before.counts[0] = Counts {
+        lines: cases.len() as u32,
+        errors: cases.len() as u32,
+        updates: 0,
+    };
     assert_eq!(node.state(), &before);
 }
 

@@ -3,6 +3,7 @@
 
 mod build;
 mod calls;
+mod counts;
 mod directed;
 mod examples;
 mod figures;

@@ -86,14 +86,14 @@ fn run_answers_a_history_written_by_hand() {
          unreadable 0 16384 32768 9 2 = 0 -\n\
          close 1 16384 10000000000000 = 10\n\
          end\n\
-         client 0 closed active=0000 line=-\n\
-         client 1 closed active=0000 line=-\n\
-         client 2 open active=0000 line=70\n\
-         client 3 closed active=0000 line=-\n\
-         client 4 closed active=0000 line=-\n\
-         client 5 closed active=0000 line=-\n\
-         client 6 closed active=0000 line=-\n\
-         client 7 closed active=0000 line=-\n\
+         client 0 closed active=0000 line=- counts=0,0,0\n\
+         client 1 closed active=0000 line=- counts=0,0,0\n\
+         client 2 open active=0000 line=70 counts=1,0,0\n\
+         client 3 closed active=0000 line=- counts=0,0,0\n\
+         client 4 closed active=0000 line=- counts=0,0,0\n\
+         client 5 closed active=0000 line=- counts=0,0,0\n\
+         client 6 closed active=0000 line=- counts=0,0,0\n\
+         client 7 closed active=0000 line=- counts=0,0,0\n\
          parameter 0 time=9 error=CommunicationFailed\n"
     );
     assert_eq!(printed(&["run", "-"], &input), expected);
@@ -125,7 +125,7 @@ fn the_end_shows_active_modules_and_overlong_lines() {
         ],
     };
     let printed = text::print(&history, &history.run().unwrap());
-    assert!(printed.contains("\nclient 1 open active=0004 line=overlong\n"));
+    assert!(printed.contains("\nclient 1 open active=0004 line=overlong counts=1,0,3\n"));
     assert!(printed.contains("\nparameter 3 time=0 value=2d30 initial\n"));
 }
 

@@ -19,6 +19,8 @@ struct Watcher {
     open: [bool; CLIENTS],
     /// For each client, which modules it has active.
     active: [Vec<bool>; CLIENTS],
+    /// For each client its lines, errors and updates since it was opened.
+    counts: [[usize; 3]; CLIENTS],
 }
 
 /// What a history was seen to contain.
@@ -106,6 +108,7 @@ impl Watcher {
             statuses,
             open: [false; CLIENTS],
             active: std::array::from_fn(|_| vec![false; table.modules.len()]),
+            counts: [[0; 3]; CLIENTS],
         }
     }
 
@@ -145,6 +148,14 @@ impl Watcher {
                 }
             }
         }
+        for record in records {
+            let counts = &mut self.counts[record.client as usize];
+            match record.mark {
+                Mark::Update => counts[2] += 1,
+                Mark::Reply if line_of(record).starts_with("error_") => counts[1] += 1,
+                _ => {}
+            }
+        }
     }
 
     fn set_open(&mut self, client: usize, open: bool, records: &[Record]) {
@@ -152,6 +163,9 @@ impl Watcher {
         assert_ne!(self.open[client], open);
         self.open[client] = open;
         self.active[client].fill(false);
+        if open {
+            self.counts[client] = [0; 3];
+        }
     }
 
     fn follow_reading(&mut self, parameter: usize, time: u64, text: &[u8], records: &[Record]) {
@@ -203,6 +217,7 @@ impl Watcher {
     fn follow_line(&mut self, client: u8, time: u64, records: &[Record]) {
         let (reply, before) = records.split_last().expect("a reply");
         assert_eq!((reply.mark, reply.client), (Mark::Reply, client));
+        self.counts[client as usize][0] += 1;
         let line = line_of(reply);
         let words: Vec<&str> = line.splitn(3, ' ').collect();
         match words[..] {
@@ -243,6 +258,17 @@ impl Watcher {
                 assert!(before.is_empty());
                 self.number_of(specifier);
                 assert!(report.ends_with(&format!(",{{\"t\":{}}}]", seconds(time))));
+            }
+            ["_counted", ".", report] => {
+                assert!(before.is_empty());
+                let [lines, errors, updates] = self.counts[client as usize];
+                let active = self.active[client as usize]
+                    .iter()
+                    .filter(|&&is| is)
+                    .count();
+                let time = seconds(time);
+                let expected = format!("[[{lines},{errors},{updates},{active}],{{\"t\":{time}}}]");
+                assert_eq!(report, expected);
             }
             ["pong", _, report] => {
                 assert!(before.is_empty());

@@ -10,6 +10,7 @@ use crate::generate::parts::{
 };
 use crate::history::Call;
 use crate::node::MIN_VALUES;
+use crate::operation::Poke;
 use crate::outbox::MIN_OUTBOX;
 use crate::table::{Accessible, Module, Table};
 
@@ -22,6 +23,8 @@ pub(super) fn all(course: &mut Course) {
     errors(course);
     broken_sensors(course);
     editions(course);
+    counts(course);
+    full_counts(course);
 }
 
 fn kelvin() -> Datainfo {
@@ -430,4 +433,70 @@ fn checks(course: &mut Course) {
     course.unreadable(3, 2);
     course.lines(0, &["check mf:target 4", "read mf:target"]);
     course.show();
+}
+
+/// What is counted: each line feed, each error reply, each update.
+fn counts(course: &mut Course) {
+    course.started("counts", &lab());
+    for client in [0, 3, 5] {
+        course.open(client);
+    }
+    course.lines(3, &["_count", "activate t1", "_count x {", "_count"]);
+    course.lines(5, &["activate", "activate idle", "_count"]);
+    // Errors of every kind, and lines that only look like them.
+    course.lines(
+        0,
+        &[
+            "",
+            "update x",
+            "_counts",
+            "_Count",
+            "error_read",
+            "ping error_",
+        ],
+    );
+    course.piece(0, [&[b'x'; 1_025][..], b"\n_count"].concat());
+    course.piece(0, "\n_count");
+    course.piece(0, "\r");
+    course.piece(0, "\n");
+    course.unreadable(0, 1);
+    course.lines(0, &["read t1:value", "read t1:target", "_count"]);
+    course.reading(0, "4.2");
+    course.line(0, "change t1:target 12");
+    course.line(5, "change mf:target 99");
+    course.lines(5, &["_count", "deactivate idle", "_count"]);
+    course.show();
+    // A refused open and a close keep them, an open begins anew.
+    course.open(5);
+    course.show();
+    course.close(5);
+    course.reading(0, "4.3");
+    course.show();
+    course.open(5);
+    course.lines(5, &["_count", "deactivate", "_count"]);
+    course.start();
+    course.show();
+}
+
+/// A count stops at the greatest number; a closed client's counts are no
+/// fault.
+fn full_counts(course: &mut Course) {
+    course.started("full counts", &lab());
+    course.open(1);
+    course.line(1, "activate t1");
+    for count in [u32::MAX - 1, u32::MAX] {
+        course.poke(Poke::Counts(1, count));
+        course.poke(Poke::Counts(6, count));
+        course.line(1, "_count");
+        course.line(1, "");
+        course.reading(0, "4");
+        course.line(1, "_count");
+        course.unreadable(0, 3);
+        course.lines(1, &["read t1:value", "activate", "_count"]);
+        course.show();
+    }
+    course.close(1);
+    course.show();
+    course.open(1);
+    course.line(1, "_count");
 }

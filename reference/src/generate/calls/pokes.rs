@@ -57,7 +57,7 @@ fn some_table(random: &mut Random) -> Vec<u8> {
 
 fn some_pokes(random: &mut Random) -> Vec<Poke> {
     let (client, number) = (random.below(4), random.below(6));
-    match random.below(9) {
+    match random.below(10) {
         0 => vec![Poke::Open(client, *random.pick(&[0, 1, 2, 255]))],
         1 => vec![Poke::Overlong(client, *random.pick(&[0, 1, 128]))],
         2 => vec![Poke::Active(
@@ -83,6 +83,10 @@ fn some_pokes(random: &mut Random) -> Vec<Poke> {
             number,
             *random.pick(&[0, 5, MAX_TIME, MAX_TIME + 1, u64::MAX]),
         )],
+        7 => {
+            let count = *random.pick(&[0, 1, u32::MAX - 2, u32::MAX - 1, u32::MAX]);
+            vec![Poke::Counts(client, count)]
+        }
         6 => vec![Poke::StoredError(
             number,
             *random.pick(&[0, 1, 2, 3, 4, 5, 255]),
@@ -112,7 +116,7 @@ fn call(course: &mut Course, random: &mut Random) {
         5 => course.line(client, "activate"),
         6 => course.unreadable(random.below(5) as u64, random.below(6) as u64),
         7 => {
-            let line = *random.pick(&[":p 5", "t1:p", "read t1:p", "deactivate mf"]);
+            let line = *random.pick(&[":p 5", "t1:p", "read t1:p", "deactivate mf", "_count"]);
             course.line(client, line);
         }
         _ => {

@@ -4,7 +4,7 @@ use native.Mathlib.Omega.{arith}
 use Rattle.promise.proofs.Held.{line-short, emptied-ready}
 use Rattle.state.proofs.Becomes.{clients-sized}
 use Rattle.state.proofs.Cells.{ended-becomes}
-use Rattle.accepted.proofs.Joins.{held-short, held-answered}
+use Rattle.accepted.proofs.Joins.{held-short, counted-ready, held-answered}
 use Rattle.accepted.proofs.pieces.answer_held.Statement.{statement}
 use Rattle.accepted.proofs.pieces.answer_held.Tie as tie
 
@@ -21,10 +21,13 @@ mul-from : tie.Need-mul-from
 mul-from c = search needs
 
 add-to : tie.Need-add-to
-add-to c = omega (arith, line-short _ _ _ _ _ (c .before .before .before .before .before .before .before .pre .0), c .before .before .before .before .before .before .before .pre .0 .lent .low)
+add-to c = let start = c .before .before .before .before .before .before .before .before in omega (arith, line-short _ _ _ _ _ (start .pre .0), start .pre .0 .lent .low)
 
 ended-requires : tie.Need-ended-requires
 ended-requires c κs = search needs
+
+line-counted-requires : tie.Need-line-counted-requires
+line-counted-requires c κs = search needs
 
 sub-answer-line : tie.Need-sub-answer-line
 sub-answer-line c = search needs
@@ -34,15 +37,17 @@ part-answer-line-start c = search needs
 
 part-answer-line-end : tie.Need-part-answer-line-end
 part-answer-line-end c =
-    let start = c .before .before .before .before .before .before .before .before .before .before .before in
+    let start = c .before .before .before .before .before .before .before .before .before .before .before .before .before in
     let z = clients-sized (start .args .state .clients) (start .good .1 .1 .1 .0 .1 .1 .0) in
     omega (arith, z .room, line-short _ _ _ _ _ (start .pre .0), start .pre .0 .lent .low)
 
 answer-line-requires : tie.Need-answer-line-requires
 answer-line-requires c κs =
-    let start = c .before .before .before .before .before .before .before .before .before .before .before .before in
-    let z = clients-sized (start .args .state .clients) (start .good .1 .1 .1 .0 .1 .1 .0) in (
-      emptied-ready _ (start .args .state) _ _ _ (start .pre .0) _ (ended-becomes _ z _ (start .pre .0 .lent .low) (c .before .before .before .before .ended .ensures)),
+    let start = c .before .before .before .before .before .before .before .before .before .before .before .before .before .before in
+    let z = clients-sized (start .args .state .clients) (start .good .1 .1 .1 .0 .1 .1 .0) in
+    let b = ended-becomes _ z _ (start .pre .0 .lent .low) (c .before .before .before .before .before .ended .ensures) in (
+      counted-ready _ (start .args .state) _ _ _ (start .args .time) (start .pre .0) _ _ (c .before .before .before .before .line-counted .ensures)
+          (emptied-ready _ (start .args .state) _ _ _ (start .pre .0) _ b),
       (start .pre .1, held-short _ (start .args .state) _ _ _ (start .args .time) (start .pre .0)),
     )
 
@@ -54,9 +59,10 @@ same-length-2 c = search needs
 
 returns : tie.Need-returns
 returns c =
-    let start = c .before .before .before .before .before .before .before .before .before .before .before .before .before .before .before .before .before in
+    let start = c .before .before .before .before .before .before .before .before .before .before .before .before .before .before .before .before .before .before .before in
     let z = clients-sized (start .args .state .clients) (start .good .1 .1 .1 .0 .1 .1 .0) in
-    held-answered _ (start .args .state) _ _ _ (start .args .time) (start .pre .0) _ (ended-becomes _ z _ (start .pre .0 .lent .low) (c .before .before .before .before .before .before .before .before .before .ended .ensures)) (c .before .before .before .before .answer-line .ensures)
+    let b = ended-becomes _ z _ (start .pre .0 .lent .low) (c .before .before .before .before .before .before .before .before .before .before .ended .ensures) in
+    held-answered _ (start .args .state) _ _ _ (start .args .time) (start .pre .0) _ b _ (c .before .before .before .before .before .before .before .before .before .line-counted .ensures) (c .before .before .before .before .answer-line .ensures)
 
 pub answer-held-spec : {M : Type 1} → statement M
 answer-held-spec =
@@ -68,6 +74,7 @@ answer-held-spec =
     mul-from
     add-to
     ended-requires
+    line-counted-requires
     sub-answer-line
     part-answer-line-start
     part-answer-line-end

@@ -11,29 +11,29 @@ feed-at-requires : tie.Need-feed-at-requires
 feed-at-requires c κs = search needs
 
 slice-aggregate-joined : tie.Need-slice-aggregate-joined
-slice-aggregate-joined c = taken-length _ _ _ _ _ 0 (c .before .before .before .before .before .before .before .args .bytes .now) (c .before .before .before .before .before .before .before .pre .0) (c .before .before .feed-at .ensures)
+slice-aggregate-joined c = let start = c .before .before .before .before .before .before .before .before in taken-length _ _ _ _ _ 0 (start .args .bytes .now) (start .pre .0) (c .before .before .before .feed-at .ensures)
 
 joined-requires : tie.Need-joined-requires
 joined-requires c κs =
-    let start = c .before .before .before .before .before .before .before in
+    let start = c .before .before .before .before .before .before .before .before in
     (start .pre .0 .lent .low, line-short _ (start .args .state) _ _ _ (start .pre .0))
 
 returns : tie.Need-returns
 returns c =
-    let start = c .before .before .before .before .before .before .before .before .before in
+    let start = c .before .before .before .before .before .before .before .before .before .before in
     let z = clients-sized (start .args .state .clients) (start .good .1 .1 .1 .0 .1 .1 .0) in
-    piece-joins _ (start .args .state) _ _ _ _ (start .args .bytes .now) (start .pre .0) (c .before .before .before .before .feed-at .ensures) z (c .before .joined .ensures) (search needs)
+    piece-joins _ (start .args .state) _ _ _ _ (start .args .bytes .now) (start .pre .0) (c .before .before .before .before .before .feed-at .ensures) z (c .before .joined .ensures) (search needs)
 
 past-feed-requires : tie.Need-past-feed-requires
 past-feed-requires c κs =
-    let start = c .before .before .before .before .before .before .before .before .before in
-    piece-more _ (start .args .state) _ _ _ 0 (start .args .bytes .now) (start .pre .0) (c .before .before .before .before .feed-at .ensures) (search needs)
+    let start = c .before .before .before .before .before .before .before .before .before .before in
+    piece-more _ (start .args .state) _ _ _ 0 (start .args .bytes .now) (start .pre .0) (c .before .before .before .before .before .feed-at .ensures) (search needs)
 
-answer-held-requires : tie.Need-answer-held-requires
-answer-held-requires c κs =
-    let start = c .before .before .before .before .before .before .before .before .before .before .before .before in
+answer-counted-requires : tie.Need-answer-counted-requires
+answer-counted-requires c κs =
+    let start = c .before .before .before .before .before .before .before .before .before .before .before .before .before in
     let z = clients-sized (start .args .state .clients) (start .good .1 .1 .1 .0 .1 .1 .0) in (
-      piece-held _ (start .args .state) _ _ _ 0 (start .args .bytes .now) (start .pre .0) (c .before .before .before .before .before .before .before .feed-at .ensures) z (c .before .before .before .before .joined .ensures),
+      piece-held _ (start .args .state) _ _ _ 0 (start .args .bytes .now) (start .pre .0) (c .before .before .before .before .before .before .before .before .feed-at .ensures) z (c .before .before .before .before .joined .ensures),
       omega (arith, start .pre .1),
     )
 
@@ -45,10 +45,10 @@ same-length-2 c = search needs
 
 returns-2 : tie.Need-returns-2
 returns-2 c =
-    let start = c .before .before .before .before .before .before .before .before .before .before .before .before .before .before .before .before .before .before in
+    let start = c .before .before .before .before .before .before .before .before .before .before .before .before .before .before .before .before .before .before .before in
     let z = clients-sized (start .args .state .clients) (start .good .1 .1 .1 .0 .1 .1 .0) in
-    piece-feeds _ (start .args .state) _ _ _ _ (start .args .bytes .now) (start .pre .0) (c .before .before .before .before .before .before .before .before .before .before .before .before .before .feed-at .ensures) z (c .before .before .before .before .before .before .before .before .before .before .joined .ensures) (search needs)
-    (c .before .before .before .before .before .before .before .before .past-feed .ensures) _ (c .before .before .before .before .before .answer-held .ensures)
+    piece-feeds _ (start .args .state) _ _ _ _ (start .args .bytes .now) (start .pre .0) (c .before .before .before .before .before .before .before .before .before .before .before .before .before .before .feed-at .ensures) z (c .before .before .before .before .before .before .before .before .before .before .joined .ensures) (search needs)
+    (c .before .before .before .before .before .before .before .before .past-feed .ensures) _ (c .before .before .before .before .before .answer-counted .ensures)
 
 pub take-piece-spec : {M : Type 1} → statement M
 take-piece-spec =
@@ -59,7 +59,7 @@ take-piece-spec =
     joined-requires
     returns
     past-feed-requires
-    answer-held-requires
+    answer-counted-requires
     same-length
     same-length-2
     returns-2)

@@ -1,7 +1,7 @@
 -- `accepted::readings::take_reading` meets its contract. Assumes nothing.
 use borrow.Author.Needs.{needs}
 use Rattle.state.proofs.Settled.{settings-sized}
-use Rattle.accepted.proofs.Takes.{read-fits, read-room, read-end, updates-room, read-size, is-taken}
+use Rattle.accepted.proofs.Takes.{read-fits, read-room, read-end, updates-room, read-few, read-size, is-taken}
 use Rattle.accepted.proofs.readings.take_reading.Statement.{statement}
 use Rattle.accepted.proofs.readings.take_reading.Tie as tie
 
@@ -31,7 +31,7 @@ part-put-updates-to-end c = search read-end
 
 put-updates-to-requires : tie.Need-put-updates-to-requires
 put-updates-to-requires c κs =
-    updates-room _ (c .before .before .before .before .before .before .before .before .before .before .before .before .before .before .before .args .state) _ _ _ _ _ _ _ (c .before .before .before .before .before .before .before .before .before .before .before .before .before .before .before .pre) _ _ (c .before .before .before .before .before .before .before .before .put-form .ensures) _ _ (c .before .before .before .before .before .bytes-of .ensures) (c .before .before .before .before .bytes-of2 .ensures)
+    updates-room _ (c .before .before .before .before .before .before .before .before .before .before .before .before .before .before .before .before .args .state) _ _ _ _ _ _ _ (c .before .before .before .before .before .before .before .before .before .before .before .before .before .before .before .before .pre) _ _ (c .before .before .before .before .before .before .before .before .put-form .ensures) _ _ (c .before .before .before .before .before .bytes-of .ensures) (c .before .before .before .before .bytes-of2 .ensures)
 
 sub-stored : tie.Need-sub-stored
 sub-stored c = search needs
@@ -39,17 +39,28 @@ sub-stored c = search needs
 stored-requires : tie.Need-stored-requires
 stored-requires c κs = (search needs, search read-size)
 
+sent-counted-requires : tie.Need-sent-counted-requires
+sent-counted-requires c κs =
+    let named = c .before .before .before .before .before .before .before .before .before in
+    let formed = named .before .before .before .before in
+    let start = formed .before .before .before .before .before .before .before .before in
+    read-few _ (start .args .state) _ _ _ _ _ _ _ (start .pre) _ _ (formed .put-form .ensures) _ _ (named .before .bytes-of .ensures) (named .bytes-of2 .ensures)
+    (c .before .before .before .before .put-updates-to .ensures)
+
 same-length : tie.Need-same-length
-same-length c = search needs
+same-length c = search (needs, c .before .before .before .before .before .before .before .before .before .before .before .before .before .before .put-form)
 
 same-length-2 : tie.Need-same-length-2
 same-length-2 c = search needs
 
 returns : tie.Need-returns
 returns c =
-    let start = c .before .before .before .before .before .before .before .before .before .before .before .before .before .before .before .before .before .before .before in
+    let named = c .before .before .before .before .before .before .before .before .before .before in
+    let formed = named .before .before .before .before in
+    let start = formed .before .before .before .before .before .before .before .before in
     let z = settings-sized (start .args .state .settings) (start .good .1 .1 .1 .0 .1 .1 .1 .0) in
-    is-taken _ (start .args .state) _ _ _ _ _ _ _ (start .pre) _ _ (c .before .before .before .before .before .before .before .before .before .before .before .before .put-form .ensures) _ _ (c .before .before .before .before .before .before .before .before .before .bytes-of .ensures) (c .before .before .before .before .before .before .before .before .bytes-of2 .ensures) z _ (c .stored .ensures) _ _ (c .before .before .before .put-updates-to .ensures)
+    is-taken _ (start .args .state) _ _ _ _ _ _ _ (start .pre) _ _ (formed .put-form .ensures) _ _ (named .before .bytes-of .ensures) (named .bytes-of2 .ensures)
+    z _ (c .before .before .stored .ensures) _ _ (c .before .before .before .before .before .put-updates-to .ensures) _ (c .sent-counted .ensures)
 
 pub take-reading-spec : {M : Type 1} → statement M
 take-reading-spec =
@@ -66,6 +77,7 @@ take-reading-spec =
     put-updates-to-requires
     sub-stored
     stored-requires
+    sent-counted-requires
     same-length
     same-length-2
     returns)

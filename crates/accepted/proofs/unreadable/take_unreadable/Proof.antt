@@ -1,7 +1,7 @@
 -- `accepted::unreadable::take_unreadable` meets its contract. Assumes nothing.
 use borrow.Author.Needs.{needs}
 use Rattle.state.proofs.Settled.{settings-sized}
-use Rattle.accepted.proofs.Tells.{fail-room, is-failed}
+use Rattle.accepted.proofs.Tells.{fail-room, fail-few, is-failed}
 use Rattle.accepted.proofs.unreadable.take_unreadable.Statement.{statement}
 use Rattle.accepted.proofs.unreadable.take_unreadable.Tie as tie
 
@@ -19,7 +19,7 @@ slice-aggregate-put-updates-to c = search needs
 
 put-updates-to-requires : tie.Need-put-updates-to-requires
 put-updates-to-requires c κs =
-    let start = c .before .before .before .before .before .before .before .before in
+    let start = c .before .before .before .before .before .before .before .before .before in
     fail-room _ _ _ _ _ _ (start .pre) (start .args .state .clients) (start .args .fault) _ _ (c .before .before .before .before .bytes-of .ensures) (c .before .before .before .bytes-of2 .ensures)
 
 fault-number-requires : tie.Need-fault-number-requires
@@ -28,14 +28,23 @@ fault-number-requires c κs = search needs
 failed-requires : tie.Need-failed-requires
 failed-requires c κs = search needs
 
+sent-counted-requires : tie.Need-sent-counted-requires
+sent-counted-requires c κs =
+    let named = c .before .before .before .before .before .before .before .before .before in
+    let start = named .before .before .before .before .before .before in
+    fail-few _ _ _ _ _ _ (start .pre) (start .args .state .clients) (start .args .fault) _ _ (named .before .bytes-of .ensures) (named .bytes-of2 .ensures)
+    (c .before .before .before .before .before .put-updates-to .ensures)
+
 same-length : tie.Need-same-length
 same-length c = search needs
 
 returns : tie.Need-returns
 returns c =
-    let start = c .before .before .before .before .before .before .before .before .before .before .before .before .before in
+    let named = c .before .before .before .before .before .before .before .before .before .before in
+    let start = named .before .before .before .before .before .before in
     let z = settings-sized (start .args .state .settings) (start .good .1 .1 .0 .1 .1 .1 .0) in
-    is-failed _ _ _ _ _ _ (start .pre) (start .args .state) (start .args .fault) _ _ (c .before .before .before .before .before .before .before .before .before .bytes-of .ensures) (c .before .before .before .before .before .before .before .before .bytes-of2 .ensures) z _ (c .before .fault-number .ensures) _ (c .failed .ensures) _ _ (c .before .before .before .before .put-updates-to .ensures)
+    is-failed _ _ _ _ _ _ (start .pre) (start .args .state) (start .args .fault) _ _ (named .before .bytes-of .ensures) (named .bytes-of2 .ensures) z _
+    (c .before .before .before .fault-number .ensures) _ (c .before .before .failed .ensures) _ _ (c .before .before .before .before .before .before .put-updates-to .ensures) _ (c .sent-counted .ensures)
 
 pub take-unreadable-spec : {M : Type 1} → statement M
 take-unreadable-spec =
@@ -48,5 +57,6 @@ take-unreadable-spec =
     put-updates-to-requires
     fault-number-requires
     failed-requires
+    sent-counted-requires
     same-length
     returns)

@@ -75,6 +75,12 @@ named-requires c κs = search needs
 enum-told-4 : tie.Need-enum-told-4
 enum-told-4 c = search needs
 
+count-requires : tie.Need-count-requires
+count-requires c κs = (search needs, (search needs, search needs))
+
+enum-told-5 : tie.Need-enum-told-5
+enum-told-5 c = search needs
+
 same-length : tie.Need-same-length
 same-length c = search needs
 
@@ -122,9 +128,17 @@ same-length-9 c = search needs
 returns-6 : tie.Need-returns-6
 returns-6 c = rw (c .before .before .before .before .before .before .before .before .before .before .before .before .asked3 .given .1, ← (c .before .before .before .before .before .before .before .before .before .before .bytes-of3 .ensures), ← (c .before .before .before .before .before .before .before .before .before .bytes-of4 .ensures), ← (c .before .before .before .before .before .before .before .data-of .ensures)) (c .before .before .before .before .named .ensures)
 
+same-length-10 : tie.Need-same-length-10
+same-length-10 c = search needs
+
 returns-7 : tie.Need-returns-7
+returns-7 c =
+    let at = c .before .before .before .before .before .before .before .before .before .before in
+    rw (c .before .before .before .before .enum-told4 .given .1) (c .before .before .count .ensures (at .args .table .now) (at .args .values .now) (at .pre .0))
+
+returns-8 : tie.Need-returns-8
 unfolding outcome
-returns-7 c = rw (c .enum-told4 .given .1) (record { is = refl; quiet = refl; area = refl })
+returns-8 c = rw (c .enum-told5 .given .1) (record { is = refl; quiet = refl; area = refl })
 
 pub outcome-spec : {M : Type 1} → statement M
 outcome-spec =
@@ -149,6 +163,8 @@ outcome-spec =
     data-of-requires
     named-requires
     enum-told-4
+    count-requires
+    enum-told-5
     same-length
     returns
     same-length-2
@@ -164,4 +180,6 @@ outcome-spec =
     same-length-8
     same-length-9
     returns-6
-    returns-7)
+    same-length-10
+    returns-7
+    returns-8)

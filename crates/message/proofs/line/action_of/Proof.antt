@@ -1,5 +1,5 @@
 use Rattle.ascii.specs.Text.{bytes}
-use Rattle.message.proofs.Requests.{is-identify, is-describe, is-ping, is-activate, is-deactivate, is-read, is-change, is-do, is-check, is-unknown}
+use Rattle.message.proofs.Requests.{is-identify, is-describe, is-ping, is-activate, is-deactivate, is-read, is-change, is-do, is-count, is-unknown, is-check}
 -- `message::line::action_of` meets its contract: each word is tried in turn. Assumes nothing.
 use borrow.Author.Needs.{needs}
 use Rattle.message.proofs.line.action_of.Statement.{statement}
@@ -95,9 +95,19 @@ returns-9 : tie.Need-returns-9
 unfolding bytes
 returns-9 c = search is-check
 
+slice-aggregate-same-10 : tie.Need-slice-aggregate-same-10
+slice-aggregate-same-10 c = search needs
+
+same-requires-10 : tie.Need-same-requires-10
+same-requires-10 c κs = search needs
+
 returns-10 : tie.Need-returns-10
 unfolding bytes
-returns-10 c = search is-unknown
+returns-10 c = search is-count
+
+returns-11 : tie.Need-returns-11
+unfolding bytes
+returns-11 c = search is-unknown
 
 pub action-of-spec : {M : Type 1} → statement M
 action-of-spec =
@@ -130,4 +140,7 @@ action-of-spec =
     slice-aggregate-same-9
     same-requires-9
     returns-9
-    returns-10)
+    slice-aggregate-same-10
+    same-requires-10
+    returns-10
+    returns-11)

@@ -1,5 +1,5 @@
 -- `message::line::request_of` meets its contract. Assumes nothing.
-use Rattle.message.proofs.Requests.{asks-identify, asks-describe, asks-ping, asks-scoped, asks-named, asks-nothing}
+use Rattle.message.proofs.Requests.{asks-identify, asks-describe, asks-ping, asks-scoped, asks-named, asks-count, asks-nothing}
 use borrow.Author.Needs.{needs}
 use Rattle.message.proofs.line.request_of.Statement.{statement}
 use Rattle.message.proofs.line.request_of.Tie as tie
@@ -40,6 +40,9 @@ named-request-requires c κs = search needs
 enum-told-4 : tie.Need-enum-told-4
 enum-told-4 c = search needs
 
+enum-told-5 : tie.Need-enum-told-5
+enum-told-5 c = search needs
+
 returns : tie.Need-returns
 returns c = search asks-identify
 
@@ -56,7 +59,10 @@ returns-5 : tie.Need-returns-5
 returns-5 c = search asks-named
 
 returns-6 : tie.Need-returns-6
-returns-6 c = search asks-nothing
+returns-6 c = search asks-count
+
+returns-7 : tie.Need-returns-7
+returns-7 c = search asks-nothing
 
 pub request-of-spec : {M : Type 1} → statement M
 request-of-spec =
@@ -74,9 +80,11 @@ request-of-spec =
     enum-known-word-2
     named-request-requires
     enum-told-4
+    enum-told-5
     returns
     returns-2
     returns-3
     returns-4
     returns-5
-    returns-6)
+    returns-6
+    returns-7)

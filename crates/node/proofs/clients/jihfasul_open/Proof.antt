@@ -1,5 +1,5 @@
 -- `node::clients::jihfasul_open` meets its contract. Assumes nothing.
-use Prim.Native.Nat.{_<_}
+use Prim.Native.Nat.{_≤_, _<_}
 use native.Mathlib.Omega.{arith}
 use borrow.Author.Needs.{needs}
 use Rattle.state.proofs.Becomes.{clients-sized}
@@ -36,14 +36,21 @@ returns-3 c = search open-twice
 opened-requires : tie.Need-opened-requires
 opened-requires c κs = search needs
 
+cleared-requires : tie.Need-cleared-requires
+cleared-requires c κs = search needs
+
 quiet-requires-4 : tie.Need-quiet-requires-4
 quiet-requires-4 c κs = search needs
 
 returns-4 : tie.Need-returns-4
 returns-4 c =
-    let start = c .before .before .before .before .before .before .before .before .before .before .before in
+    let asked = c .before .before .before .before .before .before in
+    let lent = asked .before .before .before .before in
+    let start = lent .before .before .before in
     let z = clients-sized (start .args .state .clients) (start .good .1 .1 .0 .1 .1 .0) in
-    search (open-good, z)
+    let low : start .args .client ≤ 7 = omega arith in
+    open-good _ (start .args .state) _ _ (start .args .time) (lent .lent-number .ensures) (c .before .before .before .before .before .before .before .before .before .if1 .left) low (asked .is-open .ensures)
+    (c .before .before .before .before .before .if3 .left) z (c .before .before .opened .ensures) (c .before .cleared .ensures) (c .quiet4 .ensures)
 
 pub jihfasul-open-spec : {M : Type 1} → statement M
 jihfasul-open-spec =
@@ -58,5 +65,6 @@ jihfasul-open-spec =
     quiet-requires-3
     returns-3
     opened-requires
+    cleared-requires
     quiet-requires-4
     returns-4)

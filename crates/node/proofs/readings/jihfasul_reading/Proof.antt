@@ -74,7 +74,13 @@ same-length-6 : tie.Need-same-length-6
 same-length-6 c = search needs
 
 returns-5 : tie.Need-returns-5
-returns-5 c = search read-taken
+returns-5 c =
+    let told = c .before .before .before .before .before .before .before in
+    let found = told .before .before .before .before in
+    let lent = found .before .before .before .before .before in
+    let start = lent .before .before .before .before .before .before in
+    read-taken _ (start .args .state) _ _ _ _ _ _ (lent .lent-number .ensures) (c .before .before .before .before .before .before .before .before .before .before .before .before .before .before .before .if1 .left) _ (found .before .before .parameter-by-number .ensures) _ _
+    (found .p .given .1) _ (told .before .before .verdict .ensures) (told .enum-told2 .given .1) (c .before .before .before .before .take-reading .ensures)
 
 pub jihfasul-reading-spec : {M : Type 1} → statement M
 jihfasul-reading-spec =
