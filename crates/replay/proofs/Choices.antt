@@ -99,7 +99,7 @@ module _ (w : Table) (n : Node) where
     quiet-piece rs h true z = sets-none h
     quiet-piece rs h false z = rw (order-none rs more h (eqb-false (length (encodeAll rs)) 0 z)) (sets-none h)
 
-    either-piece : (rs : List Record) → Ordered w (pieceEffect w n c bs t .next) rs
+    either-piece : (rs : List Record) → Ordered w (pieceEffect w n c bs t .next .values) rs
         → Here rs (cond (eqb (length (encodeAll rs)) 0) Nothing (orderIn (encodeAll rs ++ more)))
     unfolding setBy readingsOf
     either-piece rs (no-order h) = quiet-piece rs h (eqb (length (encodeAll rs)) 0) refl

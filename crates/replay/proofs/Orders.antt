@@ -71,11 +71,11 @@ set-last f xs s =
     ap (λ (g : ℕ → Value). g (s .parameter) .held) (set-more f xs (s ∷ []))
     ∙ ap (λ (x : Value). x .held) (put-at (setValues f xs) (s .parameter) (settingValue s))
 
--- no order, or one at the front, after which the node m holds what it orders
-pub data Ordered (w : Table) (m : Node) : List Record → Type 0 where
-  no-order : {rs : List Record} → NoOrders rs → Ordered w m rs
-  one-order : {rs : List Record} (c k : ℕ) (p : Placed Parameter) (v : List ℕ) → getElem? (parameters w) k ≡ some p → m .values k .held ≡ valued v
-      → NoOrders rs → Ordered w m (orderChange c k v ∷ rs)
+-- no order, or one at the front, after which what it orders is held among the values f
+pub data Ordered (w : Table) (f : ℕ → Value) : List Record → Type 0 where
+  no-order : {rs : List Record} → NoOrders rs → Ordered w f rs
+  one-order : {rs : List Record} (c k : ℕ) (p : Placed Parameter) (v : List ℕ) → getElem? (parameters w) k ≡ some p → f k .held ≡ valued v
+      → NoOrders rs → Ordered w f (orderChange c k v ∷ rs)
 
 no-records : NoOrders []
 unfolding ordersOf
@@ -89,14 +89,14 @@ one-command : (c k : ℕ) (v : List ℕ) → NoOrders (orderCommand c k v ∷ []
 unfolding ordersOf
 one-command c k v j = refl
 
-with-reply : {w : Table} {m : Node} (rs xs : List Record) → Ordered w m rs → NoOrders xs → Ordered w m (rs ++ xs)
+with-reply : {w : Table} {f : ℕ → Value} (rs xs : List Record) → Ordered w f rs → NoOrders xs → Ordered w f (rs ++ xs)
 with-reply rs xs (no-order h) g = no-order (no-both rs xs h g)
 with-reply _ xs (one-order {rs = rs} c k p v t e h) g = one-order c k p v t e (no-both rs xs h g)
 
-outcome-ordered : (w : Table) (n : Node) (c now : ℕ) (q : Request) → Ordered w (nodeAfter n (outcome w n c now q)) (before (outcome w n c now q))
+outcome-ordered : (w : Table) (n : Node) (c now : ℕ) (q : Request) → Ordered w (nodeAfter n (outcome w n c now q) .values) (before (outcome w n c now q))
 unfolding activates deactivates sets
 outcome-ordered w n c now =
-    outcome-holds (λ q o. Ordered w (nodeAfter n o) (before o)) w n c now
+    outcome-holds (λ q o. Ordered w (nodeAfter n o .values) (before o)) w n c now
     (record {
       bad = λ q x. no-order no-records;
       failing = λ k f t h e. no-order no-records;
@@ -110,19 +110,19 @@ outcome-ordered w n c now =
       doing = λ k v h. no-order (one-command c (k .0) _);
     })
 
-parts-ordered : (w : Table) (n : Node) (c now : ℕ) (p : Parts) → Ordered w (answerParts w n c now p .0) (answerParts w n c now p .1)
+parts-ordered : (w : Table) (n : Node) (c now : ℕ) (p : Parts) → Ordered w (answerParts w n c now p .0 .values) (answerParts w n c now p .1)
 unfolding answerParts
 parts-ordered w n c now p =
     let o = outcome w n c now (request p) in
-    subst (λ (x : Node × List Record). Ordered w (x .0) (x .1)) (sym (concluded w n c now p o))
+    subst (λ (x : Node × List Record). Ordered w (x .0 .values) (x .1)) (sym (concluded w n c now p o))
     (with-reply (before o) (final c (replyTo p o) ∷ []) (outcome-ordered w n c now (request p)) (one-reply c o p))
 
-ended-ordered : (w : Table) (n : Node) (c t : ℕ) (b : Bool) → Ordered w (ended w n c t b .0) (ended w n c t b .1)
+ended-ordered : (w : Table) (n : Node) (c t : ℕ) (b : Bool) → Ordered w (ended w n c t b .0 .values) (ended w n c t b .1)
 unfolding ended answer
 ended-ordered w n c t false = no-order no-records
 ended-ordered w n c t true = parts-ordered w _ c t _
 
-pub piece-ordered : (w : Table) (n : Node) (c : ℕ) (bs : List ℕ) (t : ℕ) → Ordered w (pieceEffect w n c bs t .next) (pieceEffect w n c bs t .records)
+pub piece-ordered : (w : Table) (n : Node) (c : ℕ) (bs : List ℕ) (t : ℕ) → Ordered w (pieceEffect w n c bs t .next .values) (pieceEffect w n c bs t .records)
 unfolding pieceEffect
 piece-ordered w n c bs t = ended-ordered w _ c t (hasFeed bs)
 
