@@ -15,6 +15,7 @@
 //!   [`definitions`] prints it for the proofs;
 //! * [`kept`] is a state that somebody else keeps, [`operation`] runs calls and
 //!   changes of it, for a program that reads them from its standard input;
+//! * [`replay`] runs the events of a trace, [`figures`] tells them in numbers;
 //! * [`random`] and [`generate`] make tables, values and histories.
 
 pub mod base64;
@@ -22,6 +23,7 @@ pub mod datainfo;
 pub mod decimal;
 pub mod definitions;
 pub mod error;
+pub mod figures;
 pub mod generate;
 pub mod history;
 pub mod json;

@@ -20,7 +20,7 @@ use std::path::Path;
 use std::process::ExitCode;
 
 const HELP: &str = "\
-The plain node of document 01 with M-100, M-102, M-107 and M-110, and generators for comparing others with it.
+The plain node of document 01 with M-100, M-102, M-107, M-110 and M-111, and generators for comparing others with it.
 
 usage: reference COMMAND ...
 
@@ -62,6 +62,9 @@ usage: reference COMMAND ...
   night PART EVENTS 2|12
                         the same of a night of so many events, over a table of
                         2 or 12 modules
+  night PART settings COUNT
+                        the same of a night in which an int and an enum have
+                        so many settings each
   nights SEED COUNT FOLDER
                         writes tables, times and traces for that, and what is
                         told of each, into FOLDER
@@ -115,6 +118,7 @@ fn command(arguments: &[&str]) -> Result<Vec<u8>, String> {
             write_nights(number(seed)?, number(count)?, Path::new(folder)).map(|()| Vec::new())
         }
         ["night", part] => night_part(&nights::directed(), part),
+        ["night", part, "settings", count] => night_part(&nights::settings(number(count)?), part),
         ["night", part, events, modules @ ("2" | "12")] => {
             night_part(&nights::long(number(events)?, number(modules)?), part)
         }

@@ -1,7 +1,9 @@
-//! The replay of a trace, "last night's events", on a fresh node (M-110).
+//! The replay of a trace, "last night's events", on a fresh node (M-110), with
+//! figures (M-111).
 
+use crate::figures::Settings;
 use crate::node::{Node, MIN_VALUES};
-use crate::outbox::MIN_OUTBOX;
+use crate::outbox::{self, Mark, MIN_OUTBOX};
 use crate::refusal::Refusal;
 use crate::table::Table;
 use std::collections::BTreeMap;
@@ -117,6 +119,8 @@ pub struct Replay {
     node: Node,
     /// `module:parameter` of each parameter.
     names: Vec<Vec<u8>>,
+    /// What each was set to, by readings and changes.
+    settings: Vec<Settings>,
     /// The record that has begun, and where it begins.
     begun: Vec<u8>,
     offset: u64,
@@ -137,9 +141,11 @@ impl Replay {
         let names = parameters
             .iter()
             .map(|one| [one.module_name, b":", one.name].concat());
+        let settings = parameters.iter().map(|one| Settings::none(one.datainfo));
         Ok(Replay {
             node,
             names: names.collect(),
+            settings: settings.collect(),
             begun: Vec::new(),
             offset: 0,
             wrong: false,
@@ -193,7 +199,12 @@ impl Replay {
             Kind::Open => return node.open(number, MIN_VALUES, time),
             Kind::Close => return node.close(number, MIN_VALUES, time),
             Kind::Piece => return self.offer(number, time, bytes),
-            Kind::Reading => node.reading(number, MIN_VALUES, MIN_OUTBOX, time, bytes)?,
+            Kind::Reading => {
+                let outbox = node.reading(number, MIN_VALUES, MIN_OUTBOX, time, bytes)?;
+                let parameter = number as usize;
+                self.settings[parameter].add(&node.state().parameters[parameter].value);
+                outbox
+            }
             Kind::Unreadable => {
                 node.unreadable(number, MIN_VALUES, MIN_OUTBOX, time, u64::from(bytes[0]))?
             }
@@ -209,6 +220,7 @@ impl Replay {
             let taken = self
                 .node
                 .piece(client, MIN_VALUES, MIN_OUTBOX, time, bytes)?;
+            self.add_changes(&taken.outbox);
             self.sent.extend(taken.outbox);
             bytes = &bytes[taken.used..];
             if bytes.is_empty() {
@@ -217,8 +229,28 @@ impl Replay {
         }
     }
 
-    /// What is told once the trace has ended.
+    /// An accepted change is what a driver is ordered to set.
+    fn add_changes(&mut self, outbox: &[u8]) {
+        let records = outbox::read(outbox).expect("records");
+        for record in records {
+            if let (Mark::DriverChange, [parameter, stored @ ..]) =
+                (record.mark, record.body.as_slice())
+            {
+                self.settings[usize::from(*parameter)].add(stored);
+            }
+        }
+    }
+
+    /// What is told once the trace has ended: the night, then its figures.
     pub fn summary(&self) -> Vec<u8> {
+        let mut text = self.night();
+        for (name, settings) in self.names.iter().zip(&self.settings) {
+            text.extend(settings.line(name));
+        }
+        text
+    }
+
+    fn night(&self) -> Vec<u8> {
         let mut text = Vec::new();
         for (name, held) in self.names.iter().zip(&self.node.state().parameters) {
             let shown = held

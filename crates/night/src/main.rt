@@ -5,15 +5,18 @@ mod files;
 mod time;
 
 use feeding::feed_all;
+use figures::Figures;
 use files::is_at_end;
 use files::open_argument;
 use libc::STDERR_FILENO;
 use libc::STDOUT_FILENO;
 use replay::begin;
+use summary::figured::put_figures;
 use summary::put_start;
 use summary::put_summary;
 use time::Time;
 use time::time_argument;
+ghost use Rattle.summary.specs.Figured.{Tellable};
 
 // A table that is too long is refused (1), so one byte more than the longest is enough.
 const TABLE: usize = 16385;
@@ -24,6 +27,14 @@ fn values_area() -> [u8; 16384] {
 
 fn outbox() -> [u8; 32768] {
     [0; 32768]
+}
+
+// M-111's lines, "after all of M-110's lines".
+fn tell_figures(table: &[u8], outbox: &mut [u8], figures: Figures)
+    requires { ⌜ Tellable (now table) figures (now outbox) ⌝ }
+{
+    let size = put_figures(table, outbox, figures);
+    io::write_all(STDOUT_FILENO, &outbox[..size]);
 }
 
 // The replay of the trace that is open as `fd`.
@@ -45,6 +56,8 @@ fn night(table: &[u8], time: u64, fd: i32) {
     let last = fed.replay;
     let size = put_summary(table, &values, &mut outbox, last);
     io::write_all(STDOUT_FILENO, &outbox[..size]);
+    let figures = last.figures;
+    tell_figures(table, &mut outbox, figures);
 }
 
 // Both files are opened and the table is read before anything is written.

@@ -3,7 +3,7 @@ use Prim.Native.Nat.{ℕ, zero, suc, _≤_}
 use native.Mathlib.Omega.{arith}
 use native.Mathlib.Nat.{add-zero}
 use mathlib.Core.Bool.{false, cond}
-use mathlib.Core.List.{List, [], _∷_, append-nil}
+use mathlib.Core.List.{List, [], _∷_, _++_, append-nil}
 use mathlib.Core.Logic.{_≢_}
 use mathlib.Core.Option.{some}
 use mathlib.Core.Path.{_≡_, refl, sym, ap, _∙_}
@@ -24,12 +24,13 @@ use Rattle.state.specs.View.{view, placeOf, withStored, withHeld, areaWith, wri
 use Rattle.state.specs.Fit.{isUnfit}
 use Rattle.sound.specs.Theorems.{Sound}
 use Rattle.promise.specs.declared.Done.{Done}
-use Rattle.promise.specs.Promise.{Kept}
+use Rattle.promise.specs.Promise.{Kept, stepFrom}
 use Rattle.promise.specs.Run as Run
 use Rattle.promise.specs.Run.{kit, hears, Called}
 use Rattle.history.proofs.Steps.{plainly}
 use Rattle.trace.specs.Trace.{Entry}
 use Rattle.replay.specs.Replay.{callOf, callFor, isPiece, rest, first, both}
+use Rattle.replay.specs.Settings.{setBy, setByAll}
 use Rattle.replay.specs.Promise.{Single, by-open, by-close, by-piece, by-reading, by-unreadable}
 use Rattle.replay.proofs.Singles.{kept-low}
 use Rattle.replay.proofs.Plays.{finishOf, finish-call}
@@ -44,7 +45,7 @@ unfolding withHeld withStored
 held-length values p (valued v) = length-sets values (placeOf p) v
 held-length values p (failed f) = refl
 
-area-length : (values : List ℕ) (xs : List Setting) → length (areaWith values xs) ≡ length values
+pub area-length : (values : List ℕ) (xs : List Setting) → length (areaWith values xs) ≡ length values
 unfolding areaWith
 area-length values [] = refl
 area-length values (x ∷ xs) = area-length (withHeld values (x .parameter) (x .held)) xs ∙ held-length values (x .parameter) (x .held)
@@ -63,6 +64,10 @@ pub record Went (table : List ℕ) (s : State) (values : List ℕ) (room : ℕ) 
       (rest e (d .number) (d .used))
   pub sends : encodeAll (sent answers) ≡ take (d .written) outbox′
   pub counts : (k : ℕ) → k ≢ 0 → count (λ a. eqb (a .number) k) answers ≡ cond (eqb (d .number) k) 1 0
+  -- what the call set, as it was made
+  pub settings : (k : ℕ) (h : List Call) (l : List Answer) → setByAll (tableOf table) k (calls ++ h) (answers ++ l)
+      ≡ setBy (tableOf table) k (callFor (length values) room e .event) (stepFrom table s values (callFor (length values) room e) .1)
+      ++ setByAll (tableOf table) k h l
   pub low : d .number ≤ 18
   pub fine : Fine table (d .state) values′
   pub area : length values′ ≡ length values
@@ -86,6 +91,7 @@ module _ (table : List ℕ) (s : State) (values : List ℕ) (f : Fine table s va
         plays = rw (p .node, number′, used′) (finish-call table (length values) room (view table s values) e);
         sends = ap encodeAll (append-nil (y .1 .records)) ∙ sym (ap (λ (h : Heard). h .written) (p .heardAs)) ∙ written;
         counts = λ k n. rw number′ (add-zero (cond (eqb (y .1 .number) k) 1 0));
+        settings = λ k h l. rw (f .fit) (unfold setByAll step in refl);
         low = low;
         fine = record { fit = p .fit; sound = p .sound };
         area = area;

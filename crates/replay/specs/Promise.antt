@@ -8,6 +8,7 @@ use lib.ListN.{length, getD, take}
 use Rattle.ascii.specs.Bytes.{head}
 use Rattle.plain.specs.Calls.{Open, Close, withArea, withOutbox}
 use Rattle.plain.specs.Calls as Calls
+use Rattle.figures.specs.Tally.{noSettings, tallyAt}
 use Rattle.state.specs.declared.State.{State}
 use Rattle.promise.specs.declared.Done.{Done}
 use Rattle.promise.specs.Promise.{Kept, Begins}
@@ -18,7 +19,8 @@ use Rattle.trace.specs.Takes.{progressOf}
 use Rattle.replay.specs.declared.Replay.{Replay}
 use Rattle.replay.specs.declared.Stepped.{Stepped}
 use Rattle.replay.specs.declared.Started.{Started}
-use Rattle.replay.specs.Replay.{rest}
+use Rattle.replay.specs.Replay.{callFor, rest}
+use Rattle.replay.specs.Figured.{Figured}
 use Rattle.replay.specs.View.{pendingOf, counted, toDo, Sound}
 
 -- ## The single call
@@ -63,11 +65,14 @@ pub record Quiet (r : Replay) (s : Stepped) : Type 0 where
   pub writes : s .written ≡ 0
   pub counts : s .replay .refused ≡ r .refused
   pub left : pendingOf (s .replay) ≡ none
+  pub figures : s .replay .figures ≡ r .figures
 
 pub data Goes (table : List ℕ) (r : Replay) (values outbox trace : List ℕ) (s : Stepped) : List ℕ → List ℕ → Type 0 where
   waits : Comes r trace (s .used) (progressOf (s .replay .reader)) none → Quiet r s → Goes table r values outbox trace s values outbox
   calls : (e : Entry) → Comes r trace (s .used) (progressOf (s .replay .reader)) (some e) → (d : Done) (values′ outbox′ : List ℕ)
-      → Single table (r .state) values outbox e d values′ outbox′ → After r e d s → Goes table r values outbox trace s values′ outbox′
+      → Single table (r .state) values outbox e d values′ outbox′ → After r e d s
+      → Figured table (r .state) values (callFor (length values) (length outbox) e) (r .figures) (s .replay .figures)
+      → Goes table r values outbox trace s values′ outbox′
 
 pub record Steps (table : List ℕ) (r : Replay) (values outbox trace : List ℕ) (s : Stepped) (values′ outbox′ : List ℕ) : Type 0 where
   pub goes : Goes table r values outbox trace s values′ outbox′
@@ -88,4 +93,5 @@ pub record Starts (table values : List ℕ) (time : ℕ) (r : Started) : Type 0 
   pub left : pendingOf (r .replay) ≡ none
   pub full : length (r .replay .refused) ≡ 19
   pub counts : (k : ℕ) → getD (r .replay .refused) k 0 ≡ 0
+  pub figures : (k : ℕ) → tallyAt (r .replay .figures) k ≡ noSettings
   pub sound : Sound (r .replay)

@@ -1,5 +1,9 @@
 // A replay of a trace on a fresh node, step by step: at most one call of the node in a step, so that each outbox is handed on before the next call.
+mod settings;
+
 use ascii::byte;
+use figures::Figures;
+use figures::no_figures;
 use node::clients::jihfasul_close;
 use node::clients::jihfasul_open;
 use node::pieces::jihfasul_piece;
@@ -7,6 +11,7 @@ use node::readings::jihfasul_reading;
 use node::start::jihfasul_start;
 use node::unreadable::jihfasul_unreadable;
 use promise::Done;
+use settings::figured;
 use state::State;
 use trace::Found;
 use trace::Head;
@@ -21,6 +26,7 @@ ghost use Prim.Native.Nat.{_+_, _≤_, _<_};
 ghost use lib.Dec.{eqb};
 ghost use lib.ListN.{length};
 ghost use Rattle.ascii.specs.Bytes.{head};
+ghost use Rattle.figures.specs.Tally.{Bounded};
 ghost use Rattle.replay.specs.Replay.{isPiece};
 ghost use Rattle.replay.specs.View.{counted, toDo, Sound};
 ghost use Rattle.replay.specs.Promise.{Steps, Starts};
@@ -28,13 +34,20 @@ ghost use Rattle.replay.specs.Theorems.{Fed, PlayedAsCalls, ReplayIsTheC
 ghost use Rattle.replay.specs.Inner.{leftAfter, Calls, Offers, Answered};
 
 // What is kept between steps: the node's state; the trace's reader; what is left to be offered of the record that the reader holds, `left.size` bytes
-// from `at` on; and how many events were refused by each number.
+// from `at` on; how many events were refused by each number; and the figures of what was set.
 pub struct Replay {
     pub state: State,
     pub reader: Reader,
     pub left: Head,
     pub at: usize,
     pub refused: [u64; 19],
+    pub figures: Figures,
+}
+
+// The parameter that a call set, by its number, if it was an accepted reading or change.
+pub enum Chosen {
+    Of(usize),
+    Nothing,
 }
 
 // How many bytes of the trace were used, how many of the outbox were written, and the next replay.
@@ -129,9 +142,9 @@ fn left_after(left: Head, number: u8, used: usize) -> Head
 }
 
 // The replay after the call of what was left, which was answered so.
-fn answered(replay: Replay, done: Done, used: usize) -> Stepped
+fn answered(replay: Replay, done: Done, figures: Figures, used: usize) -> Stepped
     requires { ⌜ (done .number < 19) × ((done .used ≤ replay .left .size) × (replay .at + replay .left .size ≤ 4109)) ⌝ }
-    ensures { λ r. ⌜ Answered replay done used r ⌝ }
+    ensures { λ r. ⌜ Answered replay done figures used r ⌝ }
 {
     let state = done.state;
     let reader = replay.reader;
@@ -149,6 +162,7 @@ fn answered(replay: Replay, done: Done, used: usize) -> Stepped
             left,
             at: replay.at + done.used,
             refused,
+            figures,
         },
     }
 }
@@ -161,7 +175,7 @@ fn offered(
     replay: Replay,
     used: usize,
 ) -> Stepped
-    requires { ⌜ replay .at + replay .left .size ≤ 4109 ⌝ }
+    requires { ⌜ (replay .at + replay .left .size ≤ 4109) × Bounded (replay .figures) ⌝ }
     ensures { λ r. ⌜ Offers (now (table .entry)) replay (now (values .entry)) (now (outbox .entry)) used r (now (values .exit)) (now (outbox .exit)) ⌝ }
 {
     let held = replay.reader.held;
@@ -170,7 +184,9 @@ fn offered(
     let end = at + left.size;
     let state = replay.state;
     let done = call(table, values, outbox, state, left, &held[at..end]);
-    answered(replay, done, used)
+    let before = replay.figures;
+    let figures = figured(table, values, outbox, before, left, done);
+    answered(replay, done, figures, used)
 }
 
 // Plays what is left of a record; or else takes bytes of the trace up to the end of a record, and plays that. One call at most. Where nothing is left and
@@ -254,6 +270,7 @@ pub fn begin(table: &[u8], values: &[u8], time: u64) -> Started
     let done = jihfasul_start(table, values, time);
     let state = done.state;
     let reader = unread();
+    let figures = no_figures();
     Started {
         number: done.number,
         replay: Replay {
@@ -267,6 +284,7 @@ pub fn begin(table: &[u8], values: &[u8], time: u64) -> Started
             },
             at: 0,
             refused: [0; 19],
+            figures,
         },
     }
 }

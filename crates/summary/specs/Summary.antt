@@ -14,6 +14,8 @@ use Rattle.plain.specs.Node.{Value}
 use Rattle.plain.specs.Calls.{startNumber, started}
 use Rattle.trace.specs.Reader.{Progress, End, clean, half, wrongly, endOf, unread, takeBytes}
 use Rattle.replay.specs.Replay.{playAll, refusals}
+use Rattle.replay.specs.Settings.{setByAll}
+use Rattle.figures.specs.Figures.{figureLine}
 
 -- "one line each, as `t1:target 12`"
 unfoldable pub valueLine : List ℕ → List ℕ → List ℕ → List ℕ
@@ -47,15 +49,21 @@ endLine wrongly n = bytes "wrong " ++ decimal n ++ bytes "\n"
 unfoldable pub summary : Table → (ℕ → Value) → (ℕ → ℕ) → Progress → List ℕ
 summary w values refused p = valueLines values 0 (parameters w) ++ refusedLines 18 1 refused ++ endLine (endOf p) (p .offset)
 
+-- M-111's lines, "Table order, one line each, ..": of these parameters, of which the first has the number k, by what each was set to
+unfoldable pub figureLines : (ℕ → List (List ℕ)) → ℕ → List (Placed Parameter) → List ℕ
+figureLines sets k [] = []
+figureLines sets k (p ∷ ps) = figureLine (p .moduleName) (p .it .name) (p .it .datainfo) (sets k) ++ figureLines sets (suc k) ps
+
 -- "A refused start writes only `start 5`, its number."
 unfoldable pub startLine : ℕ → List ℕ
 startLine n = bytes "start " ++ decimal n ++ bytes "\n"
 
--- all of it, for a replay that lends areas of 16,384 and outboxes of 32,768 bytes
+-- all of it, figures "after all of M-110's lines", "none after a refused start", for a replay that lends areas of 16,384 and outboxes of 32,768 bytes
 unfoldable pub replayText : List ℕ → ℕ → List ℕ → List ℕ
 replayText table time trace =
     let read = takeBytes unread trace in
     let played = playAll table 16384 32768 (started table 16384 time) (read .1) in
     cond (eqb (startNumber table 16384 time) 0)
-    (summary (tableOf table) (played .node .values) (refusals (played .answers)) (read .0))
+    (summary (tableOf table) (played .node .values) (refusals (played .answers)) (read .0)
+    ++ figureLines (λ k. setByAll (tableOf table) k (played .calls) (played .answers)) 0 (parameters (tableOf table)))
     (startLine (startNumber table 16384 time))

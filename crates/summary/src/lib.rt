@@ -1,4 +1,6 @@
 // The summary of a replay, written into a lent buffer.
+pub mod figured;
+
 use ascii::write::put;
 use ascii::write::put_byte;
 use ascii::write::put_decimal;

@@ -76,6 +76,8 @@ pub fn directed() -> Night {
         event(Kind::Reading, 0, 2_005, b" 4.2 "),
         event(Kind::Unreadable, 0, 2_006, &[3]),
         event(Kind::Unreadable, 2, 2_006, &[2]),
+        event(Kind::Reading, 2, 2_007, b"9"),
+        event(Kind::Reading, 2, 2_007, b" -0"),
         event(Kind::Reading, 2, 2_007, b"-3"),
         event(Kind::Reading, 0, late, b"5"),
         event(Kind::Open, 8, 2_008, b""),
@@ -156,6 +158,30 @@ fn some_event(random: &mut Random, time: u64) -> Event {
         7 => event(Kind::Piece, 1, time, &change),
         8 => event(Kind::Piece, 1, time, b"read t1:value\n"),
         _ => event(Kind::Piece, 1, time, b"ping\nread t1:target\n"),
+    }
+}
+
+/// A night in which mf:field has so many settings, all readings, and mf:mode as
+/// many, all changes.
+pub fn settings(count: usize) -> Night {
+    let number = |at: usize| (at * 7 % 19) as i64 - 9;
+    let lines = |from: usize, to: usize| {
+        let line = |at| format!("change mf:mode {}\n", at % 2);
+        (from..to).map(line).collect::<String>()
+    };
+    let mut events = vec![event(Kind::Open, 0, 1_000, b"")];
+    for at in 0..count {
+        let text = number(at).to_string();
+        events.push(event(Kind::Reading, 2, 1_001, text.as_bytes()));
+        if at % 200 == 0 {
+            let piece = lines(at, count.min(at + 200));
+            events.push(event(Kind::Piece, 0, 1_002, piece.as_bytes()));
+        }
+    }
+    Night {
+        table: laboratory(),
+        time: 1_000,
+        trace: events.iter().flat_map(Event::to_bytes).collect(),
     }
 }
 

@@ -6,6 +6,7 @@ mod calls;
 mod counts;
 mod directed;
 mod examples;
+mod figures;
 mod generated;
 mod kept;
 mod lines;

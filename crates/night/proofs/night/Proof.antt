@@ -89,6 +89,21 @@ slice-aggregate-write-all-2 c =
 write-all-requires-2 : tie.Need-write-all-requires-2
 write-all-requires-2 c κs = search needs
 
+slice-aggregate-tell-figures : tie.Need-slice-aggregate-tell-figures
+slice-aggregate-tell-figures c = search needs
+
+tell-figures-requires : tie.Need-tell-figures-requires
+tell-figures-requires c κs =
+    let told = c .before .before .before .before .before .put-summary in
+    let after = c .before .before .before .before .before .before .before .before .before .before .before .before in
+    let fed = after .feed-all in
+    let room = after .before .before .before .before .before .before .before .before .outbox .ok in
+    record {
+      accepted = running-accepted (fed .ensures);
+      bounded = fed .ensures .sound .bounded;
+      room = omega (arith, told .kept .1 .1 .0, fed .kept .1 .1 .0, room);
+    }
+
 returns-3 : tie.Need-returns-3
 returns-3 c = search needs
 
@@ -117,4 +132,6 @@ night-spec =
     array-share-prefix-outbox-2
     slice-aggregate-write-all-2
     write-all-requires-2
+    slice-aggregate-tell-figures
+    tell-figures-requires
     returns-3)
