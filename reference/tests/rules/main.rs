@@ -6,6 +6,7 @@ mod calls;
 mod directed;
 mod examples;
 mod generated;
+mod indexes;
 mod kept;
 mod lines;
 mod program;
