@@ -15,7 +15,7 @@ use Rattle.ascii.proofs.Lists.{both, or-true, same-self, same-is}
 use Rattle.ascii.specs.Names.{isName, isText, lowercase, distinct, unique}
 use Rattle.datainfo.specs.Rules.{goodNames}
 use Rattle.table.specs.Table.{Accessible, Module, Table}
-use Rattle.table.specs.Rules.{accessibleName, noteGood, accessibleNamesGood, moduleNamesGood, namesGood}
+use Rattle.table.specs.Rules.{accessibleName, noteGood, accessibleNamesGood, moduleNamesGood, editionGood, namesGood}
 use Rattle.table.specs.Search.{Placed, placedFrom}
 use Rattle.index.specs.Accessibles.{accessibles, isNamed}
 use Rattle.index.specs.Theorems.{Unique}
@@ -203,7 +203,7 @@ pub accessibles-unique : (t : Table) (m a : List ℕ) → namesGood t ≡ true �
 unfolding namesGood goodNames accessibles
 accessibles-unique t m a h =
     let names = map moduleName (t .modules) in
-    let texts = isText (t .equipmentId) && isText (t .description) in
+    let texts = isText (t .equipmentId) && isText (t .description) && editionGood (t .edition) in
     let x = both (texts && (all isName names && unique names)) (all moduleNamesGood (t .modules)) h in
     let y = both texts (all isName names && unique names) (x .0) in
     let z = both (all isName names) (unique names) (y .1) in
