@@ -6,7 +6,7 @@ use reference::error::ErrorClass;
 use reference::generate::nights::Night;
 use reference::generate::vectors::{self, ValueCase};
 use reference::generate::{
-    borders, calls, directed, encode, histories, nights, quieter, second, small,
+    borders, calls, directed, encode, histories, indexes, nights, quieter, second, small,
 };
 use reference::history::History;
 use reference::operation;
@@ -41,6 +41,9 @@ usage: reference COMMAND ...
   table-input SEED COUNT, table-output SEED COUNT
                         tables and searches in them as bytes for a program's
                         standard input, and what it is to print
+  index-input SEED COUNT, index-output SEED COUNT
+                        tables with indexes filled from them, and searches
+                        with and without an index
   value-input SEED COUNT, value-output SEED COUNT
                         the same for values, with E1 to E8 and the corners
                         for each type before them
@@ -108,6 +111,10 @@ fn command(arguments: &[&str]) -> Result<Vec<u8>, String> {
         ["table-input", seed, count] => {
             let cases = vectors::table_cases(number(seed)?, number(count)?);
             Ok(vectors::table_input(&cases))
+        }
+        ["index-input", seed, count] => {
+            let cases = indexes::cases(number(seed)?, number(count)?);
+            Ok(indexes::input(&cases))
         }
         ["judge-input", kilobytes, count] => judge_input(number(kilobytes)?, number(count)?),
         ["calls-input", seed, count] => {
@@ -193,6 +200,10 @@ fn text_command(arguments: &[&str]) -> Result<String, String> {
         ["table-output", seed, count] => {
             let cases = vectors::table_cases(number(seed)?, number(count)?);
             Ok(vectors::table_output(&cases))
+        }
+        ["index-output", seed, count] => {
+            let cases = indexes::cases(number(seed)?, number(count)?);
+            Ok(indexes::output(&cases))
         }
         ["calls-output", seed, count] => {
             let operations = calls::operations(number(seed)?, number(count)?);

@@ -7,6 +7,7 @@ pub mod datainfos;
 pub mod directed;
 pub mod encode;
 pub mod histories;
+pub mod indexes;
 pub mod lines;
 pub mod names;
 pub mod nights;

@@ -8,6 +8,7 @@ mod directed;
 mod examples;
 mod figures;
 mod generated;
+mod indexes;
 mod kept;
 mod lines;
 mod partial;
