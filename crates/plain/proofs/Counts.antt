@@ -15,13 +15,12 @@ use Rattle.counter.specs.Counts.{highest, stopping, linesCounted, allCounted}
 use Rattle.message.specs.Line.{Parts}
 use Rattle.message.specs.Request.{Request, request}
 use Rattle.message.specs.Reply.{Report, Reply, isError}
-use Rattle.fit.specs.Fit.{storedForm}
 use Rattle.outbox.specs.Outbox.{Record, final, update, orderChange, orderCommand}
 use Rattle.outbox.specs.Sent.{errorTo, updateTo, errorsSent, updatesSent}
 use Rattle.table.specs.Table.{Parameter, Table}
 use Rattle.table.specs.Search.{Placed, parameters}
 use Rattle.plain.specs.Node.{Client, Value, Node, isActive, reportOf, clientNumbers, updatesTo, updatesOf}
-use Rattle.plain.specs.Answer.{Outcome, outcome, statusOf, busyUpdates, activates, deactivates, sets, conclude, answerParts}
+use Rattle.plain.specs.Answer.{storedAt, Outcome, outcome, statusOf, busyUpdates, activates, deactivates, sets, conclude, answerParts}
 use Rattle.plain.proofs.Outcomes.{nodeAfter, before, replyTo, concluded, outcome-holds}
 
 -- ## Counting twice
@@ -147,7 +146,7 @@ module _ (d : ℕ) (above : 8 ≤ d) where
           activating = λ m f h. none-of d c other _ (n .values) 0 (parameters w);
           deactivating = λ m f h. none-none d;
           setting = λ k v h.
-              none-both d _ _ (none-change d c (k .0) (storedForm (k .1 .it .datainfo) v))
+              none-both d _ _ (none-change d c (k .0) (storedAt (n .values) k v))
               (none-both d _ _ (no-busy (n .clients) (statusOf w (k .1)) now) (no-updates (n .clients) (k .1 .home) _));
           doing = λ k v h. none-command d c (k .0) _;
         })
