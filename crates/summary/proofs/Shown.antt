@@ -188,7 +188,7 @@ module _ (table : List ℕ) (s : State) (values : List ℕ) (d : List ℕ) (g : 
   node = noneOpen (shownAt table (s .settings) values)
 
   sound : Sound (tableOf table) node
-  sound = record { values = value-held table (g .accepted) s values fit; clients = λ i. tt; above = λ i l. refl }
+  sound = record { values = value-held table (g .accepted) s values fit; clients = λ i. tt; above = λ i l. refl; counts = λ i. (omega arith, (omega arith, omega arith)) }
 
   fine-at : (j : ℕ) (x : Placed Parameter) → getElem? (parameters (tableOf table)) j ≡ some x → Fine (Node.reportOf x (shownAt table (s .settings) values j))
   fine-at j x y = fine (tableOf table) (accepted table (g .accepted)) node sound j x y (node .values j) (sound .values j x y)
