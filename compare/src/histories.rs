@@ -11,9 +11,17 @@ use reference::table::Table;
 /// What a history sends in all, and how it ends.
 #[derive(Debug, PartialEq)]
 pub struct Course {
-    sent: Vec<u8>,
+    pub sent: Vec<u8>,
     end: Seen,
     values: Vec<Shown>,
+}
+
+impl Course {
+    /// Compares how it ends with how another does, for one client.
+    pub fn same_for(&self, due: &Course, client: usize) -> Result<(), String> {
+        self.end.same_for(&due.end, client)?;
+        same("values", &self.values, &due.values)
+    }
 }
 
 /// Runs a history; the first call is a start.

@@ -1,6 +1,7 @@
 //! Compares the library with the reference program, and measures it.
 
 mod area;
+mod chatter;
 mod cost;
 mod difference;
 mod histories;
@@ -10,8 +11,9 @@ mod operations;
 mod seen;
 mod stack;
 
+use chatter::Chatter;
 use difference::{Counts, Difference};
-use reference::generate::{calls, histories as random, second, small};
+use reference::generate::{calls, histories as random, quieter, second, small};
 use reference::history::History;
 use reference::operation::Operation;
 use std::process::ExitCode;
@@ -26,6 +28,8 @@ usage: compare [COMMAND ...]
                a random one, both again cut and mingled anew, and one in which
                the state is changed at random between the calls
   (nothing)    the same with the seeds of ./test
+  chatter      for the same seeds a small history and a random one, each with
+               and without lines of other clients that are no accepted changes
   cost         what a line costs, beside the reference program
   stack        how deep the stack of a call is, over the same histories
   night TABLE TIME TRACE
@@ -35,7 +39,7 @@ usage: compare [COMMAND ...]
 
 A difference is printed with the history's name and seed and the first call at
 which the two sides differ, counted from 1: `reference history SEED`, `second
-SEED` and `small SEED` print these histories.
+SEED`, `quieter SEED` and `small SEED` print these histories.
 ";
 
 /// The seeds that `./test` uses.
@@ -53,6 +57,7 @@ fn main() -> ExitCode {
     let arguments: Vec<&str> = arguments.iter().map(String::as_str).collect();
     match arguments[..] {
         [] => compare(SEED, COUNT),
+        ["chatter"] => compare_without_lines(SEED, COUNT),
         ["cost"] => cost::print(),
         ["stack"] => stack::print(),
         ["night", table, time, trace] => night::print(table, time, trace),
@@ -92,6 +97,18 @@ fn compare(seed: u64, count: u64) -> ExitCode {
     tally.print()
 }
 
+fn compare_without_lines(seed: u64, count: u64) -> ExitCode {
+    let mut tally = Tally::default();
+    let mut chatter = Chatter::default();
+    for seed in seed..seed.saturating_add(count) {
+        tally.without_lines("small", seed, &small::history(seed), &mut chatter);
+        let first = random::history(seed, CALLS);
+        tally.without_lines("random", seed, &first, &mut chatter);
+    }
+    chatter.print();
+    tally.print()
+}
+
 impl Tally {
     fn print(&self) -> ExitCode {
         let Tally { passed, failed, .. } = self;
@@ -128,6 +145,14 @@ impl Tally {
         if let Some(second) = second::second(first, seed) {
             let result = histories::run_second(&second, &course, &mut self.counts);
             self.count(&format!("second of {name}"), seed, result);
+        }
+    }
+
+    /// A history, and the same without lines that are nothing to a client.
+    fn without_lines(&mut self, name: &str, seed: u64, first: &History, chatter: &mut Chatter) {
+        if let Some(quieter) = quieter::quieter(first, seed) {
+            let result = chatter.run(first, &quieter, &mut self.counts);
+            self.count(&format!("quieter {name}"), seed, result);
         }
     }
 

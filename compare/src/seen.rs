@@ -53,6 +53,17 @@ impl Seen {
         same("state", self, due)
     }
 
+    /// Compares what one client knows of: all of that client and its counts,
+    /// who else is open with which unfinished line, and what is set.
+    pub fn same_for(&self, due: &Seen, client: usize) -> Result<(), String> {
+        let line = |one: &Client| (one.open, one.overlong, one.line.clone());
+        let lines = |seen: &Seen| -> Vec<_> { seen.clients.iter().map(line).collect() };
+        same("client", &self.clients[client], &due.clients[client])?;
+        same("counts", &self.counts[client], &due.counts[client])?;
+        same("unfinished lines", &lines(self), &lines(due))?;
+        same("settings", &self.settings, &due.settings)
+    }
+
     pub fn in_library(state: &State, parameters: usize) -> Seen {
         let clients = &state.clients;
         let client = |(c, line): (usize, &[u8])| Client {

@@ -44,6 +44,11 @@ pub enum Datainfo {
         minbytes: u16,
         maxbytes: u16,
     },
+    /// A struct, and of each member whether it is optional.
+    Partial {
+        optional: Vec<bool>,
+        members: Vec<(Vec<u8>, Datainfo)>,
+    },
 }
 
 impl Limit {
@@ -62,7 +67,9 @@ impl Datainfo {
         match self {
             Datainfo::Array { members, .. } => vec![members],
             Datainfo::Tuple(members) => members.iter().collect(),
-            Datainfo::Struct(members) => members.iter().map(|(_, member)| member).collect(),
+            Datainfo::Struct(members) | Datainfo::Partial { members, .. } => {
+                members.iter().map(|(_, member)| member).collect()
+            }
             _ => Vec::new(),
         }
     }
@@ -72,7 +79,9 @@ impl Datainfo {
     pub fn has_good_names(&self) -> bool {
         let own_names = match self {
             Datainfo::Enum(members) => are_good_names(members.iter().map(|(name, _)| &name[..])),
-            Datainfo::Struct(members) => are_good_names(members.iter().map(|(name, _)| &name[..])),
+            Datainfo::Struct(members) | Datainfo::Partial { members, .. } => {
+                are_good_names(members.iter().map(|(name, _)| &name[..]))
+            }
             _ => true,
         };
         own_names && self.inner().into_iter().all(Datainfo::has_good_names)
@@ -93,7 +102,9 @@ impl Datainfo {
             Datainfo::String { minchars, maxchars } => minchars <= maxchars,
             Datainfo::Array { minlen, maxlen, .. } => minlen <= maxlen,
             Datainfo::Tuple(members) => (1..=8).contains(&members.len()),
-            Datainfo::Struct(members) => (1..=8).contains(&members.len()),
+            Datainfo::Struct(members) | Datainfo::Partial { members, .. } => {
+                (1..=8).contains(&members.len())
+            }
             Datainfo::Scaled { scale, min, max } => {
                 scale.keeps_its_rules() && scale.decimal() > Decimal::whole(0) && min <= max
             }

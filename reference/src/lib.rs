@@ -7,6 +7,7 @@
 //!
 //! * [`table`] reads and judges the table, [`report`] writes its structure
 //!   report;
+//! * [`mod@index`] fills an index beside the table and searches with it;
 //! * [`json`], [`decimal`], [`base64`], [`datainfo`] and [`value`] judge values;
 //! * [`mod@line`] parts a request, [`error`] names the error classes, [`outbox`]
 //!   holds the records that are sent;
@@ -26,6 +27,7 @@ pub mod error;
 pub mod figures;
 pub mod generate;
 pub mod history;
+pub mod index;
 pub mod json;
 pub mod kept;
 pub mod line;

@@ -5,7 +5,9 @@ use reference::definitions;
 use reference::error::ErrorClass;
 use reference::generate::nights::Night;
 use reference::generate::vectors::{self, ValueCase};
-use reference::generate::{borders, calls, directed, encode, histories, nights, second, small};
+use reference::generate::{
+    borders, calls, directed, encode, histories, indexes, nights, quieter, second, small,
+};
 use reference::history::History;
 use reference::operation;
 use reference::replay;
@@ -26,6 +28,8 @@ usage: reference COMMAND ...
                         CALLS is 40 unless given
   second SEED [CALLS]   the same history with other cuts and mingling,
                         refused calls left out
+  quieter SEED [CALLS]  the same again without lines of other clients that
+                        are not accepted changes, for one client
   small SEED            a small table and a handful of calls
   directed              the names of the directed small histories
   directed NUMBER       one of them
@@ -37,6 +41,9 @@ usage: reference COMMAND ...
   table-input SEED COUNT, table-output SEED COUNT
                         tables and searches in them as bytes for a program's
                         standard input, and what it is to print
+  index-input SEED COUNT, index-output SEED COUNT
+                        tables with indexes filled from them, and searches
+                        with and without an index
   value-input SEED COUNT, value-output SEED COUNT
                         the same for values, with E1 to E8 and the corners
                         for each type before them
@@ -104,6 +111,10 @@ fn command(arguments: &[&str]) -> Result<Vec<u8>, String> {
         ["table-input", seed, count] => {
             let cases = vectors::table_cases(number(seed)?, number(count)?);
             Ok(vectors::table_input(&cases))
+        }
+        ["index-input", seed, count] => {
+            let cases = indexes::cases(number(seed)?, number(count)?);
+            Ok(indexes::input(&cases))
         }
         ["judge-input", kilobytes, count] => judge_input(number(kilobytes)?, number(count)?),
         ["calls-input", seed, count] => {
@@ -174,6 +185,8 @@ fn text_command(arguments: &[&str]) -> Result<String, String> {
         ["history", seed, calls] => print_run(&histories::history(number(seed)?, number(calls)?)),
         ["second", seed] => print_second(number(seed)?, DEFAULT_CALLS),
         ["second", seed, calls] => print_second(number(seed)?, number(calls)?),
+        ["quieter", seed] => print_quieter(number(seed)?, DEFAULT_CALLS),
+        ["quieter", seed, calls] => print_quieter(number(seed)?, number(calls)?),
         ["small", seed] => print_run(&small::history(number(seed)?)),
         ["directed"] => Ok(print_names()),
         ["directed", at] => print_run(&directed_history(number(at)?)?),
@@ -187,6 +200,10 @@ fn text_command(arguments: &[&str]) -> Result<String, String> {
         ["table-output", seed, count] => {
             let cases = vectors::table_cases(number(seed)?, number(count)?);
             Ok(vectors::table_output(&cases))
+        }
+        ["index-output", seed, count] => {
+            let cases = indexes::cases(number(seed)?, number(count)?);
+            Ok(indexes::output(&cases))
         }
         ["calls-output", seed, count] => {
             let operations = calls::operations(number(seed)?, number(count)?);
@@ -250,6 +267,13 @@ fn print_second(seed: u64, calls: usize) -> Result<String, String> {
     let second =
         second::second(&first, seed).ok_or(format!("the start of history {seed} is refused"))?;
     print_run(&second)
+}
+
+fn print_quieter(seed: u64, calls: usize) -> Result<String, String> {
+    let first = histories::history(seed, calls);
+    let quieter = quieter::quieter(&first, seed)
+        .ok_or(format!("nobody is sent anything in history {seed}"))?;
+    print_run(&quieter.history)
 }
 
 fn print_tables(seed: u64, count: usize) -> String {

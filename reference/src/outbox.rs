@@ -61,6 +61,12 @@ impl Record {
         }
     }
 
+    /// Whether it is sent to this client: orders go to drivers.
+    pub fn is_to(&self, client: usize) -> bool {
+        let to_client = matches!(self.mark, Mark::Reply | Mark::Update);
+        to_client && usize::from(self.client) == client
+    }
+
     /// Mark, client, length in two bytes, body.
     pub fn to_bytes(&self) -> Vec<u8> {
         let mut bytes = self.mark.bytes().to_vec();

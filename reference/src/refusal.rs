@@ -3,8 +3,8 @@
 /// The number of an accepted call.
 pub const ACCEPTED: u8 = 0;
 
-/// Why a call is refused. Of several faults the lowest number is given, so
-/// calls look for them in this order. Number 9 is about a state that somebody
+/// Why a call is refused. Of several faults the first in this order is given,
+/// so calls look for them in it; 18 is judged straight after 8. Number 9 is about a state that somebody
 /// else kept; a plain node keeps its own and never gives it.
 #[derive(Clone, Copy, Debug, PartialEq, Eq, PartialOrd, Ord)]
 pub enum Refusal {
@@ -25,6 +25,8 @@ pub enum Refusal {
     Outbox = 7,
     /// The values area is too short.
     Values = 8,
+    /// The index has less than 128 bytes.
+    Index = 18,
     /// The time is above the limit.
     Time = 10,
     /// The client's number is above 7.

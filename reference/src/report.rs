@@ -40,7 +40,7 @@ fn accessible_report(accessible: &Accessible) -> Vec<u8> {
         } => object([
             (&b"description"[..], description),
             (b"readonly", number(readonly)),
-            (b"datainfo", datainfo_report(datainfo)),
+            (b"datainfo", own_report(datainfo)),
         ]),
         Kind::Command { argument } => object([
             (&b"description"[..], description),
@@ -57,9 +57,29 @@ fn command_report(argument: Option<&Datainfo>) -> Vec<u8> {
     object(members)
 }
 
-/// The report of a datainfo: its type, then its other keys.
+/// The report of a parameter's own datainfo: only there optional members are
+/// told.
+fn own_report(datainfo: &Datainfo) -> Vec<u8> {
+    let told = match datainfo {
+        Datainfo::Partial { optional, members } => members
+            .iter()
+            .zip(optional)
+            .filter(|(_, optional)| **optional)
+            .map(|((name, _), _)| &name[..])
+            .collect(),
+        _ => Vec::new(),
+    };
+    written(datainfo, &told)
+}
+
+/// The report of a datainfo inside another, or of an argument.
 pub fn datainfo_report(datainfo: &Datainfo) -> Vec<u8> {
-    let (type_name, keys) = type_and_keys(datainfo);
+    written(datainfo, &[])
+}
+
+/// Its type, then its other keys.
+fn written(datainfo: &Datainfo, optional: &[&[u8]]) -> Vec<u8> {
+    let (type_name, keys) = type_and_keys(datainfo, optional);
     let mut members = vec![(&b"type"[..], quoted(type_name))];
     members.extend(keys);
     object(members)
@@ -67,7 +87,7 @@ pub fn datainfo_report(datainfo: &Datainfo) -> Vec<u8> {
 
 type Members = Vec<(&'static [u8], Vec<u8>)>;
 
-fn type_and_keys(datainfo: &Datainfo) -> (&'static [u8], Members) {
+fn type_and_keys(datainfo: &Datainfo, optional: &[&[u8]]) -> (&'static [u8], Members) {
     match datainfo {
         Datainfo::Double { min, max } => {
             (b"double", vec![(b"min", limit(min)), (b"max", limit(max))])
@@ -103,12 +123,14 @@ fn type_and_keys(datainfo: &Datainfo) -> (&'static [u8], Members) {
             let members = members.iter().map(datainfo_report);
             (b"tuple", vec![(b"members", list(members))])
         }
-        Datainfo::Struct(members) => {
-            let members = members
-                .iter()
-                .map(|(name, member)| (&name[..], datainfo_report(member)));
-            (b"struct", vec![(b"members", object(members))])
-        }
+        Datainfo::Struct(members) => (b"struct", vec![(b"members", members_report(members))]),
+        Datainfo::Partial { members, .. } => (
+            b"struct",
+            vec![
+                (b"members", members_report(members)),
+                (b"optional", list(optional.iter().map(|name| quoted(name)))),
+            ],
+        ),
         Datainfo::Scaled { scale, min, max } => (
             b"scaled",
             vec![
@@ -125,6 +147,11 @@ fn type_and_keys(datainfo: &Datainfo) -> (&'static [u8], Members) {
             ],
         ),
     }
+}
+
+fn members_report(members: &[(Vec<u8>, Datainfo)]) -> Vec<u8> {
+    let members = members.iter();
+    object(members.map(|(name, member)| (&name[..], datainfo_report(member))))
 }
 
 /// The mantissa, then `e` and the power unless that is 0.

@@ -337,6 +337,14 @@ impl<'a> Layout<'a> {
                 minbytes: self.u16()?,
                 maxbytes: self.u16()?,
             },
+            11 => {
+                let members = self.counted(|layout| {
+                    let optional = layout.flag()?;
+                    Some((optional, (layout.text()?, layout.datainfo(inner_levels)?)))
+                })?;
+                let (optional, members) = members.into_iter().unzip();
+                Datainfo::Partial { optional, members }
+            }
             _ => return None,
         })
     }

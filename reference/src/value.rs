@@ -29,17 +29,68 @@ enum Verdict {
     WrongType,
 }
 
-/// Judges a text for a datainfo; the answer is its stored form. That has the
-/// numbers of enum members in the place of their names, and its length is
-/// what counts.
+/// Judges a text for a datainfo, where all members are required; the answer is
+/// its stored form.
 pub fn judge(datainfo: &Datainfo, text: &[u8]) -> Result<Vec<u8>, ValueFault> {
+    judge_value(datainfo, json::read(text).ok_or(ValueFault::BadJson)?)
+}
+
+/// Judges a change of what a parameter shows, which is nothing while it is in
+/// error: optional members that are left out at the top level are taken over
+/// from it, and then all is as always.
+pub fn judge_change(
+    datainfo: &Datainfo,
+    shown: Option<&[u8]>,
+    text: &[u8],
+) -> Result<Vec<u8>, ValueFault> {
     let value = json::read(text).ok_or(ValueFault::BadJson)?;
+    judge_value(datainfo, completed(datainfo, shown, value))
+}
+
+/// The stored form has the numbers of enum members in the place of their
+/// names, the members of a top-level struct with optional ones in table order,
+/// and its length is what counts.
+fn judge_value(datainfo: &Datainfo, value: Json) -> Result<Vec<u8>, ValueFault> {
     match verdict(datainfo, &value) {
         Verdict::WrongType => Err(ValueFault::WrongType),
         Verdict::OutOfRange => Err(ValueFault::RangeError),
-        Verdict::Fits => Some(numbered(datainfo, value).stored_form())
+        Verdict::Fits => Some(in_order(datainfo, numbered(datainfo, value)).stored_form())
             .filter(|stored| stored.len() <= MAX_STORED)
             .ok_or(ValueFault::RangeError),
+    }
+}
+
+/// The value with each optional member that it leaves out as it is shown.
+fn completed(datainfo: &Datainfo, shown: Option<&[u8]>, value: Json) -> Json {
+    match (datainfo, value, shown.and_then(json::read)) {
+        (
+            Datainfo::Partial { optional, members },
+            Json::Object(mut sent),
+            Some(Json::Object(old)),
+        ) => {
+            for ((name, _), _) in members
+                .iter()
+                .zip(optional)
+                .filter(|(_, optional)| **optional)
+            {
+                if sent.iter().all(|(key, _)| key.raw != *name) {
+                    sent.extend(old.iter().find(|(key, _)| key.raw == *name).cloned());
+                }
+            }
+            Json::Object(sent)
+        }
+        (_, value, _) => value,
+    }
+}
+
+/// A fitting value of a struct with optional members, these in table order.
+fn in_order(datainfo: &Datainfo, value: Json) -> Json {
+    match (datainfo, value) {
+        (Datainfo::Partial { members, .. }, Json::Object(mut sent)) => {
+            sent.sort_by_key(|(key, _)| members.iter().position(|(name, _)| *name == key.raw));
+            Json::Object(sent)
+        }
+        (_, value) => value,
     }
 }
 
@@ -106,10 +157,14 @@ fn verdict(datainfo: &Datainfo, value: &Json) -> Verdict {
                 .map(|(member, element)| verdict(member, element))
                 .fold(Verdict::Fits, Verdict::max)
         }
-        (Datainfo::Struct(members), Json::Object(sent)) if members.len() == sent.len() => members
-            .iter()
-            .map(|(name, member)| member_verdict(name, member, sent))
-            .fold(Verdict::Fits, Verdict::max),
+        (Datainfo::Struct(members) | Datainfo::Partial { members, .. }, Json::Object(sent))
+            if members.len() == sent.len() =>
+        {
+            members
+                .iter()
+                .map(|(name, member)| member_verdict(name, member, sent))
+                .fold(Verdict::Fits, Verdict::max)
+        }
         _ => Verdict::WrongType,
     }
 }
@@ -186,7 +241,7 @@ fn numbered(datainfo: &Datainfo, value: Json) -> Json {
             let pairs = members.iter().zip(elements);
             Json::Array(pairs.map(|(member, one)| numbered(member, one)).collect())
         }
-        (Datainfo::Struct(members), Json::Object(sent)) => {
+        (Datainfo::Struct(members) | Datainfo::Partial { members, .. }, Json::Object(sent)) => {
             let sent = sent.into_iter();
             Json::Object(sent.map(|one| numbered_member(members, one)).collect())
         }

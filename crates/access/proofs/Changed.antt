@@ -19,7 +19,7 @@ use Rattle.message.specs.declared.say.Class.{Class}
 use Rattle.outbox.specs.Outbox.{orderChange}
 use Rattle.plain.specs.Node.{clientNumbers, updatesTo}
 use Rattle.plain.specs.Answer as Plain
-use Rattle.plain.specs.Answer.{refused, busy, sets, changes}
+use Rattle.plain.specs.Answer.{refused, busy, sets}
 use Rattle.state.specs.declared.State.{State}
 use Rattle.state.specs.View.{clientAt, view}
 use Rattle.outcome.specs.Ready.{Ready}
@@ -28,6 +28,7 @@ use Rattle.outcome.specs.declared.Outcome.{Outcome}
 use Rattle.outcome.specs.declared.Outcome.the-variants.{Refused}
 use Rattle.access.specs.Busy.{statusUpdates}
 use Rattle.access.specs.Set.{setRecords, Settable, Accepts, IsSet, IsSetBy}
+use Rattle.access.specs.Whole.{changesWhole}
 use Rattle.access.specs.Judged.{JudgesChange}
 use Rattle.access.specs.declared.judge.Judged.{Judged}
 use Rattle.access.specs.declared.judge.Judged.the-variants as J
@@ -41,21 +42,19 @@ module _ (s : List ℕ) (st : State) (values out : List ℕ) (c t : ℕ) (g : Re
   p = parameter-known s (g .lent .accepted) m a k h q f
 
   abbrev change : ℕ × Placed Parameter → Plain.Outcome
-  change x = changes (tableOf s) (view s st values) c t xs x
+  change x = changesWhole (tableOf s) (view s st values) c t xs x
 
   abbrev setting : Plain.Outcome
   setting = sets (tableOf s) (view s st values) c t (k, p .it) (storedForm (p .it .it .datainfo) xs)
 
-  pub change-refused : (e : Class) → v ≡ J.Refused e → OfParameter s st values out c t (Refused e) values out m a (λ w n c t. changes w n c t xs)
-  unfolding changes
+  pub change-refused : (e : Class) → v ≡ J.Refused e → OfParameter s st values out c t (Refused e) values out m a (λ w n c t. changesWhole w n c t xs)
   change-refused e z =
       the-parameter p (λ x. Refuses (tableOf s) (view s st values) c t out out values values (change x) (refused (class (classOf e))))
-      (record { is = judged-refused s m a xs k h q p v j (view s st values) c t _ e z; quiet = refl; area = refl })
+      (record { is = judged-refused s m a xs k h q p v j _ e z; quiet = refl; area = refl })
 
   module _ (z : v ≡ J.LetIn) where
     is-set : change (k, p .it) ≡ setting
-    unfolding changes
-    is-set = judged-let-in s m a xs k h q p v j (view s st values) c t (sets (tableOf s) (view s st values) c t) z
+    is-set = judged-let-in s m a xs k h q p v j (sets (tableOf s) (view s st values) c t) z
 
     pub change-settable : t ≤ latest → Settable out k h m a t × Accepts s (q .info) values xs
     change-settable l = (
@@ -102,7 +101,7 @@ module _ (s : List ℕ) (st : State) (values out : List ℕ) (c t : ℕ) (g : Re
 
     pub change-set : (o : Outcome) (stored-values after : List ℕ)
         → IsSetBy s (datainfoAt (drop (q .info) s)) (st .clients) c k h m a xs t values out o stored-values after
-        → OfParameter s st values out c t o stored-values after m a (λ w n c t. changes w n c t xs)
+        → OfParameter s st values out c t o stored-values after m a (λ w n c t. changesWhole w n c t xs)
     change-set o stored-values after by =
         let i = by .is (p .info) in
         the-parameter p (λ x. OutcomeIs (tableOf s) (view s st values) c t out after values stored-values o (change x))

@@ -22,7 +22,7 @@ use Rattle.outbox.specs.Outbox.{final, encode}
 use Rattle.outbox.specs.Written.{RoomFor}
 use Rattle.plain.specs.Node.{Node}
 use Rattle.plain.specs.Answer as Plain
-use Rattle.plain.specs.Answer.{refused, shows, judging, checks}
+use Rattle.plain.specs.Answer.{refused, shows}
 use Rattle.sound.proofs.Records.{Fine, says-checked, written-final}
 use Rattle.sound.proofs.Room.{room-after, puts-none, puts-after}
 use Rattle.state.specs.declared.State.{State}
@@ -32,6 +32,7 @@ use Rattle.outcome.specs.Outcome.{Refuses, Sends, OfParameter}
 use Rattle.outcome.specs.declared.Outcome.the-variants.{Refused, Sent}
 use Rattle.access.specs.Argument.{Reported}
 use Rattle.access.specs.Told.{PutsChecked}
+use Rattle.access.specs.Whole.{checksWhole}
 use Rattle.access.specs.Judged.{JudgesChange}
 use Rattle.access.specs.declared.judge.Judged.{Judged}
 use Rattle.access.specs.declared.judge.Judged.the-variants as J
@@ -67,14 +68,13 @@ module _ (s out : List ℕ) (c t : ℕ) (l : Lent s out c) (m a xs : List ℕ) (
   p = parameter-known s (l .accepted) m a k h q f
 
   abbrev check : Node → ℕ × Placed Parameter → Plain.Outcome
-  check n x = checks (tableOf s) n c t xs x
+  check n x = checksWhole (tableOf s) n c t xs x
 
   pub check-refused : (e : Class) → v ≡ J.Refused e → (st : State) (values : List ℕ)
-      → OfParameter s st values out c t (Refused e) values out m a (λ w n c t. checks w n c t xs)
-  unfolding checks
+      → OfParameter s st values out c t (Refused e) values out m a (λ w n c t. checksWhole w n c t xs)
   check-refused e z st values =
       the-parameter p (λ x. Refuses (tableOf s) (view s st values) c t out out values values (check (view s st values) x) (refused (class (classOf e))))
-      (record { is = judged-refused s m a xs k h q p v j (view s st values) c t _ e z; quiet = refl; area = refl })
+      (record { is = judged-refused s m a xs k h q p v j _ e z; quiet = refl; area = refl })
 
   module _ (z : v ≡ J.LetIn) where
     pub check-told : t ≤ latest → (32768 ≤ length out) × (Reported m a t × FitsAt s (q .info) xs)
@@ -82,8 +82,8 @@ module _ (s out : List ℕ) (c t : ℕ) (l : Lent s out c) (m a xs : List ℕ) (
         (l .room, (record { module-name = p .goodModule; name = p .goodName; inTime = i }, judged-fitting s m a xs k h q p v j z))
 
     pub check-sent : (after : List ℕ) (written : ℕ) → PutsChecked (datainfoAt (drop (q .info) s)) c m a xs t out after written → (st : State) (values : List ℕ)
-        → OfParameter s st values out c t (Sent written) values after m a (λ w n c t. checks w n c t xs)
-    unfolding checks shows
+        → OfParameter s st values out c t (Sent written) values after m a (λ w n c t. checksWhole w n c t xs)
+    unfolding shows
     check-sent after written y st values =
         the-parameter p (λ x. Sends (tableOf s) (view s st values) c t out after values values (check (view s st values) x) written)
         (record {
@@ -91,7 +91,7 @@ module _ (s out : List ℕ) (c t : ℕ) (l : Lent s out c) (m a xs : List ℕ) (
               record {
                 records = [];
                 reply = checked (reportOf m a (valued (storedForm (p .it .it .datainfo) xs)) t);
-                is = judged-let-in s m a xs k h q p v j (view s st values) c t (shows (tableOf s) (view s st values) c t) z ∙ rw (p .moduleNamed, p .named);
+                is = judged-let-in s m a xs k h q p v j (shows (tableOf s) (view s st values) c t) z ∙ rw (p .moduleNamed, p .named);
                 puts = puts-after [] _ out out 0 (puts-none out) after written (y .is (p .info));
               };
           unstored = refl;

@@ -9,14 +9,13 @@ use Rattle.fit.specs.Fit as Fit
 use Rattle.fit.specs.Fit.{isFit, severity, storedForm}
 use Rattle.form.specs.Formed.{FitsAt}
 use Rattle.table.specs.declared.layout.ParameterAt.{ParameterAt}
-use Rattle.table.specs.Layout.{tableOf}
 use Rattle.table.specs.Table.{Parameter}
 use Rattle.table.specs.Search.{Placed}
 use Rattle.message.specs.Error.{class}
 use Rattle.message.specs.Said.{classOf}
 use Rattle.message.specs.declared.say.Class.{Class}
-use Rattle.plain.specs.Node.{Node}
-use Rattle.plain.specs.Answer.{Outcome, refused, letIn, judging}
+use Rattle.plain.specs.Answer.{Outcome, refused, letIn}
+use Rattle.access.specs.Whole.{judgingWhole}
 use Rattle.access.specs.Judged.{Lets, JudgesChange}
 use Rattle.access.specs.declared.judge.Judged.{Judged}
 use Rattle.access.specs.declared.judge.Judged.the-variants as J
@@ -28,13 +27,13 @@ module _ (s m a xs : List ℕ) (k h : ℕ) (q : ParameterAt) (p : ParameterKnown
   lets = j .is (p .info)
 
   -- whatever is done with what is let in
-  module _ (n : Node) (c t : ℕ) (f : ℕ × Placed Parameter → List ℕ → Outcome) where
-    pub judged-refused : (e : Class) → v ≡ J.Refused e → judging (tableOf s) n c t f xs (k, p .it) ≡ refused (class (classOf e))
-    unfolding judging
+  module _ (f : ℕ × Placed Parameter → List ℕ → Outcome) where
+    pub judged-refused : (e : Class) → v ≡ J.Refused e → judgingWhole f xs (k, p .it) ≡ refused (class (classOf e))
+    unfolding judgingWhole
     judged-refused e z = rw (p .readonly) (subst (Lets (q .readonly) (Fit.verdict (p .it .it .datainfo) xs)) z lets _)
 
-    pub judged-let-in : v ≡ J.LetIn → judging (tableOf s) n c t f xs (k, p .it) ≡ f (k, p .it) (storedForm (p .it .it .datainfo) xs)
-    unfolding judging letIn
+    pub judged-let-in : v ≡ J.LetIn → judgingWhole f xs (k, p .it) ≡ f (k, p .it) (storedForm (p .it .it .datainfo) xs)
+    unfolding judgingWhole letIn
     judged-let-in z = let i = subst (Lets (q .readonly) (Fit.verdict (p .it .it .datainfo) xs)) z lets in rw (p .readonly ∙ i .0, i .1)
 
   module _ (z : v ≡ J.LetIn) where

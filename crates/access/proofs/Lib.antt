@@ -5,6 +5,7 @@ pub mod Orders
 pub mod Finding
 pub mod Executed
 pub mod Showing
+pub mod Filled
 pub mod Statuses
 pub mod Sets
 pub mod Judgements

@@ -37,7 +37,7 @@ use Rattle.search.specs.Found.{ParameterFound}
 use Rattle.access.proofs.Finding.{ParameterKnown, parameter-known, the-parameter}
 
 module _ (s : List ℕ) (st : State) (values out : List ℕ) (c : ℕ) (g : Ready s st values out c) (m a : List ℕ) (k h : ℕ) (q : ParameterAt) (f : ParameterFound s m a k h q) where
-  p : ParameterKnown s m a k h q
+  abbrev p : ParameterKnown s m a k h q
   p = parameter-known s (g .lent .accepted) m a k h q f
 
   pub read-low : k < 64
@@ -55,18 +55,18 @@ module _ (s : List ℕ) (st : State) (values out : List ℕ) (c : ℕ) (g : Read
   since = getD (st .settings .time) k 0
 
   -- what the parameter holds
-  value-is : view s st values .values k
+  pub value-is : view s st values .values k
       ≡ Node.holding (heldAs (faultOf (getD (st .settings .error) k 0)) (shownBytes s (st .settings) values k (q .initial))) since
   unfolding view valueAt shown shownBytes
   value-is = rw (p .there, p .initial)
 
-  held-fits : ValueHeld (p .it .it) (view s st values .values k)
+  pub held-fits : ValueHeld (p .it .it) (view s st values .values k)
   unfolding view
   held-fits = value-held s (g .lent .accepted) st values fit k (p .it) (p .there)
 
   -- by what the code has for whether it can be read
   module _ (r : Sensor) (hr : sensorFault r ≡ faultOf (getD (st .settings .error) k 0)) where
-    holds : view s st values .values k ≡ Node.holding (heldBy r (shownBytes s (st .settings) values k (q .initial))) since
+    pub holds : view s st values .values k ≡ Node.holding (heldBy r (shownBytes s (st .settings) values k (q .initial))) since
     holds = rw hr value-is
 
     pub read-fails : (e : Fault) → r ≡ Fails e → (t : ℕ) → OfParameter s st values out c t (Unreadable e since) values out m a reads
@@ -86,7 +86,7 @@ module _ (s : List ℕ) (st : State) (values out : List ℕ) (c : ℕ) (g : Read
       own-is : final c (reply own) ≡ shows
       own-is = rw (p .moduleNamed, p .named)
 
-      is-value : view s st values .values k ≡ Node.showing v since
+      pub is-value : view s st values .values k ≡ Node.showing v since
       is-value =
           holds ∙ ap (λ (x : Sensor). Node.holding (heldBy x (shownBytes s (st .settings) values k (q .initial))) since) w
           ∙ ap (λ (x : List ℕ). Node.showing x since) (sym hv)

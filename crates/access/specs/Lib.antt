@@ -3,3 +3,4 @@ pub mod Busy
 pub mod Set
 pub mod Judged
 pub mod Told
+pub mod Whole

@@ -4,22 +4,22 @@ mod command;
 mod judge;
 mod setting;
 mod telling;
+mod whole;
 
 ghost use Prim.Native.Nat.{ℕ, _≤_};
-ghost use mathlib.Core.List.{List};
+ghost use lib.ListN.{length};
 ghost use Rattle.ascii.specs.Numbers.{latest};
 ghost use Rattle.search.specs.Found.{ParameterFound, CommandFound};
 ghost use Rattle.plain.specs.Answer.{reads, changes, checks, does};
-ghost use Rattle.state.specs.declared.State.{State};
 ghost use Rattle.outcome.specs.Ready.{Lent, Ready};
 ghost use Rattle.outcome.specs.Outcome.{OfParameter, OfCommand};
 use crate::command::argument_verdict;
 use crate::command::order;
 use crate::judge::Judged;
-use crate::judge::judge_change;
 use crate::judge::let_in;
-use crate::setting::set;
-use crate::telling::put_checked;
+use crate::whole::change_whole;
+use crate::whole::check_whole;
+use crate::whole::fill;
 use message::say::Sensor;
 use outbox::write::Told;
 use outbox::write::put_final_report;
@@ -62,7 +62,7 @@ pub fn read<'a>(
     }
 }
 
-// A parameter's value is set; or an error, and outbox and values area are as they were.
+// A parameter's value is set, to a text with what it leaves out filled in; or an error, and outbox and values area are as they were.
 pub fn change(
     table: &[u8],
     values: &mut [u8],
@@ -77,38 +77,37 @@ pub fn change(
     name: &[u8],
     text: &[u8],
 ) -> Outcome
-    requires { ⌜ Ready (now table) state (now values) (now out) client × ((time ≤ latest) × ParameterFound (now table) (now «module») (now name) k home q) ⌝ }
+    requires { ⌜ Ready (now table) state (now values) (now out) client × ((time ≤ latest)
+        × (ParameterFound (now table) (now «module») (now name) k home q × (length (now text) ≤ 1024))) ⌝ }
     ensures { λ r. ⌜ OfParameter (now (table .entry)) state (now (values .entry)) (now (out .entry)) client time r (now (values .exit))
         (now (out .exit)) (now («module» .entry)) (now (name .entry)) (λ w n c t. changes w n c t (now (text .entry))) ⌝ }
 {
-    match judge_change(table, q, text) {
-        Judged::Refused(class) => Outcome::Refused(class),
-        Judged::LetIn => {
-            let clients = state.clients;
-            let info = q.info;
-            set(
-                table,
-                info,
-                values,
-                out,
-                clients,
-                client,
-                time,
-                k,
-                home,
-                module,
-                name,
-                text,
-            )
-        }
-    }
+    let mut whole = [0u8; 1282];
+    let size = fill(
+        table, values, state, k, home, q, module, name, text, &mut whole,
+    );
+    change_whole(
+        table,
+        values,
+        out,
+        state,
+        client,
+        time,
+        k,
+        home,
+        q,
+        module,
+        name,
+        &whole[..size],
+    )
 }
 
-// What a change would store is told, and nothing is stored; or the error that a change would be refused with, and the outbox is as it was. Neither
-// state nor values area is looked at.
-pub fn check(
-    table: &[u8],
+// What a change would store is told, and nothing is stored; or the error that a change would be refused with, and the outbox is as it was.
+pub fn check<'a>(
+    table: &'a [u8],
+    values: &'a [u8],
     out: &mut [u8],
+    state: State,
     client: u8,
     time: u64,
     k: usize,
@@ -118,17 +117,27 @@ pub fn check(
     name: &[u8],
     text: &[u8],
 ) -> Outcome
-    requires { ⌜ Lent (now table) (now out) client × ((time ≤ latest) × ParameterFound (now table) (now «module») (now name) k home q) ⌝ }
-    ensures { λ r. ⌜ ((s : State) (values : List ℕ) → OfParameter (now (table .entry)) s values (now (out .entry)) client time r values (now (out .exit))
-        (now («module» .entry)) (now (name .entry)) (λ w n c t. checks w n c t (now (text .entry)))) ⌝ }
+    requires { ⌜ Ready (now table) state (now values) (now out) client × ((time ≤ latest)
+        × (ParameterFound (now table) (now «module») (now name) k home q × (length (now text) ≤ 1024))) ⌝ }
+    ensures { λ r. ⌜ OfParameter (now (table .entry)) state (now (values .entry)) (now (out .entry)) client time r (now (values .entry))
+        (now (out .exit)) (now («module» .entry)) (now (name .entry)) (λ w n c t. checks w n c t (now (text .entry))) ⌝ }
 {
-    match judge_change(table, q, text) {
-        Judged::Refused(class) => Outcome::Refused(class),
-        Judged::LetIn => {
-            let info = q.info;
-            Outcome::Sent(put_checked(table, info, out, client, time, module, name, text))
-        }
-    }
+    let mut whole = [0u8; 1282];
+    let size = fill(
+        table, values, state, k, home, q, module, name, text, &mut whole,
+    );
+    check_whole(
+        table,
+        out,
+        client,
+        time,
+        k,
+        home,
+        q,
+        module,
+        name,
+        &whole[..size],
+    )
 }
 
 // A command is carried out: the driver's order and the reply are at the front of the outbox; or an error, and the outbox is as it was.

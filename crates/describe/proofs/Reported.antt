@@ -31,7 +31,7 @@ use Rattle.table.proofs.Whole.{opened, unread, readable-whole, members-headless
 use Rattle.report.specs.Report.{argumentMember, accessibleMember, accessibleMembers, moduleMembers, reportValue, report}
 use Rattle.emit.specs.Emitted.{capped, Emits, comma, told, Says}
 use Rattle.describe.specs.Room.{RoomFor}
-use Rattle.infos.specs.Texts.{datainfoText}
+use Rattle.infos.specs.Texts.{datainfoText, ownText}
 use Rattle.describe.specs.Texts.{readonlyText, argumentText, accessibleText, accessiblesText, moduleText, modulesText, textsText}
 use Rattle.emit.proofs.Pieces.{both, after, nothing}
 use Rattle.emit.proofs.Says.{says-nothing, says-text, mapped, retold, told-same, rest-told, Leads, parts-none, parts-more}
@@ -67,12 +67,12 @@ module _ {d0 d1 d2 d3 d4 : List ℕ} {p0 p1 p2 p3 p4 : ℕ} where
   command-join k l q m a y z w x v u = rw (command-pieces k l q m a y z) at (both (both (both w x) v) u)
 
   module _ (s : List ℕ) where
-    parameter-text : (q : ParameterAt) (i : Datainfo) → Emits d0 p0 (quoted (bytesOf s (q .name)) ++ bytes ":" ++ (bytes "{\"description\":" ++ quoted (bytesOf s (q .description)))) d1 p1 → Emits d1 p1 (readonlyText (q .readonly)) d2 p2 → Emits d2 p2 (datainfoText i) d3 p3 → Emits d3 p3 (bytes "}") d4 p4 → Emits d0 p0 (accessibleText (Table.parameter (parameterOf s q i))) d4 p4
-    unfolding accessibleText accessibleMember parameterOf compact compactMembers moreMembers readonlyText datainfoText quoted bytes
-    parameter-text q i w x y v = parameter-join (quoted (bytesOf s (q .name)) ++ bytes ":") (bytes "{\"description\":") (quoted (bytesOf s (q .description))) (bytes ",\"readonly\":") (cond (q .readonly) (bytes "true") (bytes "false")) (bytes ",\"datainfo\":") (datainfoText i) (bytes "}") w x y v
+    parameter-text : (q : ParameterAt) (i : Datainfo) → Emits d0 p0 (quoted (bytesOf s (q .name)) ++ bytes ":" ++ (bytes "{\"description\":" ++ quoted (bytesOf s (q .description)))) d1 p1 → Emits d1 p1 (readonlyText (q .readonly)) d2 p2 → Emits d2 p2 (ownText i) d3 p3 → Emits d3 p3 (bytes "}") d4 p4 → Emits d0 p0 (accessibleText (Table.parameter (parameterOf s q i))) d4 p4
+    unfolding accessibleText accessibleMember parameterOf compact compactMembers moreMembers readonlyText ownText quoted bytes
+    parameter-text q i w x y v = parameter-join (quoted (bytesOf s (q .name)) ++ bytes ":") (bytes "{\"description\":") (quoted (bytesOf s (q .description))) (bytes ",\"readonly\":") (cond (q .readonly) (bytes "true") (bytes "false")) (bytes ",\"datainfo\":") (ownText i) (bytes "}") w x y v
 
-    pub parameter-told : (q : ParameterAt) → Emits d0 p0 (quoted (bytesOf s (q .name)) ++ bytes ":" ++ (bytes "{\"description\":" ++ quoted (bytesOf s (q .description)))) d1 p1 → Emits d1 p1 (readonlyText (q .readonly)) d2 p2 → Says (told datainfoText (datainfoIn 4 (drop (q .info) s))) d2 p2 d3 p3 → Emits d3 p3 (bytes "}") d4 p4 → Says (told (λ i. accessibleText (Table.parameter (parameterOf s q i))) (datainfoIn 4 (drop (q .info) s))) d0 p0 d4 p4
-    parameter-told q w x y v = retold datainfoText (λ i. accessibleText (Table.parameter (parameterOf s q i))) (datainfoIn 4 (drop (q .info) s)) (λ i u. parameter-text q i w x u v) y
+    pub parameter-told : (q : ParameterAt) → Emits d0 p0 (quoted (bytesOf s (q .name)) ++ bytes ":" ++ (bytes "{\"description\":" ++ quoted (bytesOf s (q .description)))) d1 p1 → Emits d1 p1 (readonlyText (q .readonly)) d2 p2 → Says (told ownText (datainfoIn 4 (drop (q .info) s))) d2 p2 d3 p3 → Emits d3 p3 (bytes "}") d4 p4 → Says (told (λ i. accessibleText (Table.parameter (parameterOf s q i))) (datainfoIn 4 (drop (q .info) s))) d0 p0 d4 p4
+    parameter-told q w x y v = retold ownText (λ i. accessibleText (Table.parameter (parameterOf s q i))) (datainfoIn 4 (drop (q .info) s)) (λ i u. parameter-text q i w x u v) y
 
     command-text : (q : CommandAt) (a : Option Datainfo) → Emits d0 p0 (quoted (bytesOf s (q .name)) ++ bytes ":" ++ (bytes "{\"description\":" ++ quoted (bytesOf s (q .description)))) d1 p1 → Emits d1 p1 (bytes ",\"datainfo\":{\"type\":\"command\"") d2 p2 → Emits d2 p2 (argumentText a) d3 p3 → Emits d3 p3 (bytes "}}") d4 p4 → Emits d0 p0 (accessibleText (Table.command (commandOf s q a))) d4 p4
     unfolding accessibleText accessibleMember argumentText commandOf compact compactMembers moreMembers quoted bytes

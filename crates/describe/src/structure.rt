@@ -5,6 +5,7 @@ use emit::emit_comma;
 use emit::emit_key;
 use emit::emit_string;
 use infos::emit_datainfo;
+use infos::emit_own;
 use table::layout::Accessible;
 use table::layout::CommandAt;
 use table::layout::Head;
@@ -98,7 +99,7 @@ fn emit_parameter(out: &mut [u8], at: usize, s: &[u8], q: ParameterAt) -> usize
     let info = q.info;
     let a = emit_named(out, at, b"{\"description\":", s, name, description);
     let b = emit_readonly(out, a, q.readonly);
-    let c = emit_datainfo(out, b, s, info, 4);
+    let c = emit_own(out, b, s, info);
     emit(out, c, b"}")
 }
 

@@ -14,20 +14,23 @@ use Rattle.ascii.specs.Numbers.{unsigned}
 use Rattle.ascii.specs.Read.{ReadsUnsigned}
 use Rattle.json.specs.Json.{Json}
 use Rattle.datainfo.specs.Datainfo.{Datainfo}
-use Rattle.datainfo.specs.Layout.{arrayAt, tupleAt, structAt, typed, datainfoIn}
-use Rattle.fit.specs.Verdict.{Judges, numeric, plain}
+use Rattle.datainfo.specs.Layout.{arrayAt, tupleAt, typed, datainfoIn}
+use Rattle.datainfo.specs.Members.{membersAt}
+use Rattle.datainfo.proofs.Structs.{struct-members, partial-members}
+use Rattle.fit.specs.Fit.{fit}
+use Rattle.fit.specs.Verdict.{Judges, JudgesStruct, numeric, plain}
 use Rattle.fit.specs.declared.Verdict.{Verdict}
 use Rattle.fit.proofs.Judged.{judges-none, judges-like}
 
 -- a type that holds no datainfos
-module _ (f : List ℕ → Option (Datainfo × List ℕ)) (k : ℕ) (xs : List ℕ) (n6 : k ≡ 6 → ⊥) (n7 : k ≡ 7 → ⊥) (n8 : k ≡ 8 → ⊥) where
+module _ (f : List ℕ → Option (Datainfo × List ℕ)) (k : ℕ) (xs : List ℕ) (n6 : k ≡ 6 → ⊥) (n7 : k ≡ 7 → ⊥) (n8 : k ≡ 8 → ⊥) (n11 : k ≡ 11 → ⊥) where
   typed-plain : typed f k xs ≡ plain k xs
   unfolding typed plain numeric
   typed-plain = one (eqb k 1) refl
     where
       ten : (b : Bool) → eqb k 10 ≡ b → eqb k 1 ≡ false → eqb k 2 ≡ false → eqb k 3 ≡ false → eqb k 4 ≡ false → eqb k 5 ≡ false → eqb k 9 ≡ false → typed f k xs ≡ plain k xs
       ten true h a b c d e g = rw (eqb-true k 10 h)
-      ten false h a b c d e g = rw (a, b, c, d, e, g, h, ne-eqb k 6 n6, ne-eqb k 7 n7, ne-eqb k 8 n8)
+      ten false h a b c d e g = rw (a, b, c, d, e, g, h, ne-eqb k 6 n6, ne-eqb k 7 n7, ne-eqb k 8 n8, ne-eqb k 11 n11)
 
       nine : (b : Bool) → eqb k 9 ≡ b → eqb k 1 ≡ false → eqb k 2 ≡ false → eqb k 3 ≡ false → eqb k 4 ≡ false → eqb k 5 ≡ false → typed f k xs ≡ plain k xs
       nine true h a b c d e = rw (eqb-true k 9 h)
@@ -84,9 +87,14 @@ module _ (s : List ℕ) (at levels : ℕ) (q : Option (Json × List ℕ)) (r : V
       unfolding typed
       fit-tuple z h = judges-like is-typed (rw z h)
 
-      pub fit-struct : b ≡ 8 → Judges (structAt (datainfoIn (levels - 1)) (drop i s)) q r → Judges (datainfoIn levels (drop at s)) q r
+      pub fit-struct : b ≡ 8 → JudgesStruct (membersAt (datainfoIn (levels - 1)) 8 (drop i s)) q r → Judges (datainfoIn levels (drop at s)) q r
       unfolding typed
-      fit-struct z h = judges-like is-typed (rw z h)
+      fit-struct z h = judges-like is-typed (rw z (record { is = λ e f. struct-members (datainfoIn (levels - 1)) (drop i s) e λ m a o. rw o (h .is a f) }))
 
-      pub fit-plain : (b ≡ 6 → ⊥) → (b ≡ 7 → ⊥) → (b ≡ 8 → ⊥) → Judges (plain b (drop i s)) q r → Judges (datainfoIn levels (drop at s)) q r
-      fit-plain n6 n7 n8 h = judges-like is-typed (rw (typed-plain (datainfoIn (levels - 1)) b (drop i s) n6 n7 n8) h)
+      -- with all there, type 11 is as type 8
+      pub fit-partial : b ≡ 11 → JudgesStruct (membersAt (datainfoIn (levels - 1)) 11 (drop i s)) q r → Judges (datainfoIn levels (drop at s)) q r
+      unfolding typed fit
+      fit-partial z h = judges-like is-typed (rw z (record { is = λ e f. partial-members (datainfoIn (levels - 1)) (drop i s) e λ m a o. rw o (h .is a f) }))
+
+      pub fit-plain : (b ≡ 6 → ⊥) → (b ≡ 7 → ⊥) → (b ≡ 8 → ⊥) → (b ≡ 11 → ⊥) → Judges (plain b (drop i s)) q r → Judges (datainfoIn levels (drop at s)) q r
+      fit-plain n6 n7 n8 n11 h = judges-like is-typed (rw (typed-plain (datainfoIn (levels - 1)) b (drop i s) n6 n7 n8 n11) h)

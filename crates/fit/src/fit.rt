@@ -11,11 +11,12 @@ ghost use Rattle.decimal.specs.Token.{isWhole};
 ghost use Rattle.json.specs.Json as Json;
 ghost use Rattle.json.specs.Json.{bare, value, objectEnd};
 ghost use Rattle.datainfo.specs.Datainfo as Datainfo;
-ghost use Rattle.datainfo.specs.Layout.{doubleAt, intAt, enumAt, stringAt, arrayAt, tupleAt, structAt, scaledAt, blobAt, datainfoIn};
+ghost use Rattle.datainfo.specs.Layout.{doubleAt, intAt, enumAt, stringAt, arrayAt, tupleAt, scaledAt, blobAt, datainfoIn};
+ghost use Rattle.datainfo.specs.Members.{membersAt};
 ghost use Rattle.datainfo.specs.Rules.{isBetween};
 ghost use Rattle.fit.specs.Fit as Fit;
 ghost use Rattle.fit.specs.Fit.{isFit, inRange, wholeFit, betweenIntegers};
-ghost use Rattle.fit.specs.Verdict.{meaning, Judges, JudgesFields, Limits, numeric, plain};
+ghost use Rattle.fit.specs.Verdict.{meaning, Judges, JudgesStruct, JudgesFields, Limits, numeric, plain};
 use super::Verdict;
 use super::member::number_of;
 use super::object::each_once;
@@ -33,10 +34,11 @@ use base64::Size;
 use base64::blob_size;
 use datainfo::layout::counted_end;
 use datainfo::layout::datainfo_end;
+use datainfo::layout::named_end;
 use datainfo::layout::part_end;
 use datainfo::rules::Limit;
 use datainfo::rules::limit_at;
-use datainfo::rules::name_at;
+use datainfo::rules::named_at;
 use decimal::compare::is_between;
 use decimal::compare::is_whole;
 use decimal::token::number_end;
@@ -381,10 +383,18 @@ fn tuple_fit(s: &[u8], at: usize, levels: usize, v: &[u8], p: usize, depth: usiz
     worse(worst, Verdict::WrongType)
 }
 
-// The values of an object, past its '{', at the names of a struct, past its type byte; each name is exactly once among the keys.
-fn fields_fit(s: &[u8], at: usize, levels: usize, v: &[u8], p: usize, depth: usize) -> Verdict
+// The values of an object, past its '{', at the names of a struct, past its type byte k; each name is exactly once among the keys.
+fn fields_fit(
+    s: &[u8],
+    at: usize,
+    levels: usize,
+    k: u8,
+    v: &[u8],
+    p: usize,
+    depth: usize,
+) -> Verdict
     requires { ⌜ (at ≤ length (now s)) × (p ≤ length (now v)) ⌝ }
-    ensures { λ r. ⌜ JudgesFields (structAt (datainfoIn levels) (drop at (now (s .entry)))) (objectEnd (value depth) (drop p (now (v .entry)))) r ⌝ }
+    ensures { λ r. ⌜ JudgesFields (membersAt (datainfoIn levels) k (drop at (now (s .entry)))) (objectEnd (value depth) (drop p (now (v .entry)))) r ⌝ }
 {
     let Unsigned::Read(count, from) = unsigned(s, at, 1) else {
         return Verdict::WrongType;
@@ -393,10 +403,10 @@ fn fields_fit(s: &[u8], at: usize, levels: usize, v: &[u8], p: usize, depth: usi
     let mut field = from;
     let mut left = count;
     while 0 < left {
-        let Next::At(inner) = counted_end(s, field) else {
+        let Next::At(inner) = named_end(s, field, k) else {
             return Verdict::WrongType;
         };
-        let Next::At(q) = find_key(v, p, depth, name_at(s, field)) else {
+        let Next::At(q) = find_key(v, p, depth, named_at(s, field, k)) else {
             return Verdict::WrongType;
         };
         let Next::At(e) = datainfo_end(s, inner, levels) else {
@@ -409,9 +419,17 @@ fn fields_fit(s: &[u8], at: usize, levels: usize, v: &[u8], p: usize, depth: usi
     worst
 }
 
-fn struct_fit(s: &[u8], at: usize, levels: usize, v: &[u8], p: usize, depth: usize) -> Verdict
+fn struct_fit(
+    s: &[u8],
+    at: usize,
+    levels: usize,
+    k: u8,
+    v: &[u8],
+    p: usize,
+    depth: usize,
+) -> Verdict
     requires { ⌜ (at ≤ length (now s)) × (p ≤ length (now v)) ⌝ }
-    ensures { λ r. ⌜ Judges (structAt (datainfoIn levels) (drop at (now (s .entry)))) (bare depth (drop p (now (v .entry)))) r ⌝ }
+    ensures { λ r. ⌜ JudgesStruct (membersAt (datainfoIn levels) k (drop at (now (s .entry)))) (bare depth (drop p (now (v .entry)))) r ⌝ }
 {
     if depth == 0 {
         return Verdict::WrongType;
@@ -419,8 +437,8 @@ fn struct_fit(s: &[u8], at: usize, levels: usize, v: &[u8], p: usize, depth: usi
     if byte(v, p) != b'{' {
         return Verdict::WrongType;
     }
-    if each_once(s, at, levels, v, p + 1, depth - 1) {
-        return fields_fit(s, at, levels, v, p + 1, depth - 1);
+    if each_once(s, at, levels, k, v, p + 1, depth - 1) {
+        return fields_fit(s, at, levels, k, v, p + 1, depth - 1);
     }
     Verdict::WrongType
 }
@@ -443,7 +461,10 @@ pub fn fit(s: &[u8], at: usize, levels: usize, v: &[u8], p: usize, depth: usize)
         return tuple_fit(s, inner, levels - 1, v, p, depth);
     }
     if k == 8 {
-        return struct_fit(s, inner, levels - 1, v, p, depth);
+        return struct_fit(s, inner, levels - 1, 8, v, p, depth);
+    }
+    if k == 11 {
+        return struct_fit(s, inner, levels - 1, 11, v, p, depth);
     }
     plain_fit(s, inner, k, v, p)
 }

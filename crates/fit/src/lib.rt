@@ -5,7 +5,7 @@ ghost use Rattle.fit.specs.Theorems.{OneComparison};
 
 pub mod fit;
 pub mod member;
-mod object;
+pub mod object;
 pub mod walk;
 
 // What a value comes to, each worse than the one before.

@@ -18,7 +18,7 @@ use Rattle.decimal.proofs.Written.{integer-token, integer-whole, integer-exactl
 use Rattle.json.specs.Json as Json
 use Rattle.json.specs.Json.{Json, null, boolean, Items, no-items, item, Members, no-members, member}
 use Rattle.json.specs.Readable.{Readable, ReadableItems, ReadableMembers}
-use Rattle.datainfo.specs.Datainfo.{Variant, Datainfo, double, int, bool, enum, string, array, tuple, struct, scaled, blob, Elements, no-elements, element, Fields, no-fields, field, fieldNames}
+use Rattle.datainfo.specs.Datainfo.{Variant, Datainfo, double, int, bool, enum, string, array, tuple, struct, scaled, blob, partial, Elements, no-elements, element, Fields, no-fields, field, fieldNames}
 use Rattle.datainfo.specs.Rules.{isBetween, goodNames, namesGood, elementsNamesGood, fieldsNamesGood}
 use Rattle.fit.specs.Fit.{Verdict, fits, rangeError, wrongType, worse, inRange, expect, expectOr, asNumber, asString, asArray, asObject}
 use Rattle.fit.specs.Fit.{wholeFit, betweenIntegers, isVariant, memberNumber, itemCount, worstItem, keys, eachOnce, valueAt, fit, elementsFit, fieldsFit}
@@ -64,6 +64,7 @@ mutual
   numbered-twice (struct fs) v = members-twice (λ k w. numberedAt k fs w) (λ k w. at-twice fs k w) v
   numbered-twice (scaled s lo hi) v = refl
   numbered-twice (blob lo hi) v = refl
+  numbered-twice (partial ns fs) v = members-twice (λ k w. numberedAt k fs w) (λ k w. at-twice fs k w) v
 
   elements-twice : (ds : Elements) (is : Items) → numberedElements ds (numberedElements ds is) ≡ numberedElements ds is
   elements-twice no-elements is = refl
@@ -112,6 +113,9 @@ mutual
       (λ m ms p q s. map-members (λ k w. numberedAt k fs w) (λ l k w t. at-readable fs k l w t) m ms s) r
   numbered-readable (scaled s lo hi) n v r = r
   numbered-readable (blob lo hi) n v r = r
+  numbered-readable (partial ns fs) n v r =
+      members-readable (mapMembers (λ k w. numberedAt k fs w)) n v
+      (λ m ms p q s. map-members (λ k w. numberedAt k fs w) (λ l k w t. at-readable fs k l w t) m ms s) r
 
   elements-readable : (ds : Elements) (n : ℕ) (is : Items) → ReadableItems n is → ReadableItems n (numberedElements ds is)
   elements-readable no-elements n is r = r
@@ -246,6 +250,7 @@ numbered-null (tuple ds) = refl
 numbered-null (struct fs) = refl
 numbered-null (scaled s lo hi) = refl
 numbered-null (blob lo hi) = refl
+numbered-null (partial ns fs) = refl
 
 pub at-null : (fs : Fields) (k : List ℕ) → numberedAt k fs null ≡ null
 unfolding numberedAt
@@ -302,6 +307,9 @@ mutual
       struct-numbered fs (p .0) (λ f h n ms e. fields-numbered fs s (p .1) f h n ms e) v e
   fits-numbered (scaled x lo hi) s g v e = (e, refl)
   fits-numbered (blob lo hi) s g v e = (e, refl)
+  fits-numbered (partial ns fs) s g v e =
+      let p = both (goodNames (fieldNames fs) && all isName ns) (fieldsNamesGood fs) g in
+      struct-numbered fs (both (goodNames (fieldNames fs)) (all isName ns) (p .0) .0) (λ f h n ms e. fields-numbered fs s (p .1) f h n ms e) v e
 
   elements-numbered : (ds : Elements) → ShortElements ds → elementsNamesGood ds ≡ true → (is : Items) → elementsFit ds is ≡ fits
       → (elementsFit ds (numberedElements ds is) ≡ fits) × (elementsNumbersOnly ds (numberedElements ds is) ≡ true)

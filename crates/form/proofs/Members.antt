@@ -19,8 +19,9 @@ use Rattle.ascii.proofs.Lists.{neither, same-self, same-is, same-other}
 use Rattle.ascii.proofs.Lists as Lists
 use Rattle.json.specs.Json as Json
 use Rattle.json.specs.Json.{Json, null, boolean, Members, no-members, member, skip, key, objectEnd, bare, value, quoted, compact, compactMembers, moreMembers}
-use Rattle.datainfo.specs.Datainfo.{Datainfo, struct, Fields, no-fields, field, fieldNames}
-use Rattle.datainfo.specs.Layout.{structAt, datainfoIn}
+use Rattle.datainfo.specs.Datainfo.{Datainfo, Fields, no-fields, field, Parts, fieldNames}
+use Rattle.datainfo.specs.Layout.{datainfoIn}
+use Rattle.datainfo.specs.Members.{membersAt}
 use Rattle.emit.specs.Emitted.{Emits, comma}
 use Rattle.emit.proofs.Pieces.{both}
 use Rattle.emit.proofs.Pieces.{nothing as nothing-written}
@@ -28,8 +29,7 @@ use Rattle.fit.specs.Fit.{Verdict, fits, wrongType, worse, expect, asObject, ke
 use Rattle.fit.specs.Walk.{first, afterMember, memberValue, Reads}
 use Rattle.fit.proofs.Shapes.{nothing, just, shape, as-object, object-group, group-object}
 use Rattle.fit.proofs.Items.{MembersAt, members-first, members-next, members-none, members-over, members-some, ends-some, unspaced}
-use Rattle.fit.proofs.Objects.{struct-some}
-use Rattle.form.specs.Formed.{fieldOf, FieldFound, FieldIn, Forms, FormsMember, FormsMembers}
+use Rattle.form.specs.Formed.{fieldOf, FieldFound, FieldIn, Forms, FormsMember, FormsMembers, FormsStruct}
 use Rattle.form.proofs.Verdicts.{worse-both, cond-fits}
 use Rattle.form.proofs.Rows.{has}
 
@@ -39,7 +39,7 @@ unfoldable pub listed : Bool → Members → List ℕ
 listed first no-members = []
 listed first (member k v ms) = comma first ++ (quoted k ++ bytes ":" ++ compact v) ++ moreMembers ms
 
-listed-first : (ms : Members) → listed true ms ≡ compactMembers ms
+pub listed-first : (ms : Members) → listed true ms ≡ compactMembers ms
 unfolding listed comma compactMembers
 listed-first no-members = refl
 listed-first (member k v ms) = refl
@@ -49,16 +49,16 @@ unfolding listed comma moreMembers bytes
 listed-more no-members = refl
 listed-more (member k v ms) = refl
 
-listed-step : (done : List ℕ) (start : Bool) (k : List ℕ) (v : Json) (ms : Members)
+pub listed-step : (done : List ℕ) (start : Bool) (k : List ℕ) (v : Json) (ms : Members)
     → done ++ listed start (member k v ms) ≡ (done ++ comma start ++ (quoted k ++ bytes ":" ++ compact v)) ++ listed false ms
 unfolding listed
 listed-step done start k v ms = rw (listed-more ms) (simp append-assoc)
 
-listed-end : (done : List ℕ) (start : Bool) (ms : Members) → ms ≡ no-members → done ++ listed start ms ≡ done
+pub listed-end : (done : List ℕ) (start : Bool) (ms : Members) → ms ≡ no-members → done ++ listed start ms ≡ done
 unfolding listed
 listed-end done start ms e = rw (e, append-nil)
 
-object-begins : (j : Json) (f : Members → Verdict) → expect (asObject j) f ≡ fits → {S : Type 0} → ((ms : Members) → asObject j ≡ some ms → f ms ≡ fits → S) → S
+pub object-begins : (j : Json) (f : Members → Verdict) → expect (asObject j) f ≡ fits → {S : Type 0} → ((ms : Members) → asObject j ≡ some ms → f ms ≡ fits → S) → S
 unfolding expect asObject
 object-begins null f e g = let n : _≡_ {A = ℕ} 0 1 = cc in absurd (omega arith)
 object-begins (boolean b) f e g = let n : _≡_ {A = ℕ} 0 1 = cc in absurd (omega arith)
@@ -85,7 +85,7 @@ Own ms no-members = Unit {0}
 Own ms (member k v js) = (valueAt k ms ≡ v) × Own ms js
 
 -- none is counted
-none-counted : (k : List ℕ) (ks : List (List ℕ)) → count (same k) ks ≡ 0 → any (same k) ks ≡ false
+pub none-counted : (k : List ℕ) (ks : List (List ℕ)) → count (same k) ks ≡ 0 → any (same k) ks ≡ false
 unfolding count any
 none-counted k [] e = refl
 none-counted k (j ∷ ks) e = go (same k j) e (none-counted k ks)
@@ -143,7 +143,7 @@ keys-once p names (k ∷ ks) h e =
     ap₂ _&&_ (any-all p k names (q .0) h) (keys-once p names ks h (q .1))
 
 -- the field of a name, and how what is there fits it
-field-fits : (fs : Fields) (ms : Members) (k : List ℕ) → any (same k) (fieldNames fs) ≡ true → fieldsFit fs ms ≡ fits → FitsField fs k (valueAt k ms)
+pub field-fits : (fs : Fields) (ms : Members) (k : List ℕ) → any (same k) (fieldNames fs) ≡ true → fieldsFit fs ms ≡ fits → FitsField fs k (valueAt k ms)
 unfolding any fieldNames fieldsFit fieldOf
 field-fits no-fields ms k e g = let n : _≡_ {A = ℕ} 0 1 = cc in absurd (omega arith)
 field-fits (field j d fs) ms k e g =
@@ -169,7 +169,7 @@ all-fit fs ms e g =
     each-fits fs ms ms (p .1) (own-all ms (keys-once (λ n. eqb (count (same n) (keys ms)) 1) (fieldNames fs) (keys ms) (p .0) (p .1))) g
 
 -- and how it is exchanged
-numbered-field : (fs : Fields) (k : List ℕ) (v : Json) (d : Datainfo) → fieldOf k fs ≡ some d → numberedAt k fs v ≡ numbered d v
+pub numbered-field : (fs : Fields) (k : List ℕ) (v : Json) (d : Datainfo) → fieldOf k fs ≡ some d → numberedAt k fs v ≡ numbered d v
 unfolding fieldOf numberedAt
 numbered-field no-fields k v d e = absurd (nothing e)
 numbered-field (field j c fs) k v d e = go (same j k) e (numbered-field fs k v d)
@@ -181,7 +181,7 @@ numbered-field (field j c fs) k v d e = go (same j k) e (numbered-field fs k v d
 
 -- ## One member
 
-module _ (o : Option (Datainfo × List ℕ)) (s : List ℕ) (levels : ℕ) (v : List ℕ) (j depth : ℕ) (t : List ℕ) (k : Reads (key (drop j v)) t) (r : Next) (f : FieldIn o s levels t r)
+module _ (o : Option (Parts × List ℕ)) (s : List ℕ) (levels : ℕ) (v : List ℕ) (j depth : ℕ) (t : List ℕ) (k : Reads (key (drop j v)) t) (r : Next) (f : FieldIn o s levels t r)
     {before : List ℕ} {at : ℕ} where
   pub member-unknown : r ≡ Bad → {after : List ℕ} {end : ℕ} → FormsMember o depth (drop j v) before at after end
   member-unknown z = record {
@@ -218,20 +218,20 @@ pub record ObjectLeft (fs : Fields) (all : Members) (d : ℕ) (v : List ℕ) (pl
   pub wrote : Emits before at done out a
   pub whole : compactMembers (mapMembers (λ k w. numberedAt k fs w) all) ≡ done ++ listed start (mapMembers (λ k w. numberedAt k fs w) js)
 
-pub record ObjectAt (o : Option (Datainfo × List ℕ)) (d : ℕ) (v : List ℕ) (p : ℕ) (place : Next) (left : ℕ) (start : Bool) (before : List ℕ) (at : ℕ) (out : List ℕ) (a : ℕ) : Type 0 where
-  pub from : {fs : Fields} {x : List ℕ} {ms : Members} {y : List ℕ} → o ≡ some (struct fs, x) → objectEnd (value d) (drop (p + 1) v) ≡ some (Json.object ms, y)
-      → eachOnce (fieldNames fs) (keys ms) ≡ true → fieldsFit fs ms ≡ fits → ObjectLeft fs ms d v place left start before at out a
+pub record ObjectAt (o : Option (Parts × List ℕ)) (d : ℕ) (v : List ℕ) (p : ℕ) (place : Next) (left : ℕ) (start : Bool) (before : List ℕ) (at : ℕ) (out : List ℕ) (a : ℕ) : Type 0 where
+  pub from : {m : Parts} {x : List ℕ} {ms : Members} {y : List ℕ} → o ≡ some (m, x) → objectEnd (value d) (drop (p + 1) v) ≡ some (Json.object ms, y)
+      → eachOnce (fieldNames (m .1)) (keys ms) ≡ true → fieldsFit (m .1) ms ≡ fits → ObjectLeft (m .1) ms d v place left start before at out a
 
-pub object-first : (o : Option (Datainfo × List ℕ)) (d : ℕ) (v : List ℕ) (p : ℕ) (out : List ℕ) (at : ℕ) → at ≤ 18446744073709551615
+pub object-first : (o : Option (Parts × List ℕ)) (d : ℕ) (v : List ℕ) (p : ℕ) (out : List ℕ) (at : ℕ) → at ≤ 18446744073709551615
     → (place : Next) → Ends v place (first 125 (drop (p + 1) v)) → ObjectAt o d v p place (length v - p) true out at out at
 object-first o d v p out at n place f = record {
-  from = λ {fs = fs} {ms = ms} e g h w. record {
+  from = λ {m = m} {ms = ms} e g h w. record {
     js = ms;
     still = members-first d v (p + 1) (length v - p) place (omega arith) (object-group d (drop (p + 1) v) g) f;
-    each = all-fit fs ms h w;
+    each = all-fit (m .1) ms h w;
     done = [];
     wrote = nothing-written out at n;
-    whole = sym (listed-first (mapMembers (λ k w. numberedAt k fs w) ms));
+    whole = sym (listed-first (mapMembers (λ k w. numberedAt k (m .1) w) ms));
   };
 }
 
@@ -248,11 +248,11 @@ object-step fs js ks k j e h f =
     let r = rw e at h in
     f (r .0 .d) (r .0 .found) (r .0 .fit) (r .1) (rw (e, numbered-field fs k j (r .0 .d) (r .0 .found)))
 
-module _ (o : Option (Datainfo × List ℕ)) (d : ℕ) (v : List ℕ) (p : ℕ) (place : Next) (left : ℕ) (start : Bool) (before : List ℕ) (at : ℕ) (out : List ℕ) (a : ℕ)
+module _ (o : Option (Parts × List ℕ)) (d : ℕ) (v : List ℕ) (p : ℕ) (place : Next) (left : ℕ) (start : Bool) (before : List ℕ) (at : ℕ) (out : List ℕ) (a : ℕ)
     (c : ObjectAt o d v p place left start before at out a) where
   object-end : ((js : Members) → MembersAt d v left js place → js ≡ no-members) → FormsMembers o (objectEnd (value d) (drop (p + 1) v)) before at out a
   object-end h = record {
-    is = λ {fs = fs} e f g w. let q = c .from e f g w in let m : List ℕ → Json → Json = λ k w. numberedAt k fs w in
+    is = λ {m = n} e f g w. let q = c .from e f g w in let m : List ℕ → Json → Json = λ k w. numberedAt k (n .1) w in
         rw (q .whole, listed-end (q .done) start (mapMembers m (q .js)) (map-none m (q .js) (h (q .js) (q .still)))) (q .wrote);
   }
 
@@ -265,9 +265,10 @@ module _ (o : Option (Datainfo × List ℕ)) (d : ℕ) (v : List ℕ) (p : ℕ) 
   pub object-more : (k : ℕ) → place ≡ At k → (out1 : List ℕ) (a1 : ℕ) → Emits out a (comma start) out1 a1 → (out2 : List ℕ) (a2 : ℕ)
       → FormsMember o d (drop k v) out1 a1 out2 a2 → (next : Next) → Ends v next (afterMember d (drop k v)) → ObjectAt o d v p next (left - 1) false before at out2 a2
   object-more k z out1 a1 w out2 a2 g next m = record {
-    from = λ {fs = fs} e f n x.
+    from = λ {m = m'} e f n x.
         let r = c .from e f n x in
         let t = members-next d v left k next (r .still) z m in
+        let fs : Fields = m' .1 in
         object-step fs (r .js) (t .js) (t .k) (t .j) (t .whole) (r .each) λ d b q h u. record {
           js = t .js;
           still = t .left;
@@ -280,30 +281,31 @@ module _ (o : Option (Datainfo × List ℕ)) (d : ℕ) (v : List ℕ) (p : ℕ) 
 
 -- ## A struct
 
-module _ (s : List ℕ) (i levels : ℕ) (v : List ℕ) (p depth : ℕ) {before after : List ℕ} {at end : ℕ} where
-  struct-none : ((0 < depth) × (head (drop p v) ≡ 123) → ⊥) → Forms (structAt (datainfoIn levels) (drop i s)) (bare depth (drop p v)) before at after end
+-- the verdict on an object's members
+abbrev pub membersFit : Fields → Members → Verdict
+membersFit fs ms = cond (eachOnce (fieldNames fs) (keys ms)) (fieldsFit fs ms) wrongType
+
+module _ (s : List ℕ) (i levels k : ℕ) (v : List ℕ) (p depth : ℕ) {before after : List ℕ} {at end : ℕ} where
+  struct-none : ((0 < depth) × (head (drop p v) ≡ 123) → ⊥) → FormsStruct (membersAt (datainfoIn levels) k (drop i s)) (bare depth (drop p v)) before at after end
   unfolding fit
   struct-none h = record {
-    is = λ {j = j} e f g. struct-some (datainfoIn levels) (drop i s) e λ n r fs a b o.
-        object-begins j (λ ms. cond (eachOnce (fieldNames fs) (keys ms)) (fieldsFit fs ms) wrongType) (rw o at g) λ ms k q.
-        has (as-object (shape depth (drop p v) f)) k λ w r. absurd (h w);
+    is = λ {m = m} {j = j} e f g. object-begins j (membersFit (m .1)) g λ ms t q. has (as-object (shape depth (drop p v) f)) t λ w r. absurd (h w);
   }
 
-  pub struct-shallow : depth ≡ 0 → Forms (structAt (datainfoIn levels) (drop i s)) (bare depth (drop p v)) before at after end
+  pub struct-shallow : depth ≡ 0 → FormsStruct (membersAt (datainfoIn levels) k (drop i s)) (bare depth (drop p v)) before at after end
   struct-shallow e = struct-none λ h. omega arith
 
-  pub struct-past : length v ≤ p → Forms (structAt (datainfoIn levels) (drop i s)) (bare depth (drop p v)) before at after end
+  pub struct-past : length v ≤ p → FormsStruct (membersAt (datainfoIn levels) k (drop i s)) (bare depth (drop p v)) before at after end
   unfolding head
   struct-past e = struct-none λ h. let z = h .1 in let n : _≡_ {A = ℕ} 0 123 = rw (drop-of-length-le v e) at z in omega arith
 
   pub struct-whole : (out1 : List ℕ) (a1 : ℕ) → Emits before at (123 ∷ []) out1 a1 → (out2 : List ℕ) (a2 : ℕ)
-      → FormsMembers (structAt (datainfoIn levels) (drop i s)) (objectEnd (value (depth - 1)) (drop (p + 1) v)) out1 a1 out2 a2 → Emits out2 a2 (125 ∷ []) after end
-      → Forms (structAt (datainfoIn levels) (drop i s)) (bare depth (drop p v)) before at after end
+      → FormsMembers (membersAt (datainfoIn levels) k (drop i s)) (objectEnd (value (depth - 1)) (drop (p + 1) v)) out1 a1 out2 a2 → Emits out2 a2 (125 ∷ []) after end
+      → FormsStruct (membersAt (datainfoIn levels) k (drop i s)) (bare depth (drop p v)) before at after end
   unfolding fit numbered within compact bytes
   struct-whole out1 a1 w out2 a2 x y = record {
-    is = λ {j = j} e f g. struct-some (datainfoIn levels) (drop i s) e λ n r fs a b o.
-        object-begins j (λ ms. cond (eachOnce (fieldNames fs) (keys ms)) (fieldsFit fs ms) wrongType) (rw o at g) λ ms t q.
-        has (as-object (shape depth (drop p v) f)) t λ u row. group-object (depth - 1) (drop (p + 1) v) (rw tail-drop at row) λ m b'.
-        let n = cond-fits (eachOnce (fieldNames fs) (keys ms)) (fieldsFit fs ms) q in
-        rw (o, t) (both (both w (x .is (rw o at e) b' (n .0) (n .1))) y);
+    is = λ {m = m} {j = j} e f g. object-begins j (membersFit (m .1)) g λ ms t q.
+        has (as-object (shape depth (drop p v) f)) t λ u row. group-object (depth - 1) (drop (p + 1) v) (rw tail-drop at row) λ y' b.
+        let n = cond-fits (eachOnce (fieldNames (m .1)) (keys ms)) (fieldsFit (m .1) ms) q in
+        rw t (both (both w (x .is e b (n .0) (n .1))) y);
   }

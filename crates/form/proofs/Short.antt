@@ -13,8 +13,8 @@ use Rattle.ascii.specs.Bytes.{_>>=_, part}
 use Rattle.ascii.specs.Numbers.{bigEndian, twosComplement, unsigned, signed, integer}
 use Rattle.ascii.proofs.Decimal.{integer-low}
 use Rattle.json.proofs.ReadAgain.{Of, failed, gave, of-cond, of-bind, of-some}
-use Rattle.datainfo.specs.Datainfo.{Variant, Datainfo, double, int, bool, enum, string, array, tuple, struct, scaled, blob, Elements, no-elements, element, Fields, no-fields, field}
-use Rattle.datainfo.specs.Layout.{counted, limit, doubleAt, intAt, variants, enumAt, stringAt, arrayAt, elements, tupleAt, fields, structAt, scaledAt, blobAt, typed, datainfoIn}
+use Rattle.datainfo.specs.Datainfo.{Variant, Datainfo, double, int, bool, enum, string, array, tuple, struct, scaled, blob, partial, Elements, no-elements, element, Fields, no-fields, field}
+use Rattle.datainfo.specs.Layout.{counted, limit, doubleAt, intAt, variants, enumAt, stringAt, arrayAt, elements, entry, joined, tupleAt, fields, structAt, partialAt, scaledAt, blobAt, typed, datainfoIn}
 
 abbrev pub ShortNumbers : List Variant → Type 0
 ShortNumbers [] = Unit {0}
@@ -32,6 +32,7 @@ abbrev mutual
   Short (struct fs) = ShortFields fs
   Short (scaled s lo hi) = Unit {0}
   Short (blob lo hi) = Unit {0}
+  Short (partial ns fs) = ShortFields fs
 
   pub ShortElements : Elements → Type 0
   ShortElements no-elements = Unit {0}
@@ -111,15 +112,19 @@ module _ (inner : List ℕ → Option (Datainfo × List ℕ)) (g : Gives inner) 
   unfolding tupleAt
   tuple-short xs = of-bind (anything (unsigned 1 xs)) λ n _. of-bind (elements-short (n .0) (n .1)) λ ds h. gave h
 
-  fields-short : (n : ℕ) (xs : List ℕ) → Of (λ p. ShortFields (p .0)) (fields inner n xs)
-  unfolding fields
-  fields-short zero xs = gave tt
-  fields-short (suc n) xs =
-      of-bind (anything (counted xs)) λ k _. of-bind (g (k .1)) λ d h. of-bind (fields-short n (d .1)) λ fs i. gave (h, i)
+  fields-short : (k n : ℕ) (xs : List ℕ) → Of (λ p. ShortFields (p .0 .1)) (fields inner k n xs)
+  unfolding fields joined
+  fields-short k zero xs = gave tt
+  fields-short k (suc n) xs =
+      of-bind (anything (entry k xs)) λ e _. of-bind (g (e .1)) λ d h. of-bind (fields-short k n (d .1)) λ m i. gave (h, i)
 
   struct-short : Gives (structAt inner)
   unfolding structAt
-  struct-short xs = of-bind (anything (unsigned 1 xs)) λ n _. of-bind (fields-short (n .0) (n .1)) λ fs h. gave h
+  struct-short xs = of-bind (anything (unsigned 1 xs)) λ n _. of-bind (fields-short 8 (n .0) (n .1)) λ m h. gave h
+
+  partial-short : Gives (partialAt inner)
+  unfolding partialAt
+  partial-short xs = of-bind (anything (unsigned 1 xs)) λ n _. of-bind (fields-short 11 (n .0) (n .1)) λ m h. gave h
 
   typed-short : (k : ℕ) → Gives (typed inner k)
   unfolding typed
@@ -134,7 +139,8 @@ module _ (inner : List ℕ → Option (Datainfo × List ℕ)) (g : Gives inner) 
       (of-cond (eqb k 8) (struct-short xs)
       (of-cond (eqb k 9) (scaled-short xs)
       (of-cond (eqb k 10) (blob-short xs)
-      failed)))))))))
+      (of-cond (eqb k 11) (partial-short xs)
+      failed))))))))))
 
 datainfo-short : (n : ℕ) → Gives (datainfoIn n)
 unfolding datainfoIn

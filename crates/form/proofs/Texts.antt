@@ -111,7 +111,7 @@ module _ (s : List ℕ) (info : ℕ) (xs out : List ℕ) (at : ℕ) (g : FitsAt 
       let ends = form-there (g .reads .is) (g .fits) .ends in
       record { order = omega arith; short = omega arith; is = λ e. form-there e (rw (same-read (g .reads .is) e) at (g .fits)) }
 
-front : (out bs : List ℕ) → length bs ≤ length out → take (length bs) (sets out 0 bs) ≡ bs
+pub front : (out bs : List ℕ) → length bs ≤ length out → take (length bs) (sets out 0 bs) ≡ bs
 front out bs h = rw (sets-eq bs out 0 (omega arith)) (take-at bs (drop (0 + length bs) out) (length bs) refl)
 
 -- what was written into 256 bytes

@@ -14,16 +14,16 @@ use Rattle.ascii.specs.declared.Unsigned as U
 use Rattle.ascii.specs.declared.Unsigned.{Unsigned}
 use Rattle.ascii.specs.Numbers.{unsigned, signed}
 use Rattle.ascii.specs.Read.{ReadsUnsigned}
-use Rattle.ascii.specs.Reader.{Left}
 use Rattle.json.specs.Json as Json
 use Rattle.json.specs.Json.{Json, null, boolean, skip, scalar, bare, value, text, compact}
 use Rattle.datainfo.specs.Datainfo.{Datainfo, double, int, bool, string, scaled, blob}
-use Rattle.datainfo.specs.Layout.{limit, doubleAt, intAt, stringAt, enumAt, arrayAt, tupleAt, structAt, scaledAt, blobAt, typed, datainfoIn}
+use Rattle.datainfo.specs.Layout.{limit, doubleAt, intAt, stringAt, enumAt, arrayAt, tupleAt, scaledAt, blobAt, typed, datainfoIn}
+use Rattle.datainfo.specs.Members.{membersAt}
+use Rattle.datainfo.proofs.Structs.{struct-members, partial-members}
 use Rattle.emit.specs.Emitted.{Emits}
-use Rattle.fit.specs.Fit.{Verdict, fits, expect, asNumber, asBoolean, asString, asArray, asObject, doubleFit, wholeFit, betweenIntegers, stringFit, blobFit, fit, numbered, formOf, storedForm}
+use Rattle.fit.specs.Fit.{Verdict, fits, expect, asNumber, asBoolean, asString, asArray, asObject, doubleFit, wholeFit, betweenIntegers, stringFit, blobFit, fit, numbered, storedForm}
 use Rattle.fit.proofs.Shapes.{nothing, just, steps, either}
-use Rattle.fit.proofs.Items.{unspaced}
-use Rattle.form.specs.Formed.{Copies, Forms, FormsText, FormIsLong}
+use Rattle.form.specs.Formed.{Copies, Forms, FormsStruct, FormsText, FormIsLong}
 use Rattle.form.proofs.Scalars.{Single, number-single, bare-scalar}
 
 -- ## Types that hold no values and no names
@@ -75,10 +75,10 @@ unfolding fit numbered
 blob-plain lo hi j e = (string-single j (blobFit lo hi) e, refl)
 
 -- the type byte k of any other type
-typed-plain : (f : List ℕ → Option (Datainfo × List ℕ)) (k : ℕ) (xs : List ℕ) {d : Datainfo} {x : List ℕ} → (k ≡ 4 → ⊥) → (k ≡ 6 → ⊥) → (k ≡ 7 → ⊥) → (k ≡ 8 → ⊥)
+typed-plain : (f : List ℕ → Option (Datainfo × List ℕ)) (k : ℕ) (xs : List ℕ) {d : Datainfo} {x : List ℕ} → (k ≡ 4 → ⊥) → (k ≡ 6 → ⊥) → (k ≡ 7 → ⊥) → (k ≡ 8 → ⊥) → (k ≡ 11 → ⊥)
     → typed f k xs ≡ some (d, x) → Plain d
 unfolding typed doubleAt intAt stringAt scaledAt blobAt
-typed-plain f k xs n4 n6 n7 n8 e =
+typed-plain f k xs n4 n6 n7 n8 n11 e =
     either k 1 _ _ e (λ _ e. steps (limit xs) _ e λ p a e. steps (limit (p .1)) _ e λ q b e. rw (← (ap (λ p. p .0) (just e))) (double-plain (p .0) (q .0))) λ _ e.
     either k 2 _ _ e (λ _ e. steps (signed 8 xs) _ e λ p a e. steps (signed 8 (p .1)) _ e λ q b e. rw (← (ap (λ p. p .0) (just e))) (int-plain (p .0) (q .0))) λ _ e.
     either k 3 _ _ e (λ _ e. rw (← (ap (λ p. p .0) (just e))) bool-plain) λ _ e.
@@ -88,7 +88,8 @@ typed-plain f k xs n4 n6 n7 n8 e =
     either k 7 _ _ e (λ z _. absurd (n7 z)) λ _ e.
     either k 8 _ _ e (λ z _. absurd (n8 z)) λ _ e.
     either k 9 _ _ e (λ _ e. steps (limit xs) _ e λ s c e. steps (signed 8 (s .1)) _ e λ p a e. steps (signed 8 (p .1)) _ e λ q b e. rw (← (ap (λ p. p .0) (just e))) (scaled-plain (s .0) (p .0) (q .0))) λ _ e.
-    either k 10 _ _ e (λ _ e. steps (unsigned 2 xs) _ e λ p a e. steps (unsigned 2 (p .1)) _ e λ q b e. rw (← (ap (λ p. p .0) (just e))) (blob-plain (p .0) (q .0))) λ _ e. absurd (nothing e)
+    either k 10 _ _ e (λ _ e. steps (unsigned 2 xs) _ e λ p a e. steps (unsigned 2 (p .1)) _ e λ q b e. rw (← (ap (λ p. p .0) (just e))) (blob-plain (p .0) (q .0))) λ _ e.
+    either k 11 _ _ e (λ z _. absurd (n11 z)) λ _ e. absurd (nothing e)
 
 -- ## By the type byte
 
@@ -100,7 +101,7 @@ module _ {o : Option (Datainfo × List ℕ)} {q : Option (Json × List ℕ)} {be
   forms-like e h = rw e h
 
 -- the type byte b, and what follows it
-is-typed : (s : List ℕ) (i levels : ℕ) → (levels ≡ 0 → ⊥) → (u : Unsigned) → ReadsUnsigned s u (unsigned 1 (drop i s)) → (b inner : ℕ)
+pub is-typed : (s : List ℕ) (i levels : ℕ) → (levels ≡ 0 → ⊥) → (u : Unsigned) → ReadsUnsigned s u (unsigned 1 (drop i s)) → (b inner : ℕ)
     → u ≡ U.the-variants.Read b inner → datainfoIn levels (drop i s) ≡ typed (datainfoIn (levels - 1)) b (drop inner s)
 unfolding datainfoIn
 is-typed s i levels n u k b inner e = go levels n
@@ -136,9 +137,18 @@ module _ (s : List ℕ) (i levels : ℕ) (q : Option (Json × List ℕ)) {before
       unfolding typed
       forms-tuple z h = forms-like (is-typed s i levels n u k b inner e) (rw z h)
 
-      pub forms-struct : b ≡ 8 → Forms (structAt (datainfoIn (levels - 1)) (drop inner s)) q before at after end → Forms (datainfoIn levels (drop i s)) q before at after end
+      pub forms-struct : b ≡ 8 → FormsStruct (membersAt (datainfoIn (levels - 1)) 8 (drop inner s)) q before at after end
+          → Forms (datainfoIn levels (drop i s)) q before at after end
       unfolding typed
-      forms-struct z h = forms-like (is-typed s i levels n u k b inner e) (rw z h)
+      forms-struct z h = forms-like (is-typed s i levels n u k b inner e)
+          (rw z (record { is = λ f g x. struct-members (datainfoIn (levels - 1)) (drop inner s) f λ m a o. rw o (h .is a g (rw o at x)) }))
+
+      -- inside a value type 11 is as type 8
+      pub forms-partial : b ≡ 11 → FormsStruct (membersAt (datainfoIn (levels - 1)) 11 (drop inner s)) q before at after end
+          → Forms (datainfoIn levels (drop i s)) q before at after end
+      unfolding typed fit numbered
+      forms-partial z h = forms-like (is-typed s i levels n u k b inner e)
+          (rw z (record { is = λ f g x. partial-members (datainfoIn (levels - 1)) (drop inner s) f λ m a o. rw o (h .is a g (rw o at x)) }))
 
 module _ (s : List ℕ) (i levels : ℕ) (v : List ℕ) (p depth : ℕ) {before after : List ℕ} {at end : ℕ} (n : levels ≡ 0 → ⊥) (u : Unsigned)
     (k : ReadsUnsigned s u (unsigned 1 (drop i s))) (b inner : ℕ) (e : u ≡ U.the-variants.Read b inner) where
@@ -146,11 +156,11 @@ module _ (s : List ℕ) (i levels : ℕ) (v : List ℕ) (p depth : ℕ) {before 
       → Forms (datainfoIn levels (drop i s)) (bare depth (drop p v)) before at after end
   forms-enum-at z h = forms-enum s i levels (bare depth (drop p v)) n u k b inner e z (h depth)
 
-  pub forms-plain : (b ≡ 4 → ⊥) → (b ≡ 6 → ⊥) → (b ≡ 7 → ⊥) → (b ≡ 8 → ⊥) → Copies (scalar (drop p v)) before at after end
+  pub forms-plain : (b ≡ 4 → ⊥) → (b ≡ 6 → ⊥) → (b ≡ 7 → ⊥) → (b ≡ 8 → ⊥) → (b ≡ 11 → ⊥) → Copies (scalar (drop p v)) before at after end
       → Forms (datainfoIn levels (drop i s)) (bare depth (drop p v)) before at after end
-  forms-plain n4 n6 n7 n8 w = record {
+  forms-plain n4 n6 n7 n8 n11 w = record {
     is = λ {j = j} f g h.
-        let t = typed-plain (datainfoIn (levels - 1)) b (drop inner s) n4 n6 n7 n8 (sym (is-typed s i levels n u k b inner e) ∙ f) j h in
+        let t = typed-plain (datainfoIn (levels - 1)) b (drop inner s) n4 n6 n7 n8 n11 (sym (is-typed s i levels n u k b inner e) ∙ f) j h in
         rw (t .1) (w .is (bare-scalar depth (drop p v) g (t .0 .0) (t .0 .1)));
   }
 
@@ -163,13 +173,6 @@ text-value {S} xs {j} e f = steps (value 8 xs) _ e λ p a e. go (eqb (length (p 
     go : (b : Bool) (p : Json × List ℕ) → value 8 xs ≡ some p → cond b (some (p .0)) none ≡ some j → S
     go true p a e = f (p .1) (a ∙ ap (λ j. some (j, p .1)) (just e))
     go false p a e = absurd (nothing e)
-
-pub forms-text : (s : List ℕ) (i : ℕ) (v : List ℕ) (p : ℕ) (before after : List ℕ) (at end : ℕ) → Left v p (skip (drop 0 v))
-    → Forms (datainfoIn 4 (drop i s)) (bare 8 (drop p v)) before at after end → FormsText (datainfoIn 4 (drop i s)) v before at after end
-unfolding storedForm formOf
-forms-text s i v p before after at end l h = record {
-  is = λ {j = j} e q f. rw q (text-value v q λ y a. unspaced 8 v a λ y' b. h .is e (rw (l .is) at b) f);
-}
 
 -- a form that is written nowhere is measured
 pub form-measured : (o : Option (Datainfo × List ℕ)) (v before after : List ℕ) (n : ℕ) → FormsText o v before 0 after n → FormIsLong o v n

@@ -5,7 +5,7 @@ use mathlib.Core.List.{List}
 use mathlib.Core.Option.{Option, none, some}
 use Rattle.ascii.specs.Bytes.{isSome}
 use Rattle.json.specs.Json.{Json, Items, no-items, item, Members}
-use Rattle.datainfo.specs.Datainfo.{Datainfo, double, int, bool, enum, string, array, tuple, struct, scaled, blob, Elements, no-elements, element, Fields, no-fields, field}
+use Rattle.datainfo.specs.Datainfo.{Datainfo, double, int, bool, enum, string, array, tuple, struct, scaled, blob, partial, Elements, no-elements, element, Fields, no-fields, field}
 use Rattle.fit.specs.Fit.{asNumber, asArray, asObject, valueAt}
 
 -- a test of what a value of one kind holds; any other value passes
@@ -29,6 +29,7 @@ unfoldable mutual
   numbersOnly (struct fs) v = ifAny (asObject v) λ ms. fieldsNumbersOnly fs ms
   numbersOnly (scaled s lo hi) v = true
   numbersOnly (blob lo hi) v = true
+  numbersOnly (partial ns fs) v = ifAny (asObject v) λ ms. fieldsNumbersOnly fs ms
 
   pub elementsNumbersOnly : Elements → Items → Bool
   elementsNumbersOnly no-elements is = true

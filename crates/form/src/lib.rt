@@ -11,6 +11,7 @@ ghost use Rattle.form.specs.Theorems.{StoredForms};
 ghost use Rattle.json.specs.Json.{text};
 ghost use Rattle.ascii.specs.Bytes.{isSome};
 
+pub mod complete;
 pub mod write;
 
 use ascii::names::same;

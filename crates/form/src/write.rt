@@ -5,23 +5,26 @@ ghost use mathlib.Core.Path.{_≡_};
 ghost use Prim.Native.Nat.{ℕ, _+_, _≤_, _<_};
 ghost use lib.ListN.{length, drop};
 ghost use Rattle.json.specs.Json.{scalar, bare, value, arrayEnd, objectEnd};
-ghost use Rattle.datainfo.specs.Layout.{enumAt, arrayAt, tupleAt, structAt, datainfoIn};
-ghost use Rattle.form.specs.Formed.{Copies, PutsNumber, Forms, FormsItem, FormsItems, FormsElements, FieldIn, FormsMember, FormsMembers, FormsText, FormIsLong};
+ghost use Rattle.datainfo.specs.Layout.{enumAt, arrayAt, tupleAt, datainfoIn};
+ghost use Rattle.datainfo.specs.Members.{membersAt};
+ghost use Rattle.form.specs.Formed.{Copies, PutsNumber, Forms, FormsItem, FormsItems, FormsElements, FieldIn, FormsMember, FormsMembers, FormsStruct, FormsField, FormsFields, FormsOrdered, FormsText, FormIsLong};
 use ascii::Next;
 use ascii::Signed;
 use ascii::Unsigned;
 use ascii::byte;
 use ascii::names::same;
 use ascii::numbers::unsigned;
-use datainfo::layout::counted_end;
 use datainfo::layout::datainfo_end;
+use datainfo::layout::field_end;
+use datainfo::layout::named_end;
 use datainfo::layout::part_end;
-use datainfo::rules::name_at;
+use datainfo::rules::named_at;
 use emit::emit;
 use emit::emit_comma;
 use emit::emit_integer;
 use emit::emit_key;
 use fit::member::number_of;
+use fit::object::find_key;
 use fit::walk::first;
 use fit::walk::key_at;
 use fit::walk::member_value;
@@ -64,10 +67,10 @@ fn put_choice(out: &mut [u8], at: usize, s: &[u8], i: usize, v: &[u8], p: usize)
     put_scalar(out, at, v, p)
 }
 
-// Where the datainfo of the first field of a name is, of a struct past its type byte.
-fn field_at(s: &[u8], i: usize, levels: usize, name: &[u8]) -> Next
+// Where the datainfo of the first field of a name is, of a struct past its type byte k.
+fn field_at(s: &[u8], i: usize, levels: usize, k: u8, name: &[u8]) -> Next
     requires { ⌜ i ≤ length (now s) ⌝ }
-    ensures { λ r. ⌜ FieldIn (structAt (datainfoIn levels) (drop i (now (s .entry)))) (now (s .entry)) levels (now (name .entry)) r ⌝ }
+    ensures { λ r. ⌜ FieldIn (membersAt (datainfoIn levels) k (drop i (now (s .entry)))) (now (s .entry)) levels (now (name .entry)) r ⌝ }
 {
     let Unsigned::Read(count, from) = unsigned(s, i, 1) else {
         return Next::Bad;
@@ -75,10 +78,10 @@ fn field_at(s: &[u8], i: usize, levels: usize, name: &[u8]) -> Next
     let mut field = from;
     let mut left = count;
     while 0 < left {
-        let Next::At(inner) = counted_end(s, field) else {
+        let Next::At(inner) = named_end(s, field, k) else {
             return Next::Bad;
         };
-        if same(name_at(s, field), name) {
+        if same(named_at(s, field, k), name) {
             return Next::At(inner);
         }
         let Next::At(e) = datainfo_end(s, inner, levels) else {
@@ -235,15 +238,16 @@ fn put_member(
     s: &[u8],
     i: usize,
     levels: usize,
+    k: u8,
     v: &[u8],
     j: usize,
     depth: usize,
 ) -> usize
     requires { ⌜ (i ≤ length (now s)) × (j ≤ length (now v)) ⌝ }
-    ensures { λ r. ⌜ FormsMember (structAt (datainfoIn levels) (drop i (now (s .entry)))) depth (drop j (now (v .entry))) (now (out .entry)) at (now (out .exit)) r ⌝ }
+    ensures { λ r. ⌜ FormsMember (membersAt (datainfoIn levels) k (drop i (now (s .entry)))) depth (drop j (now (v .entry))) (now (out .entry)) at (now (out .exit)) r ⌝ }
 {
     let name = key_at(v, j);
-    let Next::At(inner) = field_at(s, i, levels, name) else {
+    let Next::At(inner) = field_at(s, i, levels, k, name) else {
         return at;
     };
     let Next::At(q) = member_value(v, j) else {
@@ -260,12 +264,13 @@ fn put_members(
     s: &[u8],
     i: usize,
     levels: usize,
+    k: u8,
     v: &[u8],
     p: usize,
     depth: usize,
 ) -> usize
     requires { ⌜ (i ≤ length (now s)) × (p < length (now v)) ⌝ }
-    ensures { λ r. ⌜ FormsMembers (structAt (datainfoIn levels) (drop i (now (s .entry)))) (objectEnd (value depth) (drop (p + 1) (now (v .entry)))) (now (out .entry)) at (now (out .exit)) r ⌝ }
+    ensures { λ r. ⌜ FormsMembers (membersAt (datainfoIn levels) k (drop i (now (s .entry)))) (objectEnd (value depth) (drop (p + 1) (now (v .entry)))) (now (out .entry)) at (now (out .exit)) r ⌝ }
 {
     let mut a = at;
     let mut member = first(v, p + 1, b'}');
@@ -276,7 +281,7 @@ fn put_members(
             return a;
         };
         let c = emit_comma(out, a, start);
-        a = put_member(out, c, s, i, levels, v, j, depth);
+        a = put_member(out, c, s, i, levels, k, v, j, depth);
         start = false;
         member = next_member(v, j, depth);
         left -= 1;
@@ -290,12 +295,13 @@ fn put_struct(
     s: &[u8],
     i: usize,
     levels: usize,
+    k: u8,
     v: &[u8],
     p: usize,
     depth: usize,
 ) -> usize
     requires { ⌜ (i ≤ length (now s)) × (p ≤ length (now v)) ⌝ }
-    ensures { λ r. ⌜ Forms (structAt (datainfoIn levels) (drop i (now (s .entry)))) (bare depth (drop p (now (v .entry)))) (now (out .entry)) at (now (out .exit)) r ⌝ }
+    ensures { λ r. ⌜ FormsStruct (membersAt (datainfoIn levels) k (drop i (now (s .entry)))) (bare depth (drop p (now (v .entry)))) (now (out .entry)) at (now (out .exit)) r ⌝ }
 {
     if depth == 0 {
         return at;
@@ -304,7 +310,7 @@ fn put_struct(
         return at;
     }
     let a = emit(out, at, b"{");
-    let b = put_members(out, a, s, i, levels, v, p, depth - 1);
+    let b = put_members(out, a, s, i, levels, k, v, p, depth - 1);
     emit(out, b, b"}")
 }
 
@@ -338,9 +344,84 @@ fn put_value(
         return put_tuple(out, at, s, inner, levels - 1, v, p, depth);
     }
     if k == 8 {
-        return put_struct(out, at, s, inner, levels - 1, v, p, depth);
+        return put_struct(out, at, s, inner, levels - 1, 8, v, p, depth);
+    }
+    if k == 11 {
+        return put_struct(out, at, s, inner, levels - 1, 11, v, p, depth);
     }
     put_scalar(out, at, v, p)
+}
+
+// The member of a name of a struct of type 11, from the object past the '{' at p.
+pub(crate) fn put_field(
+    out: &mut [u8],
+    at: usize,
+    s: &[u8],
+    i: usize,
+    levels: usize,
+    v: &[u8],
+    p: usize,
+    depth: usize,
+    name: &[u8],
+) -> usize
+    requires { ⌜ (i ≤ length (now s)) × (p < length (now v)) ⌝ }
+    ensures { λ r. ⌜ FormsField (membersAt (datainfoIn levels) 11 (drop i (now (s .entry)))) (objectEnd (value depth) (drop (p + 1) (now (v .entry)))) (now (name .entry)) (now (out .entry)) at (now (out .exit)) r ⌝ }
+{
+    let Next::At(inner) = field_at(s, i, levels, 11, name) else {
+        return at;
+    };
+    let Next::At(q) = find_key(v, p + 1, depth, name) else {
+        return at;
+    };
+    let a = emit_key(out, at, name);
+    put_value(out, a, s, inner, levels, v, q, depth)
+}
+
+// The members of a struct of type 11 in table order, from the object past the '{' at p.
+fn put_fields(
+    out: &mut [u8],
+    at: usize,
+    s: &[u8],
+    i: usize,
+    levels: usize,
+    v: &[u8],
+    p: usize,
+    depth: usize,
+) -> usize
+    requires { ⌜ (i ≤ length (now s)) × (p < length (now v)) ⌝ }
+    ensures { λ r. ⌜ FormsFields (membersAt (datainfoIn levels) 11 (drop i (now (s .entry)))) (objectEnd (value depth) (drop (p + 1) (now (v .entry)))) (now (out .entry)) at (now (out .exit)) r ⌝ }
+{
+    let Unsigned::Read(count, from) = unsigned(s, i, 1) else {
+        return at;
+    };
+    let mut a = at;
+    let mut field = from;
+    let mut left = count;
+    let mut start = true;
+    while 0 < left {
+        let Next::At(e) = field_end(s, field, levels, 11) else {
+            return a;
+        };
+        let c = emit_comma(out, a, start);
+        a = put_field(out, c, s, i, levels, v, p, depth, named_at(s, field, 11));
+        start = false;
+        field = e;
+        left -= 1;
+    }
+    a
+}
+
+// A value at the top level of type 11, past its type byte: its members in table order.
+fn put_ordered(out: &mut [u8], at: usize, s: &[u8], i: usize, v: &[u8], p: usize) -> usize
+    requires { ⌜ (i ≤ length (now s)) × (p ≤ length (now v)) ⌝ }
+    ensures { λ r. ⌜ FormsOrdered (membersAt (datainfoIn 3) 11 (drop i (now (s .entry)))) (bare 8 (drop p (now (v .entry)))) (now (out .entry)) at (now (out .exit)) r ⌝ }
+{
+    if v.len() <= p {
+        return at;
+    }
+    let a = emit(out, at, b"{");
+    let b = put_fields(out, a, s, i, 3, v, p, 7);
+    emit(out, b, b"}")
 }
 
 // The stored form of a text that fits the datainfo at a position of the table: written where there is room, counted in any case.
@@ -348,7 +429,14 @@ pub fn put_text(s: &[u8], i: usize, out: &mut [u8], at: usize, v: &[u8]) -> usiz
     requires { ⌜ i ≤ length (now s) ⌝ }
     ensures { λ r. ⌜ FormsText (datainfoIn 4 (drop i (now (s .entry)))) (now (v .entry)) (now (out .entry)) at (now (out .exit)) r ⌝ }
 {
-    put_value(out, at, s, i, 4, v, spaces_end(v, 0), 8)
+    let p = spaces_end(v, 0);
+    let Unsigned::Read(k, inner) = unsigned(s, i, 1) else {
+        return at;
+    };
+    if k == 11 {
+        return put_ordered(out, at, s, inner, v, p);
+    }
+    put_value(out, at, s, i, 4, v, p, 8)
 }
 
 // How long the stored form is: it is written nowhere.

@@ -1,2 +1,3 @@
 pub mod Demand
 pub mod Lines
+pub mod Chatter

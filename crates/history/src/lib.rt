@@ -1,8 +1,9 @@
-// Demand 3 about the code, as promises: nothing is run.
+// Demand 3 and request M-112 about the code, as promises: nothing is run.
 ghost use mathlib.Core.Bool.{true};
 ghost use mathlib.Core.Path.{_≡_};
 ghost use Rattle.history.specs.Demand.{Demand3, BytesAreRead};
 ghost use Rattle.history.specs.Lines.{LinesAreSent};
+ghost use Rattle.history.specs.Chatter.{ChatterDoesNotReachTheCode};
 
 // In every history, answers and end are the plain node's; after an accepted start every second history sends the same bytes and ends equal.
 pub fn demand_3() -> bool
@@ -21,6 +22,14 @@ pub fn bytes_are_read() -> bool
 // Each final reply and each update is one line: bytes 32 to 126, and its line feed.
 pub fn lines_are_sent() -> bool
     ensures { λ r. ⌜ (r ≡ true) × LinesAreSent ⌝ }
+{
+    true
+}
+
+// With other clients' lines left out that are not accepted changes, what is read off the bytes for a client is the same, and so are all values,
+// errors and its counts; the driver's orders are the same less the left-out commands.
+pub fn chatter_does_not_reach() -> bool
+    ensures { λ r. ⌜ (r ≡ true) × ChatterDoesNotReachTheCode ⌝ }
 {
     true
 }

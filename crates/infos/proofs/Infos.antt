@@ -221,9 +221,13 @@ module _ (k : ℕ) {d e : List ℕ} {at r : ℕ} where
   unfolding closing
   closing-tuple z x = rw z x
 
-  pub closing-other : (k ≡ 7 → ⊥) → Emits d at (bytes "}}") e r → Emits d at (closing k) e r
+  pub closing-partial : k ≡ 11 → Emits d at (bytes "},\"optional\":[]}") e r → Emits d at (closing k) e r
   unfolding closing
-  closing-other z x = rw (ne-eqb k 7 z) x
+  closing-partial z x = rw z x
+
+  pub closing-other : (k ≡ 7 → ⊥) → (k ≡ 11 → ⊥) → Emits d at (bytes "}}") e r → Emits d at (closing k) e r
+  unfolding closing
+  closing-other y z x = rw (ne-eqb k 7 y, ne-eqb k 11 z) x
 
 module _ (s : List ℕ) (i : ℕ) {d e : List ℕ} {at r : ℕ} (q : S.Signed) (h : ReadsSigned s q (signed 4 (drop i s))) where
   pub number-none : q ≡ S.the-variants.Short → Says (told integer (signed 4 (drop i s))) d at e r

@@ -1,3 +1,4 @@
 pub mod Infos
 pub mod Lists
 pub mod Nested
+pub mod Own

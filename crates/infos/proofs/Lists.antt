@@ -12,9 +12,9 @@ use Rattle.ascii.specs.Numbers.{integer, unsigned, signed}
 use Rattle.ascii.specs.Reader.{rest}
 use Rattle.json.specs.Json.{Json, Items, no-items, item, Members, no-members, member, quoted, compact, compactItems, moreItems, compactMembers, moreMembers}
 use Rattle.datainfo.specs.Datainfo as Datainfo
-use Rattle.datainfo.specs.Datainfo.{Datainfo, Variant, Elements, Fields}
-use Rattle.datainfo.specs.Layout.{counted, variants, enumAt, elements, tupleAt, fields, structAt}
-use Rattle.datainfo.specs.Members.{afterHeld, afterMember}
+use Rattle.datainfo.specs.Datainfo.{Datainfo, Variant, Elements, Fields, Parts}
+use Rattle.datainfo.specs.Layout.{counted, flagged, entry, joined, variants, enumAt, elements, tupleAt, fields, structAt, partialAt}
+use Rattle.datainfo.specs.Members.{afterHeld, afterMember, membersAt}
 use Rattle.datainfo.proofs.Ends.{signed-rest}
 use Rattle.report.specs.Report.{variantValues, elementValues, fieldValues, datainfoValue}
 use Rattle.emit.specs.Emitted.{comma, told}
@@ -30,11 +30,11 @@ module _ (inner : List ℕ → Option (Datainfo × List ℕ)) where
   variant-same first k v vs = rw (listed-more (variantValues vs))
 
   variants-text : (first : Bool) (n : ℕ) (xs : List ℕ) → membersText inner 4 first n xs ≡ told (λ vs. listed first (variantValues vs)) (variants n xs)
-  unfolding membersText memberText heldText variants variantValues listed
+  unfolding membersText memberText heldText entry flagged variants variantValues listed
   variants-text first zero xs = refl
   variants-text first (suc n) xs = go (counted xs) (variants-text false n)
     where
-      go : (o : Option (List ℕ × List ℕ)) → ((ys : List ℕ) → membersText inner 4 false n ys ≡ told (λ vs. listed false (variantValues vs)) (variants n ys)) → ((o >>= λ m. told (λ t. quoted (m .0) ++ bytes ":" ++ t) (told integer (signed 4 (m .1)))) >>= λ p. told (λ t. comma first ++ p .0 ++ t) (membersText inner 4 false n (p .1))) ≡ told (λ vs. listed first (variantValues vs)) (o >>= λ m. signed 4 (m .1) >>= λ v. variants n (v .1) >>= λ w. some (record { name = m .0; number = v .0 } ∷ w .0, w .1))
+      go : (o : Option (List ℕ × List ℕ)) → ((ys : List ℕ) → membersText inner 4 false n ys ≡ told (λ vs. listed false (variantValues vs)) (variants n ys)) → (((o >>= λ q. some ((false, q .0), q .1)) >>= λ (m : (Bool × List ℕ) × List ℕ). told (λ t. quoted (m .0 .1) ++ bytes ":" ++ t) (told integer (signed 4 (m .1)))) >>= λ p. told (λ t. comma first ++ p .0 ++ t) (membersText inner 4 false n (p .1))) ≡ told (λ vs. listed first (variantValues vs)) (o >>= λ m. signed 4 (m .1) >>= λ v. variants n (v .1) >>= λ w. some (record { name = m .0; number = v .0 } ∷ w .0, w .1))
       go none ih = refl
       go (some m) ih =
           rw (told-told (λ t. quoted (m .0) ++ bytes ":" ++ t) integer (signed 4 (m .1)))
@@ -54,21 +54,45 @@ module _ (inner : List ℕ → Option (Datainfo × List ℕ)) where
   unfolding listed fieldValues datainfoText
   field-same first k d fs = rw (listed-more (fieldValues fs))
 
-  fields-text : (first : Bool) (n : ℕ) (xs : List ℕ) → membersText inner 8 first n xs ≡ told (λ fs. listed first (fieldValues fs)) (fields inner n xs)
+  -- the members of a struct, of either type
+  abbrev fieldsListed : Bool → Parts → List ℕ
+  fieldsListed first m = listed first (fieldValues (m .1))
+
+  joined-same : (first : Bool) (e : Bool × List ℕ) (d : Datainfo) (m : Parts)
+      → fieldsListed first (joined e d m) ≡ comma first ++ (quoted (e .1) ++ bytes ":" ++ datainfoText d) ++ fieldsListed false m
+  unfolding joined
+  joined-same first e d m = field-same first (e .1) d (m .1)
+
+  fields-text : (k : ℕ) → eqb k 7 ≡ false → eqb k 4 ≡ false → (first : Bool) (n : ℕ) (xs : List ℕ)
+      → membersText inner k first n xs ≡ told (fieldsListed first) (fields inner k n xs)
   unfolding membersText memberText heldText fields fieldValues listed
-  fields-text first zero xs = refl
-  fields-text first (suc n) xs = go (counted xs) (fields-text false n)
+  fields-text k a b first zero xs = refl
+  fields-text k a b first (suc n) xs = rw a (go (entry k xs) (fields-text k a b false n))
     where
-      go : (o : Option (List ℕ × List ℕ)) → ((ys : List ℕ) → membersText inner 8 false n ys ≡ told (λ fs. listed false (fieldValues fs)) (fields inner n ys)) → ((o >>= λ m. told (λ t. quoted (m .0) ++ bytes ":" ++ t) (told datainfoText (inner (m .1)))) >>= λ p. told (λ t. comma first ++ p .0 ++ t) (membersText inner 8 false n (p .1))) ≡ told (λ fs. listed first (fieldValues fs)) (o >>= λ m. inner (m .1) >>= λ v. fields inner n (v .1) >>= λ w. some (Datainfo.field (m .0) (v .0) (w .0), w .1))
+      go : (o : Option ((Bool × List ℕ) × List ℕ)) → ((ys : List ℕ) → membersText inner k false n ys ≡ told (fieldsListed false) (fields inner k n ys))
+          → ((o >>= λ m. told (λ t. quoted (m .0 .1) ++ bytes ":" ++ t) (heldText inner k (m .1))) >>= λ p. told (λ t. comma first ++ p .0 ++ t) (membersText inner k false n (p .1)))
+          ≡ told (fieldsListed first) (o >>= λ m. inner (m .1) >>= λ v. fields inner k n (v .1) >>= λ w. some (joined (m .0) (v .0) (w .0), w .1))
       go none ih = refl
       go (some m) ih =
-          rw (told-told (λ t. quoted (m .0) ++ bytes ":" ++ t) datainfoText (inner (m .1)))
-          (list-step first (λ d. quoted (m .0) ++ bytes ":" ++ datainfoText d) (λ fs. listed first (fieldValues fs)) (λ fs. listed false (fieldValues fs)) (Datainfo.field (m .0)) (field-same first (m .0)) (fields inner n) (membersText inner 8 false n) ih (inner (m .1)))
+          rw (b, told-told (λ t. quoted (m .0 .1) ++ bytes ":" ++ t) datainfoText (inner (m .1)))
+          (list-step first (λ d. quoted (m .0 .1) ++ bytes ":" ++ datainfoText d) (fieldsListed first) (fieldsListed false) (joined (m .0)) (joined-same first (m .0)) (fields inner k n) (membersText inner k false n) ih (inner (m .1)))
+
+  -- so what a count byte says is told
+  pub count-members : (xs : List ℕ) → countText inner 11 xs ≡ told (fieldsListed true) (membersAt inner 11 xs)
+  unfolding countText membersAt
+  count-members xs = go (unsigned 1 xs)
+    where
+      go : (o : Option (ℕ × List ℕ)) → (o >>= λ n. membersText inner 11 true (n .0) (n .1)) ≡ told (fieldsListed true) (o >>= λ p. fields inner 11 (p .0) (p .1))
+      go none = refl
+      go (some n) = fields-text 11 refl refl true (n .0) (n .1)
 
   -- ## A count byte and as many members
 
   closed : (x : List ℕ) (a b : ℕ) → x ++ (a ∷ []) ++ [] ++ (b ∷ []) ≡ x ++ (a ∷ b ∷ [])
   closed x a b = simp append-assoc
+
+  closed-with : (x q : List ℕ) → x ++ (125 ∷ []) ++ q ++ (125 ∷ []) ≡ x ++ (125 ∷ (q ++ (125 ∷ [])))
+  closed-with x q = simp append-assoc
 
   enum-is : (vs : List Variant) → datainfoText (Datainfo.enum vs) ≡ opening 4 ++ listed true (variantValues vs) ++ closing 4
   unfolding datainfoText datainfoValue compact compactMembers moreMembers quoted bytes opening closing
@@ -81,6 +105,10 @@ module _ (inner : List ℕ → Option (Datainfo × List ℕ)) where
   struct-is : (fs : Fields) → datainfoText (Datainfo.struct fs) ≡ opening 8 ++ listed true (fieldValues fs) ++ closing 8
   unfolding datainfoText datainfoValue compact compactMembers moreMembers quoted bytes opening closing
   struct-is fs = rw (listed-first (fieldValues fs)) (ap (λ (l : List ℕ). bytes "{\"type\":\"struct\",\"members\":{" ++ l) (closed (compactMembers (fieldValues fs)) 125 125))
+
+  partial-is : (ns : List (List ℕ)) (fs : Fields) → datainfoText (Datainfo.partial ns fs) ≡ opening 11 ++ listed true (fieldValues fs) ++ closing 11
+  unfolding datainfoText datainfoValue compact compactMembers moreMembers compactItems quoted bytes opening closing
+  partial-is ns fs = rw (listed-first (fieldValues fs)) (ap (λ (l : List ℕ). bytes "{\"type\":\"struct\",\"members\":{" ++ l) (closed-with (compactMembers (fieldValues fs)) (bytes ",\"optional\":[]")))
 
   -- members of the kind k, which f reads and g tells, made into a datainfo
   module _ {A : Type 0} (k : ℕ) (f : ℕ → List ℕ → Option (A × List ℕ)) (g : A → List ℕ) (m : A → Datainfo) (are : (n : ℕ) (xs : List ℕ) → membersText inner k true n xs ≡ told g (f n xs)) (same : (a : A) → datainfoText (m a) ≡ opening k ++ g a ++ closing k) where
@@ -106,7 +134,11 @@ module _ (inner : List ℕ → Option (Datainfo × List ℕ)) where
 
   pub struct-list : (xs : List ℕ) → listText inner 8 xs ≡ told datainfoText (structAt inner xs)
   unfolding structAt
-  struct-list xs = list-is 8 (fields inner) (λ fs. listed true (fieldValues fs)) Datainfo.struct (fields-text true) struct-is xs
+  struct-list xs = list-is 8 (fields inner 8) (fieldsListed true) (λ m. Datainfo.struct (m .1)) (fields-text 8 refl refl true) (λ m. struct-is (m .1)) xs
+
+  pub partial-list : (xs : List ℕ) → listText inner 11 xs ≡ told datainfoText (partialAt inner xs)
+  unfolding partialAt
+  partial-list xs = list-is 11 (fields inner 11) (fieldsListed true) (λ m. Datainfo.partial (m .0) (m .1)) (fields-text 11 refl refl true) (λ m. partial-is (m .0) (m .1)) xs
 
   -- ## What a member leaves
 
@@ -122,10 +154,10 @@ module _ (inner : List ℕ → Option (Datainfo × List ℕ)) where
   unfolding memberText afterMember
   member-rest k xs = go (eqb k 7)
     where
-      named : (o : Option (List ℕ × List ℕ)) → rest (o >>= λ n. told (λ t. quoted (n .0) ++ bytes ":" ++ t) (heldText inner k (n .1))) ≡ (rest o >>= afterHeld inner k)
+      named : (o : Option ((Bool × List ℕ) × List ℕ)) → rest (o >>= λ n. told (λ t. quoted (n .0 .1) ++ bytes ":" ++ t) (heldText inner k (n .1))) ≡ (rest o >>= afterHeld inner k)
       named none = refl
-      named (some n) = rest-told (λ t. quoted (n .0) ++ bytes ":" ++ t) (heldText inner k (n .1)) ∙ held-rest k (n .1)
+      named (some n) = rest-told (λ t. quoted (n .0 .1) ++ bytes ":" ++ t) (heldText inner k (n .1)) ∙ held-rest k (n .1)
 
-      go : (b : Bool) → rest (cond b (told datainfoText (inner xs)) (counted xs >>= λ n. told (λ t. quoted (n .0) ++ bytes ":" ++ t) (heldText inner k (n .1)))) ≡ cond b (rest (inner xs)) (rest (counted xs) >>= afterHeld inner k)
+      go : (b : Bool) → rest (cond b (told datainfoText (inner xs)) (entry k xs >>= λ n. told (λ t. quoted (n .0 .1) ++ bytes ":" ++ t) (heldText inner k (n .1)))) ≡ cond b (rest (inner xs)) (rest (entry k xs) >>= afterHeld inner k)
       go true = rest-told datainfoText (inner xs)
-      go false = named (counted xs)
+      go false = named (entry k xs)

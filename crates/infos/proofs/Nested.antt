@@ -17,26 +17,26 @@ use Rattle.ascii.specs.Reader.{Ends, rest}
 use Rattle.json.specs.Json.{quoted, compact, compactMembers, moreMembers}
 use Rattle.datainfo.specs.Datainfo as Datainfo
 use Rattle.datainfo.specs.Datainfo.{Datainfo}
-use Rattle.datainfo.specs.Layout.{counted, doubleAt, intAt, stringAt, arrayAt, scaledAt, blobAt, typed, datainfoIn}
+use Rattle.datainfo.specs.Layout.{entry, doubleAt, intAt, stringAt, arrayAt, scaledAt, blobAt, typed, datainfoIn}
 use Rattle.datainfo.specs.Members.{afterMember}
-use Rattle.datainfo.specs.Kept.{nameOf}
+use Rattle.datainfo.specs.Kept.{nameIn}
 use Rattle.datainfo.proofs.Ends.{no-byte, one-byte, datainfo-cut, datainfo-typed}
 use Rattle.report.specs.Report.{datainfoValue}
 use Rattle.emit.specs.Emitted.{Emits, comma, told, Says}
 use Rattle.infos.specs.Texts.{NameEnds, datainfoText, opening, closing, heldText, memberText, membersText, countText, listText}
 use Rattle.emit.proofs.Pieces.{both, nothing}
 use Rattle.emit.proofs.Says.{never, says-nothing, says-text, Leads, parts-none, parts-more}
-use Rattle.infos.proofs.Lists.{enum-list, tuple-list, struct-list, member-rest}
+use Rattle.infos.proofs.Lists.{enum-list, tuple-list, struct-list, partial-list, member-rest}
 
 -- past a member's name
-module _ (s : List ℕ) (i : ℕ) (q : Next) (e : Ends s q (rest (counted (drop i s)))) where
-  pub name-ends : (j : ℕ) → q ≡ At j → NameEnds s i j
+module _ (s : List ℕ) (i k : ℕ) (q : Next) (e : Ends s q (rest (entry k (drop i s)))) where
+  pub name-ends : (j : ℕ) → q ≡ At j → NameEnds s i k j
   name-ends j z = record { within = (rw z at e) .1; is = λ g. go (sym (ap rest g) ∙ (rw z at e) .0) }
     where
       go : {x y : List ℕ} → some x ≡ some y → x ≡ y
       go h = cc
 
-  pub nameless : i ≤ length s → q ≡ Bad → NameEnds s i i
+  pub nameless : i ≤ length s → q ≡ Bad → NameEnds s i k i
   nameless w z = record { within = w; is = λ g. absurd (never (sym (rw z at e) ∙ ap rest g)) }
 
 -- ## A member of the kind k
@@ -46,18 +46,18 @@ module _ (s : List ℕ) (i l k : ℕ) {d h : List ℕ} {at r : ℕ} where
   unfolding memberText
   member-plain z x = rw z x
 
-  module _ (n7 : k ≡ 7 → ⊥) (j : ℕ) (e : NameEnds s i j) {f : List ℕ} {p : ℕ} (x : Emits d at (quoted (nameOf (drop i s)) ++ bytes ":") f p) where
+  module _ (n7 : k ≡ 7 → ⊥) (j : ℕ) (e : NameEnds s i k j) {f : List ℕ} {p : ℕ} (x : Emits d at (quoted (nameIn k (drop i s)) ++ bytes ":") f p) where
     named : Says (heldText (datainfoIn l) k (drop j s)) f p h r → Says (memberText (datainfoIn l) k (drop i s)) d at h r
-    unfolding memberText nameOf
-    named y = rw (ne-eqb k 7 n7) (go (counted (drop i s)) refl x)
+    unfolding memberText nameIn
+    named y = rw (ne-eqb k 7 n7) (go (entry k (drop i s)) refl x)
       where
         held : (name : List ℕ) → Emits d at (quoted name ++ bytes ":") f p → (o : Option (List ℕ × List ℕ)) → Says o f p h r → Says (told (λ t. quoted name ++ bytes ":" ++ t) o) d at h r
         held name w none y = says-nothing refl
         held name w (some t) y = says-text refl (both w (y .is refl))
 
-        go : (o : Option (List ℕ × List ℕ)) → counted (drop i s) ≡ o → Emits d at (quoted (Option·getD (o >>= λ p. some (p .0)) []) ++ bytes ":") f p → Says (o >>= λ n. told (λ t. quoted (n .0) ++ bytes ":" ++ t) (heldText (datainfoIn l) k (n .1))) d at h r
+        go : (o : Option ((Bool × List ℕ) × List ℕ)) → entry k (drop i s) ≡ o → Emits d at (quoted (Option·getD (o >>= λ p. some (p .0 .1)) []) ++ bytes ":") f p → Says (o >>= λ n. told (λ t. quoted (n .0 .1) ++ bytes ":" ++ t) (heldText (datainfoIn l) k (n .1))) d at h r
         go none g w = says-nothing refl
-        go (some n) g w = rw (e .is g) (held (n .0) w (heldText (datainfoIn l) k (drop j s)) y)
+        go (some n) g w = rw (e .is g) (held (n .0 .1) w (heldText (datainfoIn l) k (drop j s)) y)
 
     pub member-variant : k ≡ 4 → Says (told integer (signed 4 (drop j s))) f p h r → Says (memberText (datainfoIn l) k (drop i s)) d at h r
     unfolding heldText
@@ -158,10 +158,15 @@ module _ (s : List ℕ) (i l k : ℕ) {d h : List ℕ} {at r : ℕ} where
   unfolding typed
   typed-blob z x = rw z x
 
-  pub typed-unknown : (k ≡ 1 → ⊥) → (k ≡ 2 → ⊥) → (k ≡ 3 → ⊥) → (k ≡ 4 → ⊥) → (k ≡ 5 → ⊥) → (k ≡ 6 → ⊥) → (k ≡ 7 → ⊥) → (k ≡ 8 → ⊥) → (k ≡ 9 → ⊥) → (k ≡ 10 → ⊥) → Says (told datainfoText (typed (datainfoIn l) k (drop i s))) d at h r
+  pub typed-partial : k ≡ 11 → Says (listText (datainfoIn l) 11 (drop i s)) d at h r → Says (told datainfoText (typed (datainfoIn l) k (drop i s))) d at h r
   unfolding typed
-  typed-unknown a b c d e f g h i j =
-      says-nothing (simp (ne-eqb k 1 a, ne-eqb k 2 b, ne-eqb k 3 c, ne-eqb k 4 d, ne-eqb k 5 e, ne-eqb k 6 f, ne-eqb k 7 g, ne-eqb k 8 h, ne-eqb k 9 i, ne-eqb k 10 j))
+  typed-partial z x = rw z (rw (partial-list (datainfoIn l) (drop i s)) at x)
+
+  pub typed-unknown : (k ≡ 1 → ⊥) → (k ≡ 2 → ⊥) → (k ≡ 3 → ⊥) → (k ≡ 4 → ⊥) → (k ≡ 5 → ⊥) → (k ≡ 6 → ⊥) → (k ≡ 7 → ⊥) → (k ≡ 8 → ⊥) → (k ≡ 9 → ⊥) → (k ≡ 10 → ⊥) → (k ≡ 11 → ⊥)
+      → Says (told datainfoText (typed (datainfoIn l) k (drop i s))) d at h r
+  unfolding typed
+  typed-unknown a b c d e f g h i j m =
+      says-nothing (simp (ne-eqb k 1 a, ne-eqb k 2 b, ne-eqb k 3 c, ne-eqb k 4 d, ne-eqb k 5 e, ne-eqb k 6 f, ne-eqb k 7 g, ne-eqb k 8 h, ne-eqb k 9 i, ne-eqb k 10 j, ne-eqb k 11 m))
 
 -- ## A datainfo
 

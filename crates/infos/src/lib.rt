@@ -4,20 +4,23 @@
 use ascii::Next;
 use ascii::Signed;
 use ascii::Unsigned;
+use ascii::byte;
 use ascii::numbers::signed;
 use ascii::numbers::unsigned;
-use datainfo::layout::counted_end;
+use datainfo::layout::field_end;
 use datainfo::layout::member_end;
+use datainfo::layout::named_end;
 use datainfo::layout::wide;
 use datainfo::rules::Limit;
 use datainfo::rules::limit_at;
-use datainfo::rules::name_at;
+use datainfo::rules::named_at;
 use emit::emit;
 use emit::emit_comma;
 use emit::emit_integer;
 use emit::emit_key;
 use emit::emit_labelled_decimal;
 use emit::emit_labelled_integer;
+use emit::emit_string;
 ghost use mathlib.Core.List.{_++_};
 ghost use Prim.Native.Nat.{_≤_};
 ghost use lib.ListN.{length, drop};
@@ -26,11 +29,12 @@ ghost use Rattle.ascii.specs.Numbers.{integer, signed};
 ghost use Rattle.json.specs.Json.{quoted};
 ghost use Rattle.decimal.specs.Exact.{decimal};
 ghost use Rattle.datainfo.specs.Datainfo as Datainfo;
-ghost use Rattle.datainfo.specs.Kept.{nameOf};
-ghost use Rattle.datainfo.specs.Layout.{doubleAt, intAt, stringAt, arrayAt, scaledAt, blobAt, typed, datainfoIn};
+ghost use Rattle.datainfo.specs.Kept.{nameIn};
+ghost use Rattle.datainfo.specs.Members.{membersAt};
+ghost use Rattle.datainfo.specs.Layout.{doubleAt, intAt, stringAt, entry, arrayAt, partialAt, scaledAt, blobAt, typed, datainfoIn};
 ghost use Rattle.report.specs.Report.{decimalText};
 ghost use Rattle.emit.specs.Emitted.{Emits, told, Says};
-ghost use Rattle.infos.specs.Texts.{NameEnds, datainfoText, arrayLimits, opening, closing, memberText, countText, listText};
+ghost use Rattle.infos.specs.Texts.{NameEnds, NamesOptional, StaysFirst, datainfoText, ownText, namesText, arrayLimits, opening, closing, memberText, countText, listText};
 
 // A decimal, "mantissa, then `e` and the power unless 0", with what stands before it.
 fn emit_limit(out: &mut [u8], at: usize, label: &[u8], m: i64, p: i8) -> usize
@@ -153,7 +157,7 @@ fn emit_array(out: &mut [u8], at: usize, s: &[u8], i: usize, levels: usize) -> u
     emit(out, b, b"}")
 }
 
-// What stands before the members of an enum (4), a tuple (7) or a struct (8).
+// What stands before the members of an enum (4), a tuple (7) or a struct (8 or 11).
 fn emit_opening(out: &mut [u8], at: usize, k: u8) -> usize
     ensures { λ r. ⌜ Emits (now (out .entry)) at (opening k) (now (out .exit)) r ⌝ }
 {
@@ -173,6 +177,9 @@ fn emit_closing(out: &mut [u8], at: usize, k: u8) -> usize
     if k == 7 {
         return emit(out, at, b"]}");
     }
+    if k == 11 {
+        return emit(out, at, b"},\"optional\":[]}");
+    }
     emit(out, at, b"}}")
 }
 
@@ -187,26 +194,26 @@ fn emit_number(out: &mut [u8], at: usize, s: &[u8], i: usize) -> usize
     emit_integer(out, at, v)
 }
 
-// A member's name, as its key.
-fn emit_name(out: &mut [u8], at: usize, s: &[u8], i: usize) -> usize
+// The name of a member of the kind k, as its key.
+fn emit_name(out: &mut [u8], at: usize, s: &[u8], i: usize, k: u8) -> usize
     requires { ⌜ i ≤ length (now s) ⌝ }
-    ensures { λ r. ⌜ Emits (now (out .entry)) at (quoted (nameOf (drop i (now (s .entry)))) ++ bytes ":") (now (out .exit)) r ⌝ }
+    ensures { λ r. ⌜ Emits (now (out .entry)) at (quoted (nameIn k (drop i (now (s .entry)))) ++ bytes ":") (now (out .exit)) r ⌝ }
 {
-    emit_key(out, at, name_at(s, i))
+    emit_key(out, at, named_at(s, i, k))
 }
 
-// Past a member's name.
-fn name_end(s: &[u8], i: usize) -> usize
+// Past it.
+fn name_end(s: &[u8], i: usize, k: u8) -> usize
     requires { ⌜ i ≤ length (now s) ⌝ }
-    ensures { λ r. ⌜ NameEnds (now (s .entry)) i r ⌝ }
+    ensures { λ r. ⌜ NameEnds (now (s .entry)) i k r ⌝ }
 {
-    match counted_end(s, i) {
+    match named_end(s, i, k) {
         Next::At(e) => e,
         Next::Bad => i,
     }
 }
 
-// A member of the kind k: in an enum (4) a name and an i32, in a tuple (7) a datainfo, in a struct (8) a name and a datainfo.
+// A member of the kind k: in an enum (4) a name and an i32, in a tuple (7) a datainfo, in a struct (8 or 11) a name and a datainfo.
 fn emit_member(out: &mut [u8], at: usize, s: &[u8], i: usize, levels: usize, k: u8) -> usize
     requires { ⌜ i ≤ length (now s) ⌝ }
     ensures { λ r. ⌜ Says (memberText (datainfoIn levels) k (drop i (now (s .entry)))) (now (out .entry)) at (now (out .exit)) r ⌝ }
@@ -214,8 +221,8 @@ fn emit_member(out: &mut [u8], at: usize, s: &[u8], i: usize, levels: usize, k: 
     if k == 7 {
         return emit_datainfo(out, at, s, i, levels);
     }
-    let a = emit_name(out, at, s, i);
-    let e = name_end(s, i);
+    let a = emit_name(out, at, s, i, k);
+    let e = name_end(s, i, k);
     if k == 4 {
         return emit_number(out, a, s, e);
     }
@@ -273,6 +280,7 @@ fn emit_typed(out: &mut [u8], at: usize, s: &[u8], i: usize, levels: usize, k: u
         8 => emit_list(out, at, s, i, levels, 8),
         9 => emit_scaled(out, at, s, i),
         10 => emit_blob(out, at, s, i),
+        11 => emit_list(out, at, s, i, levels, 11),
         _ => at,
     }
 }
@@ -289,4 +297,77 @@ pub fn emit_datainfo(out: &mut [u8], at: usize, s: &[u8], i: usize, levels: usiz
         return at;
     }
     emit_typed(out, at, s, i + 1, levels - 1, s[i])
+}
+
+// The name of the member of type 11 at a position, if it is optional, with a comma before it unless it is the first.
+fn emit_optional(out: &mut [u8], at: usize, s: &[u8], i: usize, first: bool) -> usize
+    requires { ⌜ i ≤ length (now s) ⌝ }
+    ensures { λ r. ⌜ NamesOptional (entry 11 (drop i (now (s .entry)))) first (now (out .entry)) at (now (out .exit)) r ⌝ }
+{
+    if byte(s, i) != 1 {
+        return at;
+    }
+    let a = emit_comma(out, at, first);
+    emit_string(out, a, named_at(s, i, 11))
+}
+
+// Whether the next would be the first.
+fn stays_first(s: &[u8], i: usize, first: bool) -> bool
+    requires { ⌜ i ≤ length (now s) ⌝ }
+    ensures { λ r. ⌜ StaysFirst (entry 11 (drop i (now (s .entry)))) first r ⌝ }
+{
+    if byte(s, i) == 1 {
+        return false;
+    }
+    first
+}
+
+// The names of the optional members of type 11, past its type byte, with commas between them.
+fn emit_names(out: &mut [u8], at: usize, s: &[u8], i: usize) -> usize
+    requires { ⌜ i ≤ length (now s) ⌝ }
+    ensures { λ r. ⌜ Says (told namesText (membersAt (datainfoIn 3) 11 (drop i (now (s .entry))))) (now (out .entry)) at (now (out .exit)) r ⌝ }
+{
+    let Unsigned::Read(count, from) = unsigned(s, i, 1) else {
+        return at;
+    };
+    let mut p = at;
+    let mut field = from;
+    let mut left = count;
+    let mut first = true;
+    while 0 < left {
+        let Next::At(e) = field_end(s, field, 3, 11) else {
+            return p;
+        };
+        p = emit_optional(out, p, s, field, first);
+        first = stays_first(s, field, first);
+        field = e;
+        left -= 1;
+    }
+    p
+}
+
+// Type 11 as a parameter's own, past its type byte: its optional members are told.
+fn emit_partial(out: &mut [u8], at: usize, s: &[u8], i: usize) -> usize
+    requires { ⌜ i ≤ length (now s) ⌝ }
+    ensures { λ r. ⌜ Says (told ownText (partialAt (datainfoIn 3) (drop i (now (s .entry))))) (now (out .entry)) at (now (out .exit)) r ⌝ }
+{
+    let a = emit_opening(out, at, 11);
+    let b = emit_members(out, a, s, i, 3, 11);
+    let c = emit(out, b, b"},\"optional\":[");
+    let d = emit_names(out, c, s, i);
+    emit(out, d, b"]}")
+}
+
+// A parameter's own datainfo.
+pub fn emit_own(out: &mut [u8], at: usize, s: &[u8], i: usize) -> usize
+    requires { ⌜ i ≤ length (now s) ⌝ }
+    ensures { λ r. ⌜ Says (told ownText (datainfoIn 4 (drop i (now (s .entry))))) (now (out .entry)) at (now (out .exit)) r ⌝ }
+{
+    let Unsigned::Read(k, inner) = unsigned(s, i, 1) else {
+        return at;
+    };
+    if k == 11 {
+        return emit_partial(out, at, s, inner);
+    }
+    emit_datainfo(out, at, s, i, 4)
 }

@@ -2,7 +2,7 @@
 use Prim.Native.Nat.{ℕ, _^_, _≤_, _<_}
 use native.Mathlib.Omega.{arith}
 use mathlib.Core.Path.{_≡_, refl, sym, ap₂, _∙_, subst}
-use mathlib.Core.Bool.{Bool, true, false}
+use mathlib.Core.Bool.{Bool, true, false, cond}
 use mathlib.Core.List.{List, []}
 use mathlib.Core.Option.{Option, none, some}
 use lib.ListN.{length, getD, length-append, length-take}
@@ -102,6 +102,15 @@ module _ (d : List ℕ) (c : ℕ) (room : 32768 ≤ length d) where
 -- a part of a line is no longer than the line
 pub part-short : (xs : List ℕ) (p : Part) → Within xs p → length xs ≤ 1024 → length (part xs p) ≤ 1024
 part-short xs p w h = let i = w .within in rw length-take (omega arith)
+
+-- nor is the data that it stands for
+pub data-short : (xs : List ℕ) → length xs ≤ 1024 → length (orNull xs) ≤ 1024
+unfolding orNull bytes
+data-short xs h = go (all isSpace xs)
+  where
+    go : (b : Bool) → length (cond b (bytes "null") xs) ≤ 1024
+    go true = omega arith
+    go false = h
 
 -- ## Replies of one record
 

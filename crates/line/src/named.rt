@@ -2,6 +2,7 @@
 ghost use Prim.Native.Nat.{_≤_};
 ghost use mathlib.Core.Path.{_≡_};
 ghost use mathlib.Core.Bool.{true};
+ghost use lib.ListN.{length};
 ghost use Rattle.ascii.specs.Bytes.{isSome};
 ghost use Rattle.ascii.specs.Numbers.{latest};
 ghost use Rattle.search.specs.Found.{ParameterLocated, CommandLocated};
@@ -78,7 +79,7 @@ fn at_parameter(
     text: &[u8],
 ) -> Outcome
     requires { ⌜ Ready (now table) state (now values) (now out) client × ((time ≤ latest) × (ParameterLocated (now table) (now «module») (now name) k home q
-        × (isBuilt (tableOf (now table)) verb ≡ true))) ⌝ }
+        × ((isBuilt (tableOf (now table)) verb ≡ true) × (length (now text) ≤ 1024)))) ⌝ }
     ensures { λ r. ⌜ Comes (now (table .entry)) state (now (values .entry)) (now (out .entry)) client time r (now (values .exit)) (now (out .exit))
         (verbRequest verb (now (text .entry)) (now («module» .entry)) (now (name .entry))) ⌝ }
 {
@@ -99,7 +100,20 @@ fn at_parameter(
             text,
         ),
         Verb::Execute => Outcome::Refused(Class::NoSuchCommand),
-        Verb::Check => check(table, out, client, time, k, home, q, module, name, text),
+        Verb::Check => check(
+            table,
+            values,
+            out,
+            state,
+            client,
+            time,
+            k,
+            home,
+            q,
+            module,
+            name,
+            text,
+        ),
     }
 }
 
@@ -143,7 +157,8 @@ fn located(
     name: &[u8],
     text: &[u8],
 ) -> Outcome
-    requires { ⌜ Ready (now table) state (now values) (now out) client × ((time ≤ latest) × (isBuilt (tableOf (now table)) verb ≡ true)) ⌝ }
+    requires { ⌜ Ready (now table) state (now values) (now out) client × ((time ≤ latest) × ((isBuilt (tableOf (now table)) verb ≡ true)
+        × (length (now text) ≤ 1024))) ⌝ }
     ensures { λ r. ⌜ Comes (now (table .entry)) state (now (values .entry)) (now (out .entry)) client time r (now (values .exit)) (now (out .exit))
         (verbRequest verb (now (text .entry)) (now («module» .entry)) (now (name .entry))) ⌝ }
 {
@@ -184,7 +199,7 @@ pub fn named(
     name: &[u8],
     text: &[u8],
 ) -> Outcome
-    requires { ⌜ Ready (now table) state (now values) (now out) client × (time ≤ latest) ⌝ }
+    requires { ⌜ Ready (now table) state (now values) (now out) client × ((time ≤ latest) × (length (now text) ≤ 1024)) ⌝ }
     ensures { λ r. ⌜ Comes (now (table .entry)) state (now (values .entry)) (now (out .entry)) client time r (now (values .exit)) (now (out .exit))
         (verbRequest verb (now (text .entry)) (now («module» .entry)) (now (name .entry))) ⌝ }
 {

@@ -15,10 +15,10 @@ use Rattle.json.specs.Json as Json
 use Rattle.json.specs.Json.{Json, Items, no-items, item, text, compact}
 use Rattle.json.specs.Readable.{Readable}
 use Rattle.json.proofs.ReadBack.{readable-trees}
-use Rattle.datainfo.specs.Datainfo.{Variant, Datainfo, double, int, bool, enum, string, array, tuple, struct, scaled, blob, Elements, no-elements, element}
+use Rattle.datainfo.specs.Datainfo.{Variant, Datainfo, double, int, bool, enum, string, array, tuple, struct, scaled, blob, partial, Parts, Elements, no-elements, element}
 use Rattle.datainfo.specs.Rules.{goodNames, namesGood, elementsNamesGood}
 use Rattle.fit.specs.Fit.{memberNumber, within, asString, asArray, asObject, mapItems, exchanged, numbered, numberedElements}
-use Rattle.fit.specs.Fit.{verdict, formOf, storedForm, isFit, isStored}
+use Rattle.fit.specs.Fit.{asPartial, atTop, ordered, inOrder, stored, verdict, formOf, storedForm, isFit, isStored}
 use Rattle.table.specs.Table.{Parameter, Table}
 use Rattle.table.specs.Search.{Placed, parameters, findParameter}
 use Rattle.table.proofs.Search.{parameter-there, parameter-named}
@@ -131,6 +131,7 @@ string-stays (tuple ds) h = refl
 string-stays (struct fs) h = refl
 string-stays (scaled s lo hi) h = refl
 string-stays (blob lo hi) h = refl
+string-stays (partial ns fs) h = refl
 
 number-stays : (d : Datainfo) (t : List ℕ) → numbered d (Json.number t) ≡ Json.number t
 unfolding numbered within asString asArray asObject
@@ -144,6 +145,7 @@ number-stays (tuple ds) t = refl
 number-stays (struct fs) t = refl
 number-stays (scaled s lo hi) t = refl
 number-stays (blob lo hi) t = refl
+number-stays (partial ns fs) t = refl
 
 abbrev pair : Json → Json → Items
 pair x y = item x (item y no-items)
@@ -177,6 +179,16 @@ value-stays (tuple ds) h = ap Json.array (elements-stay ds h)
 value-stays (struct fs) h = refl
 value-stays (scaled s lo hi) h = refl
 value-stays (blob lo hi) h = refl
+value-stays (partial ns fs) h = refl
+
+-- no member is put in another place
+order-stays : (d : Datainfo) → inOrder d (Json.array halves) ≡ Json.array halves
+unfolding inOrder atTop within asObject
+order-stays d = go (asPartial d)
+  where
+    go : (o : Option Parts) → atTop o (λ m ms. ordered (m .1) ms) (Json.array halves) ≡ Json.array halves
+    go none = refl
+    go (some m) = refl
 
 busy-written : compact (Json.array halves) ≡ busy
 unfolding busy compact bytes Json.quoted
@@ -191,8 +203,8 @@ busy-read = ap text (sym busy-written) ∙ readable-trees .readBack (Json.array 
 
 module _ (d : Datainfo) (h : namesGood d ≡ true) where
   pub busy-own : storedForm d busy ≡ busy
-  unfolding storedForm formOf
-  busy-own = ap (formOf d) busy-read ∙ ap compact (value-stays d h) ∙ busy-written
+  unfolding storedForm formOf stored
+  busy-own = ap (formOf d) busy-read ∙ ap (λ x. compact (inOrder d x)) (value-stays d h) ∙ ap compact (order-stays d) ∙ busy-written
 
   -- where it is admitted, it is in stored form
   pub busy-stored : isFit (verdict d busy) ≡ true → isStored d busy ≡ true

@@ -10,7 +10,7 @@ use lib.Dec.{eqb}
 use lib.ListN.{getElem?}
 use Rattle.ascii.specs.Text.{bytes}
 use Rattle.ascii.specs.Bytes.{isSome}
-use Rattle.fit.specs.Fit.{Verdict, fits, rangeError, wrongType, badJSON, verdict, storedForm}
+use Rattle.fit.specs.Fit.{Verdict, fits, rangeError, wrongType, badJSON}
 use Rattle.table.specs.Table.{Parameter, Command, Module, Table}
 use Rattle.table.specs.Search.{Placed, parameters, commands, findModule, findParameter, findCommand}
 use Rattle.table.proofs.Search.{parameter-there, parameter-named, command-there, command-named}
@@ -21,7 +21,7 @@ use Rattle.message.specs.Error.{Fault, class, fault, Class, ProtocolError, NoSu
 use Rattle.message.specs.Reply.{Held, valued, failed, Report, Reply, identification, describing, pong, reply, done, counted, error, checked}
 use Rattle.outbox.specs.Outbox.{Record, final, orderCommand}
 use Rattle.plain.specs.Node.{Value, holding, showing, Node, activeCount, reportOf}
-use Rattle.plain.specs.Answer.{Outcome, refused, carried, found, letIn, argumentVerdict, argumentForm, activates, deactivates, inScope, tells, reads, sets, changes, does, outcome, conclude, shows, judging, checks}
+use Rattle.plain.specs.Answer.{Outcome, refused, carried, found, letIn, argumentVerdict, argumentForm, judgedAt, storedAt, activates, deactivates, inScope, tells, reads, sets, changes, does, outcome, conclude, shows, judging, checks}
 
 -- ## What an outcome leaves and sends
 
@@ -46,11 +46,11 @@ concluded w n c now p (carried m ss rs r) = refl
 
 -- ## Kinds of outcome
 
--- a change that is let in, or a check: of parameter k, to the text v
-pub record LetIn (w : Table) (k : ℕ × Placed Parameter) (v : List ℕ) : Type 0 where
+-- a change that is let in, or a check: of parameter k, to the text v, where these values are held
+pub record LetIn (w : Table) (values : ℕ → Value) (k : ℕ × Placed Parameter) (v : List ℕ) : Type 0 where
   pub there : getElem? (parameters w) (k .0) ≡ some (k .1)
   pub writable : k .1 .it .readonly ≡ false
-  pub fitting : verdict (k .1 .it .datainfo) v ≡ fits
+  pub fitting : judgedAt values k v ≡ fits
 
 -- requests of client c that are answered by a reply alone, with the reply, at a node
 pub data Tells (w : Table) (n : Node) (c now : ℕ) : Request → Reply → Type 0 where
@@ -59,8 +59,8 @@ pub data Tells (w : Table) (n : Node) (c now : ℕ) : Request → Reply → Type
   by-ping : {token : List ℕ} → Tells w n c now (ping token) (pong token now)
   by-read : (k : ℕ × Placed Parameter) → getElem? (parameters w) (k .0) ≡ some (k .1) → (v : List ℕ) (t : ℕ) → n .values (k .0) ≡ showing v t
       → Tells w n c now (read (k .1 .moduleName) (k .1 .it .name)) (reply (reportOf (k .1) (showing v t)))
-  by-check : (k : ℕ × Placed Parameter) (v : List ℕ) → LetIn w k v → isSome (w .edition) ≡ true
-      → Tells w n c now (check (k .1 .moduleName) (k .1 .it .name) v) (checked (reportOf (k .1) (showing (storedForm (k .1 .it .datainfo) v) now)))
+  by-check : (k : ℕ × Placed Parameter) (v : List ℕ) → LetIn w (n .values) k v → isSome (w .edition) ≡ true
+      → Tells w n c now (check (k .1 .moduleName) (k .1 .it .name) v) (checked (reportOf (k .1) (showing (storedAt (n .values) k v) now)))
   by-count : Tells w n c now count (counted (n .counts c) (activeCount w (n .clients c)) now)
 
 -- two nodes tell client c the same of itself
@@ -95,15 +95,19 @@ pub record Kinds (w : Table) (m n : Node) (c now : ℕ) (Q : Request → Outcome
       → Q (activate s) (activates w m c now wanted s) (activates w n c now wanted s)
   pub deactivating : (s : Option (List ℕ)) (wanted : ℕ → Bool) → Scope w s wanted
       → Q (deactivate s) (deactivates w m c now wanted s) (deactivates w n c now wanted s)
-  pub setting : (k : ℕ × Placed Parameter) (v : List ℕ) → LetIn w k v
-      → Q (change (k .1 .moduleName) (k .1 .it .name) v) (sets w m c now k (storedForm (k .1 .it .datainfo) v)) (sets w n c now k (storedForm (k .1 .it .datainfo) v))
+  pub setting : (k : ℕ × Placed Parameter) (v : List ℕ) → LetIn w (n .values) k v
+      → Q (change (k .1 .moduleName) (k .1 .it .name) v) (sets w m c now k (storedAt (n .values) k v)) (sets w n c now k (storedAt (n .values) k v))
   pub doing : (k : ℕ × Placed Command) (v : List ℕ) → Allowed w k v
       → Q (execute (k .1 .moduleName) (k .1 .it .name) v) (ordering m c now k v) (ordering n c now k v)
 
 -- ## Every request
 
-module _ (w : Table) (m n : Node) (same : m .values ≡ n .values) (c now : ℕ) (own : SameCounts w m n c)
-    (Q : Request → Outcome → Outcome → Type 0) (h : Kinds w m n c now Q) where
+-- what client c is told by a `_count`
+abbrev pub counting : Table → Node → ℕ → ℕ → Outcome
+counting w n c now = carried n [] [] (counted (n .counts c) (activeCount w (n .clients c)) now)
+
+module _ (w : Table) (m n : Node) (same : m .values ≡ n .values) (c now : ℕ) (Q : Request → Outcome → Outcome → Type 0) (h : Kinds w m n c now Q)
+    (told : Q count (counting w m c now) (counting w n c now)) where
   found-hold : {A : Type 0} (q : Request) (x : Class) (o : Option A) (f g : A → Outcome) → ((a : A) → o ≡ some a → Q q (f a) (g a))
       → Q q (found x o f) (found x o g)
   unfolding found
@@ -159,12 +163,14 @@ module _ (w : Table) (m n : Node) (same : m .values ≡ n .values) (c now : ℕ)
   -- what is let in, by what f and g make of its stored form
   judged-hold : (f g : ℕ × Placed Parameter → List ℕ → Outcome) (q : Request) (v : List ℕ) (k : ℕ × Placed Parameter)
       → getElem? (parameters w) (k .0) ≡ some (k .1)
-      → (LetIn w k v → Q q (f k (storedForm (k .1 .it .datainfo) v)) (g k (storedForm (k .1 .it .datainfo) v)))
+      → (LetIn w (n .values) k v → Q q (f k (storedAt (n .values) k v)) (g k (storedAt (n .values) k v)))
       → Q q (judging w m c now f v k) (judging w n c now g v k)
   unfolding judging
   judged-hold f g q v k t i =
-      writable-hold q (k .1 .it .readonly) _ _ (λ o.
-      let-in-hold q (verdict (k .1 .it .datainfo) v) _ _ (λ e. i (record { there = t; writable = o; fitting = e })))
+      subst (λ x. Q q (cond (k .1 .it .readonly) (refused (class ReadOnly)) (letIn (judgedAt x k v) (f k (storedAt x k v)))) (judging w n c now g v k))
+      (sym same)
+      (writable-hold q (k .1 .it .readonly) _ _ (λ o.
+      let-in-hold q (judgedAt (n .values) k v) _ _ (λ e. i (record { there = t; writable = o; fitting = e }))))
 
   change-hold : (v : List ℕ) (k : ℕ × Placed Parameter) → getElem? (parameters w) (k .0) ≡ some (k .1)
       → Q (change (k .1 .moduleName) (k .1 .it .name) v) (changes w m c now v k) (changes w n c now v k)
@@ -192,32 +198,34 @@ module _ (w : Table) (m n : Node) (same : m .values ≡ n .values) (c now : ℕ)
       let-in-hold (execute (k .1 .moduleName) (k .1 .it .name) v) (argumentVerdict (k .1 .it .argument) v) _ _
       (λ f. h .doing k v (record { there = t; fitting = f }))
 
-  count-hold : Q count (carried m [] [] (counted (m .counts c) (activeCount w (m .clients c)) now)) (carried n [] [] (counted (n .counts c) (activeCount w (n .clients c)) now))
-  count-hold = rw (own .counts, own .active) (h .telling count _ by-count)
-
-  -- What holds of each kind holds of what a request comes to at both nodes.
-  pub outcomes-hold : (q : Request) → Q q (outcome w m c now q) (outcome w n c now q)
+  -- What holds of each kind, and of a `_count`, holds of what a request comes to at both nodes.
+  pub all-hold : (q : Request) → Q q (outcome w m c now q) (outcome w n c now q)
   unfolding outcome
-  outcomes-hold identify = h .telling identify _ by-identify
-  outcomes-hold describe = h .telling describe _ by-describe
-  outcomes-hold (ping token) = h .telling (ping token) _ by-ping
-  outcomes-hold (activate s) = scope-hold activate (activates w m c now) (activates w n c now) (h .activating) s
-  outcomes-hold (deactivate s) = scope-hold deactivate (deactivates w m c now) (deactivates w n c now) (h .deactivating) s
-  outcomes-hold (read s a) =
+  all-hold identify = h .telling identify _ by-identify
+  all-hold describe = h .telling describe _ by-describe
+  all-hold (ping token) = h .telling (ping token) _ by-ping
+  all-hold (activate s) = scope-hold activate (activates w m c now) (activates w n c now) (h .activating) s
+  all-hold (deactivate s) = scope-hold deactivate (deactivates w m c now) (deactivates w n c now) (h .deactivating) s
+  all-hold (read s a) =
       named-hold (λ (x : Parameter). x .name) read s a NoSuchParameter (findParameter w s a) _ _ (parameter-named w s a)
       (λ k e. read-hold k (parameter-there w s a k e))
-  outcomes-hold (change s a v) =
+  all-hold (change s a v) =
       named-hold (λ (x : Parameter). x .name) (λ x y. change x y v) s a NoSuchParameter (findParameter w s a) _ _ (parameter-named w s a)
       (λ k e. change-hold v k (parameter-there w s a k e))
-  outcomes-hold (execute s a v) =
+  all-hold (execute s a v) =
       named-hold (λ (x : Command). x .name) (λ x y. execute x y v) s a NoSuchCommand (findCommand w s a) _ _ (command-named w s a)
       (λ k e. do-hold v k (command-there w s a k e))
-  outcomes-hold (check s a v) =
+  all-hold (check s a v) =
       edition-hold (check s a v) _ _ (λ t.
       named-hold (λ (x : Parameter). x .name) (λ x y. check x y v) s a NoSuchParameter (findParameter w s a) _ _ (parameter-named w s a)
       (λ k e. check-hold t v k (parameter-there w s a k e)))
-  outcomes-hold count = count-hold
-  outcomes-hold malformed = h .bad malformed ProtocolError
+  all-hold count = told
+  all-hold malformed = h .bad malformed ProtocolError
+
+-- The same where both tell the client that asks the same of itself.
+pub outcomes-hold : (w : Table) (m n : Node) → m .values ≡ n .values → (c now : ℕ) → SameCounts w m n c → (Q : Request → Outcome → Outcome → Type 0)
+    → Kinds w m n c now Q → (q : Request) → Q q (outcome w m c now q) (outcome w n c now q)
+outcomes-hold w m n same c now own Q h = all-hold w m n same c now Q h (rw (own .counts, own .active) (h .telling count _ by-count))
 
 -- The same at one node.
 pub outcome-holds : (P : Request → Outcome → Type 0) (w : Table) (n : Node) (c now : ℕ) → Kinds w n n c now (λ q o p. P q o)

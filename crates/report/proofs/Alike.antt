@@ -4,12 +4,14 @@ use mathlib.Core.Bool.{Bool, true, false, cond, _&&_}
 use mathlib.Core.List.{List, [], _∷_, _++_, map, map-map, map-append}
 use mathlib.Core.Option.{Option, none, some}
 use mathlib.Core.Path.{_≡_, refl, sym, _∙_, ap, ap₂}
+use Rattle.json.specs.Json.{Json}
 use Rattle.ascii.specs.Bytes.{same}
 use Rattle.datainfo.specs.Datainfo.{Datainfo}
-use Rattle.fit.specs.Fit.{fit, verdict}
+use Rattle.fit.specs.Fit.{fit, verdict, changeVerdict, changeForm}
 use Rattle.table.specs.Table.{Parameter, Command, Accessible, parameter, command, Module, Table}
 use Rattle.table.specs.Search.{Placed, parametersOf, commandsOf, placedFrom, parameters, commands, firstFrom, first, findParameter, findCommand}
-use Rattle.report.specs.Theorems.{enforcedParameter, enforcedAccessible, enforcedModule, enforced, parameterSays, commandSays, JudgeAlike, ReportsTellVerdicts}
+use Rattle.report.specs.Theorems.{enforcedDatainfo, enforcedArgument, enforcedParameter, enforcedCommand, enforcedAccessible, enforcedModule, enforced, parameterSays, argumentSays, commandSays, JudgeAlike, ReportsTellVerdicts}
+use Rattle.report.proofs.Kept.{fit-kept, verdict-kept, change-kept, form-kept}
 use Rattle.report.proofs.Told.{reports-tell}
 
 -- ## What is found in an enforced table
@@ -20,11 +22,11 @@ parameters-enforced [] = refl
 parameters-enforced (parameter p ∷ l) = ap (λ ps. enforcedParameter p ∷ ps) (parameters-enforced l)
 parameters-enforced (command c ∷ l) = parameters-enforced l
 
-commands-enforced : (l : List Accessible) → commandsOf (map enforcedAccessible l) ≡ map (λ (c : Command). c) (commandsOf l)
+commands-enforced : (l : List Accessible) → commandsOf (map enforcedAccessible l) ≡ map enforcedCommand (commandsOf l)
 unfolding commandsOf enforcedAccessible
 commands-enforced [] = refl
 commands-enforced (parameter p ∷ l) = commands-enforced l
-commands-enforced (command c ∷ l) = ap (λ cs. c ∷ cs) (commands-enforced l)
+commands-enforced (command c ∷ l) = ap (λ cs. enforcedCommand c ∷ cs) (commands-enforced l)
 
 module _ {A : Type 0} (of : List Accessible → List A) (g : A → A) where
   -- with g done to what was placed
@@ -63,49 +65,57 @@ abbrev bareParameter : Placed Parameter → Placed Parameter
 bareParameter = within parametersOf enforcedParameter
 
 abbrev bareCommand : Placed Command → Placed Command
-bareCommand = within commandsOf (λ c. c)
+bareCommand = within commandsOf enforcedCommand
 
 -- ## What is said of it
 
-module _ {A : Type 0} (f : Datainfo → A) where
+-- f says the same of a parameter's datainfo that is enforced
+module _ {A : Type 0} (f : Datainfo → A) (h : (d : Datainfo) → f (enforcedDatainfo true d) ≡ f d) where
   parameter-same : (o : Option (ℕ × Placed Parameter)) → parameterSays f (done bareParameter o) ≡ parameterSays f o
   unfolding done parameterSays
   parameter-same none = refl
-  parameter-same (some x) = refl
+  parameter-same (some x) = rw (h (x .1 .it .datainfo))
+
+  parameter-says : (m a : List ℕ) (t : Table) → parameterSays f (findParameter (enforced t) m a) ≡ parameterSays f (findParameter t m a)
+  unfolding findParameter first parameters enforced
+  parameter-says m a t =
+      let p : Placed Parameter → Bool = λ x. same m (x .moduleName) && same a (x .it .name) in
+      ap (λ l. parameterSays f (firstFrom p 0 l)) (placed-enforced parametersOf enforcedParameter parameters-enforced 0 (t .modules))
+      ∙ ap (parameterSays f) (first-done bareParameter p (λ x. refl) 0 (parameters t)) ∙ parameter-same (firstFrom p 0 (parameters t))
+
+  parameter-alike : (m a : List ℕ) (t u : Table) → enforced t ≡ enforced u → parameterSays f (findParameter t m a) ≡ parameterSays f (findParameter u m a)
+  parameter-alike m a t u e = sym (parameter-says m a t) ∙ ap (λ w. parameterSays f (findParameter w m a)) e ∙ parameter-says m a u
+
+-- and of an argument's
+module _ {A : Type 0} (f : Datainfo → A) (h : (d : Datainfo) → f (enforcedDatainfo false d) ≡ f d) where
+  argument-same : (o : Option Datainfo) → argumentSays f (enforcedArgument o) ≡ argumentSays f o
+  unfolding argumentSays enforcedArgument
+  argument-same none = refl
+  argument-same (some d) = rw (h d)
 
   command-same : (o : Option (ℕ × Placed Command)) → commandSays f (done bareCommand o) ≡ commandSays f o
   unfolding done commandSays
   command-same none = refl
-  command-same (some x) = refl
+  command-same (some x) = rw (argument-same (x .1 .it .argument))
 
-  module _ (m a : List ℕ) where
-    parameter-says : (t : Table) → parameterSays f (findParameter (enforced t) m a) ≡ parameterSays f (findParameter t m a)
-    unfolding findParameter first parameters enforced
-    parameter-says t =
-        let p : Placed Parameter → Bool = λ x. same m (x .moduleName) && same a (x .it .name) in
-        ap (λ l. parameterSays f (firstFrom p 0 l)) (placed-enforced parametersOf enforcedParameter parameters-enforced 0 (t .modules))
-        ∙ ap (parameterSays f) (first-done bareParameter p (λ x. refl) 0 (parameters t)) ∙ parameter-same (firstFrom p 0 (parameters t))
+  command-says : (m a : List ℕ) (t : Table) → commandSays f (findCommand (enforced t) m a) ≡ commandSays f (findCommand t m a)
+  unfolding findCommand first commands enforced
+  command-says m a t =
+      let p : Placed Command → Bool = λ x. same m (x .moduleName) && same a (x .it .name) in
+      ap (λ l. commandSays f (firstFrom p 0 l)) (placed-enforced commandsOf enforcedCommand commands-enforced 0 (t .modules))
+      ∙ ap (commandSays f) (first-done bareCommand p (λ x. refl) 0 (commands t)) ∙ command-same (firstFrom p 0 (commands t))
 
-    command-says : (t : Table) → commandSays f (findCommand (enforced t) m a) ≡ commandSays f (findCommand t m a)
-    unfolding findCommand first commands enforced
-    command-says t =
-        let p : Placed Command → Bool = λ x. same m (x .moduleName) && same a (x .it .name) in
-        ap (λ l. commandSays f (firstFrom p 0 l)) (placed-enforced commandsOf (λ c. c) commands-enforced 0 (t .modules))
-        ∙ ap (commandSays f) (first-done bareCommand p (λ x. refl) 0 (commands t)) ∙ command-same (firstFrom p 0 (commands t))
-
-    module _ (t u : Table) (e : enforced t ≡ enforced u) where
-      parameter-alike : parameterSays f (findParameter t m a) ≡ parameterSays f (findParameter u m a)
-      parameter-alike = sym (parameter-says t) ∙ ap (λ w. parameterSays f (findParameter w m a)) e ∙ parameter-says u
-
-      command-alike : commandSays f (findCommand t m a) ≡ commandSays f (findCommand u m a)
-      command-alike = sym (command-says t) ∙ ap (λ w. commandSays f (findCommand w m a)) e ∙ command-says u
+  command-alike : (m a : List ℕ) (t u : Table) → enforced t ≡ enforced u → commandSays f (findCommand t m a) ≡ commandSays f (findCommand u m a)
+  command-alike m a t u e = sym (command-says m a t) ∙ ap (λ w. commandSays f (findCommand w m a)) e ∙ command-says m a u
 
 judge-alike : (t u : Table) → enforced t ≡ enforced u → JudgeAlike t u
 judge-alike t u e = record {
-  parameterFit = λ m a v. parameter-alike (λ d. fit d v) m a t u e;
-  commandFit = λ m a v. command-alike (λ d. fit d v) m a t u e;
-  parameterVerdict = λ m a xs. parameter-alike (λ d. verdict d xs) m a t u e;
-  commandVerdict = λ m a xs. command-alike (λ d. verdict d xs) m a t u e;
+  parameterFit = λ m a v. parameter-alike (λ d. fit d v) (λ d. fit-kept true d v) m a t u e;
+  commandFit = λ m a v. command-alike (λ d. fit d v) (λ d. fit-kept false d v) m a t u e;
+  parameterVerdict = λ m a xs. parameter-alike (λ d. verdict d xs) (λ d. verdict-kept true d xs) m a t u e;
+  parameterChange = λ m a xs shown. parameter-alike (λ d. changeVerdict shown d xs) (λ d. change-kept shown d xs) m a t u e;
+  parameterForm = λ m a xs shown. parameter-alike (λ d. changeForm shown d xs) (λ d. form-kept shown d xs) m a t u e;
+  commandVerdict = λ m a xs. command-alike (λ d. verdict d xs) (λ d. verdict-kept false d xs) m a t u e;
 }
 
 pub reports-tell-verdicts : ReportsTellVerdicts

@@ -3,6 +3,7 @@ pub mod Faults
 pub mod Read
 pub mod Trees
 pub mod Plain
+pub mod Kept
 pub mod Told
 pub mod Alike
 pub mod Notes

@@ -1,7 +1,7 @@
 -- The report of an accepted table is a plain value, since names are texts. Assumes nothing.
 use Prim.Native.Nat.{ℕ, _≤_}
 use native.Mathlib.Omega.{arith}
-use mathlib.Core.Bool.{true, not, _&&_, _||_}
+use mathlib.Core.Bool.{Bool, true, false, cond, not, _&&_, _||_}
 use mathlib.Core.List.{List, [], _∷_, map}
 use mathlib.Core.Option.{Option, none, some}
 use mathlib.Core.Logic.{_≢_}
@@ -13,14 +13,14 @@ use Rattle.ascii.specs.Text.{bytes}
 use Rattle.ascii.specs.Bytes.{all, head, isIn, isDigit, isLetter}
 use Rattle.ascii.specs.Names.{isNameByte, isName, isTextByte, isText, unique}
 use Rattle.ascii.proofs.Lists.{both, all-parts, all-weaker}
-use Rattle.json.specs.Json.{Members}
+use Rattle.json.specs.Json.{no-items, Members}
 use Rattle.json.proofs.Printable.{either}
-use Rattle.datainfo.specs.Datainfo.{Variant, Datainfo, double, int, bool, enum, string, array, tuple, struct, scaled, blob, Elements, no-elements, element, Fields, no-fields, field, fieldNames}
+use Rattle.datainfo.specs.Datainfo.{Variant, Datainfo, double, int, bool, enum, string, array, tuple, struct, scaled, blob, partial, Elements, no-elements, element, Fields, no-fields, field, fieldNames}
 use Rattle.datainfo.specs.Rules as Datainfo
 use Rattle.datainfo.specs.Rules.{goodNames, elementsNamesGood, fieldsNamesGood}
 use Rattle.table.specs.Table.{Accessible, parameter, command, Module, Table}
 use Rattle.table.specs.Rules.{accessibleName, ifAny, noteGood, accessibleNamesGood, moduleNamesGood, editionGood, namesGood}
-use Rattle.report.specs.Report.{variantValues, datainfoValue, elementValues, fieldValues, argumentMember, accessibleMember, accessibleMembers}
+use Rattle.report.specs.Report.{variantValues, nameItems, datainfoValue, elementValues, fieldValues, argumentMember, accessibleMember, accessibleMembers}
 use Rattle.report.specs.Report.{moduleMembers, reportValue}
 use Rattle.report.specs.Judge.{treeNumber}
 use Rattle.report.proofs.Faults.{no-fault, lowest-none}
@@ -67,51 +67,64 @@ variants-plain (v ∷ vs) h =
     let p = all-parts isName (v .name) (map (λ (v : Variant). v .name) vs) h in
     (name-text (v .name) (p .0), integer-number (v .number), variants-plain vs (p .1))
 
+names-items : (ns : List (List ℕ)) → all isName ns ≡ true → PlainItems (nameItems ns)
+unfolding nameItems
+names-items [] h = tt
+names-items (n ∷ ns) h = let p = all-parts isName n ns h in (name-text n (p .0), names-items ns (p .1))
+
+told-names : (top : Bool) (ns : List (List ℕ)) → all isName ns ≡ true → PlainItems (cond top (nameItems ns) no-items)
+told-names true ns h = names-items ns h
+told-names false ns h = tt
+
 mutual
   unfolding datainfoValue Datainfo.namesGood fieldNames all bytes isText isTextByte isIn
 
-  datainfo-plain : (d : Datainfo) → Datainfo.namesGood d ≡ true → Plain (datainfoValue d)
-  datainfo-plain (double lo hi) h =
+  datainfo-plain : (top : Bool) (d : Datainfo) → Datainfo.namesGood d ≡ true → Plain (datainfoValue top d)
+  datainfo-plain top (double lo hi) h =
       (refl, refl, (refl, decimal-number (lo .whole) (lo .power), (refl, decimal-number (hi .whole) (hi .power), tt)))
-  datainfo-plain (int lo hi) h = (refl, refl, (refl, integer-number lo, (refl, integer-number hi, tt)))
-  datainfo-plain bool h = (refl, refl, tt)
-  datainfo-plain (enum vs) h = (refl, refl, (refl, variants-plain vs (names-all (map (λ (v : Variant). v .name) vs) h), tt))
-  datainfo-plain (string lo hi) h = (refl, refl, (refl, natural-number lo, (refl, natural-number hi, tt)))
-  datainfo-plain (array lo hi d) h = (refl, refl, (refl, natural-number lo, (refl, natural-number hi, (refl, datainfo-plain d h, tt))))
-  datainfo-plain (tuple ds) h = (refl, refl, (refl, elements-plain ds h, tt))
-  datainfo-plain (struct fs) h =
+  datainfo-plain top (int lo hi) h = (refl, refl, (refl, integer-number lo, (refl, integer-number hi, tt)))
+  datainfo-plain top bool h = (refl, refl, tt)
+  datainfo-plain top (enum vs) h = (refl, refl, (refl, variants-plain vs (names-all (map (λ (v : Variant). v .name) vs) h), tt))
+  datainfo-plain top (string lo hi) h = (refl, refl, (refl, natural-number lo, (refl, natural-number hi, tt)))
+  datainfo-plain top (array lo hi d) h = (refl, refl, (refl, natural-number lo, (refl, natural-number hi, (refl, datainfo-plain false d h, tt))))
+  datainfo-plain top (tuple ds) h = (refl, refl, (refl, elements-plain ds h, tt))
+  datainfo-plain top (struct fs) h =
       let p = both (goodNames (fieldNames fs)) (fieldsNamesGood fs) h in
       (refl, refl, (refl, fields-plain fs (names-all (fieldNames fs) (p .0)) (p .1), tt))
-  datainfo-plain (scaled s lo hi) h =
+  datainfo-plain top (scaled s lo hi) h =
       (refl, refl, (refl, decimal-number (s .whole) (s .power), (refl, integer-number lo, (refl, integer-number hi, tt))))
-  datainfo-plain (blob lo hi) h = (refl, refl, (refl, natural-number lo, (refl, natural-number hi, tt)))
+  datainfo-plain top (blob lo hi) h = (refl, refl, (refl, natural-number lo, (refl, natural-number hi, tt)))
+  datainfo-plain top (partial ns fs) h =
+      let p = both (goodNames (fieldNames fs) && all isName ns) (fieldsNamesGood fs) h in
+      let q = both (goodNames (fieldNames fs)) (all isName ns) (p .0) in
+      (refl, refl, (refl, fields-plain fs (names-all (fieldNames fs) (q .0)) (p .1), (refl, told-names top ns (q .1), tt)))
 
   elements-plain : (ds : Elements) → elementsNamesGood ds ≡ true → PlainItems (elementValues ds)
   elements-plain no-elements h = tt
   elements-plain (element d ds) h =
       let p = both (Datainfo.namesGood d) (elementsNamesGood ds) h in
-      (datainfo-plain d (p .0), elements-plain ds (p .1))
+      (datainfo-plain false d (p .0), elements-plain ds (p .1))
 
   fields-plain : (fs : Fields) → all isName (fieldNames fs) ≡ true → fieldsNamesGood fs ≡ true → PlainMembers (fieldValues fs)
   fields-plain no-fields g h = tt
   fields-plain (field k d fs) g h =
       let q = both (isName k) (all isName (fieldNames fs)) g in
       let p = both (Datainfo.namesGood d) (fieldsNamesGood fs) h in
-      (name-text k (q .0), datainfo-plain d (p .0), fields-plain fs (q .1) (p .1))
+      (name-text k (q .0), datainfo-plain false d (p .0), fields-plain fs (q .1) (p .1))
 
 -- ## Accessibles, modules, the table
 
 argument-plain : (o : Option Datainfo) → ifAny Datainfo.namesGood o ≡ true → PlainMembers (argumentMember o)
 unfolding argumentMember ifAny all bytes isText isTextByte isIn
 argument-plain none h = tt
-argument-plain (some d) h = (refl, datainfo-plain d h, tt)
+argument-plain (some d) h = (refl, datainfo-plain false d h, tt)
 
 accessible-plain : (a : Accessible) → isName (accessibleName a) ≡ true → accessibleNamesGood a ≡ true → (rest : Members) → PlainMembers rest
     → PlainMembers (accessibleMember a rest)
 unfolding accessibleMember accessibleName accessibleNamesGood all bytes isText isTextByte isIn
 accessible-plain (parameter p) g h rest r =
     let q = both (isText (p .description)) (Datainfo.namesGood (p .datainfo)) h in
-    (name-text (p .name) g, (refl, q .0, (refl, tt, (refl, datainfo-plain (p .datainfo) (q .1), tt))), r)
+    (name-text (p .name) g, (refl, q .0, (refl, tt, (refl, datainfo-plain true (p .datainfo) (q .1), tt))), r)
 accessible-plain (command c) g h rest r =
     let q = both (isText (c .description)) (ifAny Datainfo.namesGood (c .argument)) h in
     (name-text (c .name) g, (refl, q .0, (refl, (refl, refl, argument-plain (c .argument) (q .1)), tt)), r)

@@ -1,7 +1,7 @@
 -- The table that a report's value tells, and that this is the table that is enforced. Assumes nothing.
 use Prim.Native.Nat.{ℕ, zero, suc, _+_, _≤_}
 use native.Mathlib.Omega.{arith}
-use mathlib.Core.Bool.{Bool, false, cond}
+use mathlib.Core.Bool.{Bool, true, false, cond}
 use mathlib.Core.List.{List, [], _∷_, map}
 use mathlib.Core.Option.{Option, none, some}
 use mathlib.Core.Path.{_≡_, refl, ap, ap₂}
@@ -10,12 +10,12 @@ use Rattle.ascii.specs.Text.{bytes}
 use Rattle.ascii.specs.Bytes.{same}
 use Rattle.json.specs.Json as Json
 use Rattle.json.specs.Json.{Json, null, Items, no-items, item, Members, no-members, member}
-use Rattle.datainfo.specs.Datainfo.{Variant, Datainfo, double, int, bool, enum, string, array, tuple, struct, scaled, blob, Elements, no-elements, element, Fields, no-fields, field}
+use Rattle.datainfo.specs.Datainfo.{Variant, Datainfo, double, int, bool, enum, string, array, tuple, struct, scaled, blob, partial, Elements, no-elements, element, Fields, no-fields, field}
 use Rattle.fit.specs.Fit.{asNumber, asBoolean, asString, asArray, asObject}
 use Rattle.table.specs.Table.{Accessible, parameter, command, Module, Table}
-use Rattle.report.specs.Report.{variantValues, datainfoValue, elementValues, fieldValues, argumentMember, accessibleMember, accessibleMembers}
+use Rattle.report.specs.Report.{variantValues, nameItems, datainfoValue, elementValues, fieldValues, argumentMember, accessibleMember, accessibleMembers}
 use Rattle.report.specs.Report.{keyed, moduleMembers, reportValue}
-use Rattle.report.specs.Theorems.{enforcedAccessible, enforcedModule, enforced}
+use Rattle.report.specs.Theorems.{enforcedDatainfo, enforcedElements, enforcedFields, enforcedArgument, enforcedAccessible, enforcedModule, enforced}
 use Rattle.report.proofs.Numbers.{naturalOf, natural-back, integerOf, integer-back, decimalOf, decimal-back}
 
 -- ## Parts of a value, by kind and by place
@@ -56,6 +56,10 @@ variantsFrom : Members → List Variant
 variantsFrom no-members = []
 variantsFrom (member k v ms) = record { name = k; number = integerOf (digits v) } ∷ variantsFrom ms
 
+namesFrom : Items → List (List ℕ)
+namesFrom no-items = []
+namesFrom (item v is) = text v ∷ namesFrom is
+
 module _ (f : Json → Datainfo) where
   elementsFrom : Items → Elements
   elementsFrom no-items = no-elements
@@ -78,7 +82,8 @@ module _ (f : Json → Datainfo) where
       (cond (same t (bytes "scaled"))
       (scaled (decimalOf (digits (at 1 ms))) (integerOf (digits (at 2 ms))) (integerOf (digits (at 3 ms))))
       (cond (same t (bytes "blob")) (blob (naturalOf (digits (at 1 ms))) (naturalOf (digits (at 2 ms))))
-      (struct (fieldsFrom (members (at 1 ms))))))))))))
+      (cond (same (keyAt 2 ms) (bytes "optional")) (partial (namesFrom (items (at 2 ms))) (fieldsFrom (members (at 1 ms))))
+      (struct (fieldsFrom (members (at 1 ms)))))))))))))
 
 -- a datainfo of at most n levels
 datainfoOf : ℕ → Json → Datainfo
@@ -98,6 +103,7 @@ mutual
   levels (struct fs) = suc (fieldsLevels fs)
   levels (scaled s lo hi) = 1
   levels (blob lo hi) = 1
+  levels (partial ns fs) = suc (fieldsLevels fs)
 
   elementsLevels : Elements → ℕ
   elementsLevels no-elements = 0
@@ -113,41 +119,53 @@ variants-back [] = refl
 variants-back (v ∷ vs) =
     ap₂ (λ (z : ℤ) (l : List Variant). record { name = v .name; number = z } ∷ l) (integer-back (v .number)) (variants-back vs)
 
+names-back : (ns : List (List ℕ)) → namesFrom (nameItems ns) ≡ ns
+unfolding namesFrom nameItems asString
+names-back [] = refl
+names-back (n ∷ ns) = ap (λ l. n ∷ l) (names-back ns)
+
+told-names : (top : Bool) (ns : List (List ℕ)) → namesFrom (cond top (nameItems ns) no-items) ≡ cond top ns []
+unfolding namesFrom
+told-names true ns = names-back ns
+told-names false ns = refl
+
 mutual
-  unfolding datainfoOf typed at elementsFrom fieldsFrom datainfoValue levels same bytes asNumber asString asArray asObject
+  unfolding datainfoOf typed at keyAt enforcedDatainfo elementsFrom fieldsFrom datainfoValue levels same bytes asNumber asString asArray asObject
 
-  datainfo-back : (d : Datainfo) (n : ℕ) → levels d ≤ n → datainfoOf n (datainfoValue d) ≡ d
-  datainfo-back (double lo hi) zero h = absurd (omega arith)
-  datainfo-back (double lo hi) (suc n) h = ap₂ double (decimal-back (lo .whole) (lo .power)) (decimal-back (hi .whole) (hi .power))
-  datainfo-back (int lo hi) zero h = absurd (omega arith)
-  datainfo-back (int lo hi) (suc n) h = ap₂ int (integer-back lo) (integer-back hi)
-  datainfo-back bool zero h = absurd (omega arith)
-  datainfo-back bool (suc n) h = refl
-  datainfo-back (enum vs) zero h = absurd (omega arith)
-  datainfo-back (enum vs) (suc n) h = ap enum (variants-back vs)
-  datainfo-back (string lo hi) zero h = absurd (omega arith)
-  datainfo-back (string lo hi) (suc n) h = ap₂ string (natural-back lo) (natural-back hi)
-  datainfo-back (array lo hi d) zero h = absurd (omega arith)
-  datainfo-back (array lo hi d) (suc n) h =
-      let e = datainfo-back d n (omega arith) in
+  datainfo-back : (top : Bool) (d : Datainfo) (n : ℕ) → levels d ≤ n → datainfoOf n (datainfoValue top d) ≡ enforcedDatainfo top d
+  datainfo-back top (double lo hi) zero h = absurd (omega arith)
+  datainfo-back top (double lo hi) (suc n) h = ap₂ double (decimal-back (lo .whole) (lo .power)) (decimal-back (hi .whole) (hi .power))
+  datainfo-back top (int lo hi) zero h = absurd (omega arith)
+  datainfo-back top (int lo hi) (suc n) h = ap₂ int (integer-back lo) (integer-back hi)
+  datainfo-back top bool zero h = absurd (omega arith)
+  datainfo-back top bool (suc n) h = refl
+  datainfo-back top (enum vs) zero h = absurd (omega arith)
+  datainfo-back top (enum vs) (suc n) h = ap enum (variants-back vs)
+  datainfo-back top (string lo hi) zero h = absurd (omega arith)
+  datainfo-back top (string lo hi) (suc n) h = ap₂ string (natural-back lo) (natural-back hi)
+  datainfo-back top (array lo hi d) zero h = absurd (omega arith)
+  datainfo-back top (array lo hi d) (suc n) h =
+      let e = datainfo-back false d n (omega arith) in
       rw (natural-back lo, natural-back hi) (ap (array lo hi) e)
-  datainfo-back (tuple ds) zero h = absurd (omega arith)
-  datainfo-back (tuple ds) (suc n) h = ap tuple (elements-back ds n (omega arith))
-  datainfo-back (struct fs) zero h = absurd (omega arith)
-  datainfo-back (struct fs) (suc n) h = ap struct (fields-back fs n (omega arith))
-  datainfo-back (scaled s lo hi) zero h = absurd (omega arith)
-  datainfo-back (scaled s lo hi) (suc n) h =
+  datainfo-back top (tuple ds) zero h = absurd (omega arith)
+  datainfo-back top (tuple ds) (suc n) h = ap tuple (elements-back ds n (omega arith))
+  datainfo-back top (struct fs) zero h = absurd (omega arith)
+  datainfo-back top (struct fs) (suc n) h = ap struct (fields-back fs n (omega arith))
+  datainfo-back top (scaled s lo hi) zero h = absurd (omega arith)
+  datainfo-back top (scaled s lo hi) (suc n) h =
       rw (integer-back lo, integer-back hi) (ap (λ z. scaled z lo hi) (decimal-back (s .whole) (s .power)))
-  datainfo-back (blob lo hi) zero h = absurd (omega arith)
-  datainfo-back (blob lo hi) (suc n) h = ap₂ blob (natural-back lo) (natural-back hi)
+  datainfo-back top (blob lo hi) zero h = absurd (omega arith)
+  datainfo-back top (blob lo hi) (suc n) h = ap₂ blob (natural-back lo) (natural-back hi)
+  datainfo-back top (partial ns fs) zero h = absurd (omega arith)
+  datainfo-back top (partial ns fs) (suc n) h = ap₂ partial (told-names top ns) (fields-back fs n (omega arith))
 
-  elements-back : (ds : Elements) (n : ℕ) → elementsLevels ds ≤ n → elementsFrom (datainfoOf n) (elementValues ds) ≡ ds
+  elements-back : (ds : Elements) (n : ℕ) → elementsLevels ds ≤ n → elementsFrom (datainfoOf n) (elementValues ds) ≡ enforcedElements ds
   elements-back no-elements n h = refl
-  elements-back (element d ds) n h = ap₂ element (datainfo-back d n (omega arith)) (elements-back ds n (omega arith))
+  elements-back (element d ds) n h = ap₂ element (datainfo-back false d n (omega arith)) (elements-back ds n (omega arith))
 
-  fields-back : (fs : Fields) (n : ℕ) → fieldsLevels fs ≤ n → fieldsFrom (datainfoOf n) (fieldValues fs) ≡ fs
+  fields-back : (fs : Fields) (n : ℕ) → fieldsLevels fs ≤ n → fieldsFrom (datainfoOf n) (fieldValues fs) ≡ enforcedFields fs
   fields-back no-fields n h = refl
-  fields-back (field k d fs) n h = ap₂ (field k) (datainfo-back d n (omega arith)) (fields-back fs n (omega arith))
+  fields-back (field k d fs) n h = ap₂ (field k) (datainfo-back false d n (omega arith)) (fields-back fs n (omega arith))
 
 -- ## Accessibles, modules, the table: n bounds the levels of datainfos
 
@@ -213,15 +231,15 @@ modulesLevels (m ∷ ms) = accessiblesLevels (m .accessibles) + modulesLevels ms
 pub tableLevels : Table → ℕ
 tableLevels t = modulesLevels (t .modules)
 
-argument-back : (o : Option Datainfo) (n : ℕ) → argumentLevels o ≤ n → argumentFrom n (argumentMember o) ≡ o
-unfolding argumentFrom argumentMember argumentLevels
+argument-back : (o : Option Datainfo) (n : ℕ) → argumentLevels o ≤ n → argumentFrom n (argumentMember o) ≡ enforcedArgument o
+unfolding argumentFrom argumentMember argumentLevels enforcedArgument
 argument-back none n h = refl
-argument-back (some d) n h = ap some (datainfo-back d n h)
+argument-back (some d) n h = ap some (datainfo-back false d n h)
 
 accessible-back : (a : Accessible) (n : ℕ) → accessibleLevels a ≤ n → (ms : Members)
     → accessiblesFrom n (accessibleMember a ms) ≡ enforcedAccessible a ∷ accessiblesFrom n ms
 unfolding accessiblesFrom accessibleMember accessibleOf accessibleLevels enforcedAccessible at keyAt others same bytes asObject asString asBoolean
-accessible-back (parameter p) n h ms = rw (datainfo-back (p .datainfo) n h)
+accessible-back (parameter p) n h ms = rw (datainfo-back true (p .datainfo) n h)
 accessible-back (command c) n h ms = rw (argument-back (c .argument) n h)
 
 accessibles-back : (l : List Accessible) (n : ℕ) → accessiblesLevels l ≤ n

@@ -5,14 +5,14 @@ ghost use Rattle.report.specs.Notes.{NotesAreGone};
 
 // Each function here promises a theorem about the definitions. Nothing is run.
 
-// Accepted tables with the same structure report are the same, but for notes, initial values and their places.
+// Accepted tables with the same structure report are the same, but for notes, initial values and their places, and flags that enforce nothing.
 pub fn reports_tell() -> bool
     ensures { λ r. ⌜ (r ≡ true) × ReportsTell ⌝ }
 {
     true
 }
 
-// So they find the same parameters and commands by name, and come to the same verdict on every value and every text.
+// So they find the same parameters and commands by name, and come to the same verdict on every value, every text and every change.
 pub fn reports_tell_verdicts() -> bool
     ensures { λ r. ⌜ (r ≡ true) × ReportsTellVerdicts ⌝ }
 {

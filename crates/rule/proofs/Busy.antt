@@ -7,16 +7,16 @@ use mathlib.Core.Logic.{⊎-elim}
 use mathlib.Core.Option.{none, some}
 use mathlib.Core.Path.{_≡_, refl, sym, _∙_, ap, subst}
 use Rattle.ascii.specs.Text.{bytes}
-use Rattle.fit.specs.Fit.{verdict, isFit, storedForm}
+use Rattle.fit.specs.Fit.{verdict, isFit}
 use Rattle.table.specs.Table.{Parameter, Table}
 use Rattle.table.specs.Layout.{tableOf}
 use Rattle.table.specs.Search.{Placed, findParameter}
 use Rattle.message.specs.Reply.{Report, changed}
 use Rattle.outbox.specs.Outbox.{Record, final, update, orderChange}
 use Rattle.plain.specs.Node.{Node, Value, reportOf, clientNumbers, updatesTo, showing}
-use Rattle.plain.specs.Answer.{busy, statusOf, busySettings, busyUpdates}
-use Rattle.plain.specs.Calls.{Event}
 use Rattle.plain.specs.History.{step}
+use Rattle.plain.specs.Answer.{storedAt, busy, statusOf, busySettings, busyUpdates}
+use Rattle.plain.specs.Calls.{Event}
 use Rattle.plain.proofs.Put.{put-at, put-other}
 use Rattle.plain.proofs.Busy.{is-status, no-status, named-other}
 use Rattle.rule.specs.Theorems.{Changed, ChangeSets, OfPiece, of-piece, BusyFirst, StatusLeft, BusyBeforeChanged, OtherStatusStays}
@@ -93,10 +93,10 @@ told-change : {w : Table} {n m : Node} {c : ℕ} {rs : List Record} (s : ℕ × 
     → ((k : ℕ) (p : Placed Parameter) (v : List ℕ) (t : ℕ) → Changed w n m c k p v t rs → p .it .name ≡ bytes "target"
     → findParameter w (p .moduleName) (bytes "status") ≡ some s → P (reportOf p (showing v t)))
     → {e : Event} → OfPiece c (λ bs t. ChangeSets w n m c bs t r rs) e → P r
-told-change {w} s r target found P f (of-piece {t = t} g) =
+told-change {w} {n} s r target found P f (of-piece {t = t} g) =
     let z = g .tells in
     subst P (sym z)
-    (f (g .k) (g .p) (storedForm (g .p .it .datainfo) (g .offered)) t (g .changed) (ap (λ (x : Report). x .accessible) (sym z) ∙ target)
+    (f (g .k) (g .p) (storedAt (n .values) (g .k, g .p) (g .offered)) t (g .changed) (ap (λ (x : Report). x .accessible) (sym z) ∙ target)
     (ap (λ (x : Report). findParameter w (x .moduleName) (bytes "status")) (sym z) ∙ found))
 
 pub busy-before-changed : BusyBeforeChanged

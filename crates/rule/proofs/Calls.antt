@@ -25,7 +25,7 @@ use Rattle.counter.specs.Counts.{linesCounted}
 use Rattle.plain.specs.Node as Node
 use Rattle.plain.specs.Node.{Client, closed, Value, Node, put, withClient, withValue, withCount, isOpen, lineOf, receive, emptied, lineTaken, counting, reportOf}
 use Rattle.plain.specs.Node.{clientNumbers, updatesTo, holding, showing, withClients}
-use Rattle.plain.specs.Answer.{Outcome, outcome, statusOf, activates, deactivates, sets, answerParts, answer}
+use Rattle.plain.specs.Answer.{Outcome, outcome, storedAt, statusOf, activates, deactivates, sets, answerParts, answer}
 use Rattle.plain.specs.Calls.{Event, Open, Close, Piece, Reading, Unreadable, Call, ownFaults, callNumber, readingVerdict, beforeFeed, hasFeed, ended, pieceEffect, driverEffect, readingEffect, unreadableEffect, effect, settle, stepIf}
 use Rattle.plain.specs.History.{step}
 use Rattle.plain.proofs.Numbers as Numbers
@@ -49,7 +49,7 @@ quiet w n c now =
       activating = λ m f h. updates-of-no-final c _ (n .values) 0 (parameters w);
       deactivating = λ m f h. tt;
       setting = λ k v h.
-          (tt, busy-no-final (n .clients) (statusOf w (k .1)) now (k .1 .home) (reportOf (k .1) (showing (storedForm (k .1 .it .datainfo) v) now)));
+          (tt, busy-no-final (n .clients) (statusOf w (k .1)) now (k .1 .home) (reportOf (k .1) (showing (storedAt (n .values) k v) now)));
       doing = λ k v h. (tt, tt);
     })
 

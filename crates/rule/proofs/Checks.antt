@@ -5,7 +5,7 @@ use mathlib.Core.List.{List, [], _∷_, _++_, List·Memᴰ, List·Memᴰ·head, 
 use mathlib.Core.Option.{Option, none, some}
 use mathlib.Core.Path.{_≡_, refl, sym, ap, subst}
 use Rattle.ascii.specs.Bytes.{isSome}
-use Rattle.fit.specs.Fit.{Verdict, fits, rangeError, wrongType, badJSON, verdict}
+use Rattle.fit.specs.Fit.{Verdict, fits, rangeError, wrongType, badJSON}
 use Rattle.table.specs.Table.{Parameter, Table}
 use Rattle.table.specs.Layout.{tableOf}
 use Rattle.table.specs.Search.{Placed, findModule, findParameter}
@@ -15,7 +15,7 @@ use Rattle.message.specs.Error.{Denial, class, Class, NoSuchModule, NoSuchParam
 use Rattle.message.specs.Reply.{Report, Reply, changed, checked}
 use Rattle.outbox.specs.Outbox.{Record, final}
 use Rattle.plain.specs.Node.{Node, Setting, counting}
-use Rattle.plain.specs.Answer.{Outcome, refused, carried, found, letIn, sets, shows, judging, changes, checks, outcome}
+use Rattle.plain.specs.Answer.{Outcome, refused, carried, found, letIn, judgedAt, sets, shows, judging, changes, checks, outcome}
 use Rattle.plain.specs.Calls.{Piece}
 use Rattle.plain.proofs.Outcomes.{nodeAfter, before, replyTo}
 use Rattle.rule.specs.Theorems.{partsAt, AltersNothing, AsChange, both-refused, both-let-in, ChecksAreAsChanges}
@@ -46,7 +46,7 @@ module _ (w : Table) (n : Node) (c t : ℕ) where
 
   judged-alike : (v : List ℕ) (k : ℕ × Placed Parameter) → Alike n (changes w n c t v k) (checks w n c t v k)
   unfolding changes checks judging sets shows
-  judged-alike v k = writable-alike (k .1 .it .readonly) _ _ (let-in-alike (verdict (k .1 .it .datainfo) v) _ _ (letting _))
+  judged-alike v k = writable-alike (k .1 .it .readonly) _ _ (let-in-alike (judgedAt (n .values) k v) _ _ (letting _))
 
   alike : isSome (w .edition) ≡ true → (a x v : List ℕ) → Alike n (outcome w n c t (change a x v)) (outcome w n c t (check a x v))
   unfolding outcome

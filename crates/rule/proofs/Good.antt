@@ -11,7 +11,7 @@ use native.Mathlib.Omega.{arith}
 use borrow.Author.Tests.{lt-ltb}
 use Rattle.ascii.specs.Bytes.{isSome, same}
 use Rattle.ascii.proofs.Lists.{same-self}
-use Rattle.fit.specs.Fit.{fits, verdict, storedForm}
+use Rattle.fit.specs.Fit.{fits}
 use Rattle.table.specs.Table.{Parameter, Command, Accessible, Module, Table}
 use Rattle.table.specs.Search.{Placed, parametersOf, commandsOf, placedFrom, parameters, commands, firstFrom, first, findModule, findParameter, findCommand}
 use Rattle.table.proofs.Search.{parameter-there, parameter-named, command-there, command-named}
@@ -21,7 +21,7 @@ use Rattle.message.specs.Error.{Class, NoSuchModule}
 use Rattle.message.specs.Reply.{Held, valued, failed}
 use Rattle.outbox.specs.Outbox.{Record, final}
 use Rattle.plain.specs.Node.{counting, Client, Node, withClient, isOpen, isActive, emptied, activated}
-use Rattle.plain.specs.Answer.{Outcome, outcome, found, letIn, argumentVerdict, inScope, activates, deactivates, tells, reads, changes, sets, does, judging}
+use Rattle.plain.specs.Answer.{Outcome, outcome, found, letIn, argumentVerdict, judgedAt, storedAt, inScope, activates, deactivates, tells, reads, changes, sets, does, judging}
 use Rattle.plain.specs.Calls.{Piece, hasFeed}
 use Rattle.plain.proofs.Put.{put-at}
 use Rattle.plain.proofs.Clients.{emptied-open, activated-active}
@@ -81,7 +81,7 @@ found-some e (some a) o h = refl
 
 module _ (w : Table) (n : Node) (c t : ℕ) where
   good-set : (m a v : List ℕ) (k : ℕ × Placed Parameter) → findParameter w m a ≡ some k → k .1 .it .readonly ≡ false
-      → verdict (k .1 .it .datainfo) v ≡ fits → outcome w n c t (change m a v) ≡ sets w n c t k (storedForm (k .1 .it .datainfo) v)
+      → judgedAt (n .values) k v ≡ fits → outcome w n c t (change m a v) ≡ sets w n c t k (storedAt (n .values) k v)
   unfolding outcome changes judging found letIn
   good-set m a v k e o f = found-some NoSuchModule (findModule w m) _ (parameter-module w m a k e) ∙ rw (e, o, f) refl
 
@@ -123,7 +123,7 @@ comes-to {w} {n} {m} {rs} {c} {bs} {t} h q x e f =
 
 pub good-changes-are-made : GoodChangesAreMade
 good-changes-are-made table n c m x v k p e r g bs t l z f q =
-    answered-change _ n _ c t (k, p) (storedForm (p .it .datainfo) v) _ (parameter-there _ m x (k, p) e) bs
+    answered-change _ n _ c t (k, p) (storedAt (n .values) (k, p) v) _ (parameter-there _ m x (k, p) e) bs
     (ended-line (accepted-call table n (record { event = Piece c bs t; lent = l }) z) f)
     (ap (outcome _ (idle n c) c t) q ∙ good-set _ (idle n c) c t m x v (k, p) e r g)
 

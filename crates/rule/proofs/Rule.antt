@@ -18,7 +18,7 @@ use Rattle.message.specs.Request.{Request, change}
 use Rattle.message.specs.Reply.{valued, failed, Report, Reply, active, inactive, changed, error}
 use Rattle.outbox.specs.Outbox.{Record, final, update, orderChange, orderCommand}
 use Rattle.plain.specs.Node.{counting, Client, closed, fresh, Value, Node, put, withValue, isOpen, isActive, receive, emptied, activated, reportOf, clientNumbers, updatesTo, holding, showing, Setting, withSettings}
-use Rattle.plain.specs.Answer.{Outcome, refused, carried, outcome, activates, deactivates, sets, busy, statusOf, busySettings, busyUpdates}
+use Rattle.plain.specs.Answer.{Outcome, refused, carried, storedAt, outcome, activates, deactivates, sets, busy, statusOf, busySettings, busyUpdates}
 use Rattle.plain.specs.Calls.{Event, Piece, Reading, Unreadable, Answer, beforeFeed}
 use Rattle.plain.specs.History.{step}
 use Rattle.plain.proofs.Put.{put-at, put-other, put-all}
@@ -118,9 +118,9 @@ record Changing (w : Table) (n : Node) (c now : ℕ) (q : Request) (o : Outcome)
   k : ℕ × Placed Parameter
   v : List ℕ
   asked : q ≡ change (k .1 .moduleName) (k .1 .it .name) v
-  let-in : LetIn w k v
-  tells : r ≡ reportOf (k .1) (showing (storedForm (k .1 .it .datainfo) v) now)
-  is : o ≡ sets w n c now k (storedForm (k .1 .it .datainfo) v)
+  let-in : LetIn w (n .values) k v
+  tells : r ≡ reportOf (k .1) (showing (storedAt (n .values) k v) now)
+  is : o ≡ sets w n c now k (storedAt (n .values) k v)
 
 changed-is : (x y : Report) → changed x ≡ changed y → x ≡ y
 changed-is x y e = cc
@@ -147,9 +147,9 @@ changing w n c now p =
       doing = λ k v h r e. apart (changed r) _ (λ z. omega arith) e;
     })
   where
-    set-tells : (k : ℕ × Placed Parameter) (v : List ℕ) (r : Report) → changed r ≡ replyTo p (sets w n c now k (storedForm (k .1 .it .datainfo) v))
-        → r ≡ reportOf (k .1) (showing (storedForm (k .1 .it .datainfo) v) now)
-    set-tells k v r e = changed-is r _ (e ∙ sets-reply w n c now p k (storedForm (k .1 .it .datainfo) v))
+    set-tells : (k : ℕ × Placed Parameter) (v : List ℕ) (r : Report) → changed r ≡ replyTo p (sets w n c now k (storedAt (n .values) k v))
+        → r ≡ reportOf (k .1) (showing (storedAt (n .values) k v) now)
+    set-tells k v r e = changed-is r _ (e ∙ sets-reply w n c now p k (storedAt (n .values) k v))
 
 no-updates : (d : ℕ) (rs : List Record) (c : ℕ) (r : Reply) → updatesFor d (rs ++ (final c r ∷ [])) ≡ updatesFor d rs
 unfolding updatesFor
@@ -224,7 +224,7 @@ changed-line {w} {n} {m} {rs} {c} r (line-of {bs = bs} {t = t} h q) =
       writable = g .let-in .writable;
       fitting = g .let-in .fitting;
       tells = g .tells;
-      changed = answered-change w n m c t (g .k) (storedForm (g .k .1 .it .datainfo) (g .v)) rs (g .let-in .there) bs h (g .is);
+      changed = answered-change w n m c t (g .k) (storedAt (n .values) (g .k) (g .v)) rs (g .let-in .there) bs h (g .is);
     })
 
 pub changes-are-sent-to-all : ChangesAreSentToAll
@@ -245,7 +245,7 @@ alters w n c now p =
       telling = λ q f h. inl refl;
       activating = λ m f h. inl refl;
       deactivating = λ m f h. inl refl;
-      setting = λ k v h. inr (reportOf (k .1) (showing (storedForm (k .1 .it .datainfo) v) now), sets-reply w n c now p k (storedForm (k .1 .it .datainfo) v));
+      setting = λ k v h. inr (reportOf (k .1) (showing (storedAt (n .values) k v) now), sets-reply w n c now p k (storedAt (n .values) k v));
       doing = λ k v h. inl refl;
     })
 
@@ -535,8 +535,8 @@ to-actives w n c now o =
       deactivating = λ m f h d r l. absurd (List·Memᴰ·not-nil l);
       setting = λ k v h d r l.
           ⊎-elim
-          (λ e. absurd (not-update d r (orderChange c (k .0) (storedForm (k .1 .it .datainfo) v)) refl e))
-          (λ m. sets-active w n now k (storedForm (k .1 .it .datainfo) v) (h .there) (statusOf w (k .1)) refl d r m)
+          (λ e. absurd (not-update d r (orderChange c (k .0) (storedAt (n .values) k v)) refl e))
+          (λ m. sets-active w n now k (storedAt (n .values) k v) (h .there) (statusOf w (k .1)) refl d r m)
           (List·Memᴰ·cases-cons l);
       doing = λ k v h d r l. absurd (not-update d r _ refl (List·Memᴰ·eq-of-singleton l));
     })

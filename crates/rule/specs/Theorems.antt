@@ -20,7 +20,7 @@ use Rattle.table.specs.Layout.{tableOf}
 use Rattle.table.specs.Search.{Placed, parameters, commands, findParameter, findCommand}
 use Rattle.outbox.specs.Outbox.{Record, final, update, orderChange, orderCommand}
 use Rattle.plain.specs.Node.{Value, Node, put, withClient, setValues, isOpen, isActive, lineOf, receive, emptied, lineTaken, counting, reportOf, clientNumbers, updatesTo, updatesOf, holding, showing}
-use Rattle.plain.specs.Answer.{argumentVerdict, argumentForm, busy, statusOf, busySettings, busyUpdates}
+use Rattle.plain.specs.Answer.{argumentVerdict, argumentForm, judgedAt, storedAt, busy, statusOf, busySettings, busyUpdates}
 use Rattle.plain.specs.Calls.{Event, Piece, Reading, Unreadable, Lent, Call, Answer, beforeFeed, hasFeed, usedOf, settingsIf}
 use Rattle.plain.specs.History.{step}
 use Rattle.rule.specs.Records.{updatesFor, repliesFor, feedsUsed, inScopeOf, isThere, reportsOf, busyReports, activeAfter}
@@ -98,16 +98,16 @@ pub record Changed (w : Table) (n m : Node) (c k : ℕ) (p : Placed Parameter) (
       ++ (final c (changed (reportOf p (showing v t))) ∷ [])
 
 -- A change that is replied to by `changed` was asked for by that line, fits, and sets that parameter to its stored form at the time of
--- the line feed.
+-- the line feed: what it leaves out is filled in from what the parameter shows before it (M-113).
 pub record ChangeSets (w : Table) (n m : Node) (c : ℕ) (bs : List ℕ) (t : ℕ) (r : Report) (rs : List Record) : Type 0 where
   pub k : ℕ
   pub p : Placed Parameter
   pub offered : List ℕ
   pub asked : requestOf n c bs ≡ change (p .moduleName) (p .it .name) offered
   pub writable : p .it .readonly ≡ false
-  pub fitting : verdict (p .it .datainfo) offered ≡ fits
-  pub tells : r ≡ reportOf p (showing (storedForm (p .it .datainfo) offered) t)
-  pub changed : Changed w n m c k p (storedForm (p .it .datainfo) offered) t rs
+  pub fitting : judgedAt (n .values) (k, p) offered ≡ fits
+  pub tells : r ≡ reportOf p (showing (storedAt (n .values) (k, p) offered) t)
+  pub changed : Changed w n m c k p (storedAt (n .values) (k, p) offered) t rs
 
 -- what holds of a piece of client c, by its bytes and its time
 pub data OfPiece (c : ℕ) (P : List ℕ → ℕ → Type 0) : Event → Type 0 where
@@ -123,11 +123,11 @@ abbrev pub WhenAsked : List ℕ → Node → ℕ → Request → (ℕ → Node �
 WhenAsked table n c q P = (bs : List ℕ) (t : ℕ) (lent : Lent) → let r = step table n (record { event = Piece c bs t; lent = lent }) in
     r .1 .number ≡ 0 → hasFeed bs ≡ true → requestOf n c bs ≡ q → P t (r .0) (r .1 .records)
 
--- And every good change is made: one of a parameter that is there and is not readonly, by a value that fits.
+-- And every good change is made: one of a parameter that is there and is not readonly, by a value that fits, with what it leaves out.
 abbrev pub GoodChangesAreMade : Type 0
 GoodChangesAreMade = (table : List ℕ) (n : Node) (c : ℕ) (m x offered : List ℕ) (k : ℕ) (p : Placed Parameter)
-    → findParameter (tableOf table) m x ≡ some (k, p) → p .it .readonly ≡ false → verdict (p .it .datainfo) offered ≡ fits
-    → WhenAsked table n c (change m x offered) λ t y rs. Changed (tableOf table) n y c k p (storedForm (p .it .datainfo) offered) t rs
+    → findParameter (tableOf table) m x ≡ some (k, p) → p .it .readonly ≡ false → judgedAt (n .values) (k, p) offered ≡ fits
+    → WhenAsked table n c (change m x offered) λ t y rs. Changed (tableOf table) n y c k p (storedAt (n .values) (k, p) offered) t rs
 
 -- ## Whoever has the module active has been sent the busy status before the requester is sent `changed` (M-100)
 

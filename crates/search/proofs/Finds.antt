@@ -29,13 +29,13 @@ use Rattle.search.specs.Found.{ParameterFound, CommandFound, ParameterNu
 -- ## Lists
 
 module _ {A : Type 0} where
-  drop-at : (n : ℕ) (l : List A) (x : A) (xs : List A) → drop n l ≡ x ∷ xs → getElem? l n ≡ some x
+  pub drop-at : (n : ℕ) (l : List A) (x : A) (xs : List A) → drop n l ≡ x ∷ xs → getElem? l n ≡ some x
   drop-at zero [] x xs e = let z : _≡_ {A = ℕ} 0 1 = cc in absurd (omega arith)
   drop-at zero (y ∷ l) x xs e = cc
   drop-at (suc n) [] x xs e = let z : _≡_ {A = ℕ} 0 1 = cc in absurd (omega arith)
   drop-at (suc n) (y ∷ l) x xs e = drop-at n l x xs e
 
-  drop-past : (n : ℕ) (l : List A) (k : ℕ) → drop n l ≡ [] → n ≤ k → getElem? l k ≡ none
+  pub drop-past : (n : ℕ) (l : List A) (k : ℕ) → drop n l ≡ [] → n ≤ k → getElem? l k ≡ none
   drop-past n [] k e h = refl
   drop-past zero (y ∷ l) k e h = let z : _≡_ {A = ℕ} 0 1 = cc in absurd (omega arith)
   drop-past (suc n) (y ∷ l) zero e h = absurd (omega arith)
@@ -61,17 +61,17 @@ module _ {A : Type 0} (of : List Table.Accessible → List A) (l : Table.Table �
   counted-way n c h = h .way
 
   module _ (n : ℕ) (c : Cursor) (h : Counted n c) where
-    counted-end : Ended of s c → drop n (l (tableOf s)) ≡ []
+    pub counted-end : Ended of s c → drop n (l (tableOf s)) ≡ []
     counted-end e = in-some (sym (h .left) ∙ e)
 
     module _ (e : Cursor) (a : A) (b : FirstIs of s c e a) where
-      counted-at : drop n (l (tableOf s)) ≡ placed s e a ∷ b .others
+      pub counted-at : drop n (l (tableOf s)) ≡ placed s e a ∷ b .others
       counted-at = in-some (sym (h .left) ∙ b .is)
 
-      counted-left : leftFrom of s e ≡ some (drop (n + 1) (l (tableOf s)))
+      pub counted-left : leftFrom of s e ≡ some (drop (n + 1) (l (tableOf s)))
       counted-left = b .left ∙ ap some (sym (drop-next n (l (tableOf s)) _ _ counted-at))
 
-      counted-on : After s c e → Counted (n + 1) e
+      pub counted-on : After s c e → Counted (n + 1) e
       counted-on x =
           let y = h .few in
           let z = x .later in

@@ -40,6 +40,9 @@ picks-commands = record { nil = refl; cons = go }
     go (Table.parameter p) xs = refl
     go (Table.command p) xs = refl
 
+pub picks-accessibles : Picks accessiblesOf
+picks-accessibles = record { nil = refl; cons = λ a xs. refl }
+
 map-append : {A B : Type 0} (f : A → B) (x y : List A) → map f (x ++ y) ≡ map f x ++ map f y
 map-append f [] y = refl
 map-append f (a ∷ x) y = ap (λ l. f a ∷ l) (map-append f x y)
@@ -84,20 +87,20 @@ module _ {A : Type 0} (of : List Table.Accessible → List A) (k : Picks of) whe
   pick-there s c x z = pick-left s c ∙ rw z
 
   module _ (s : List ℕ) (c : Cursor) where
-    picks-end : Ended accessiblesOf s c → Ended of s c
+    pub picks-end : Ended accessiblesOf s c → Ended of s c
     unfolding pick
     picks-end z = pick-there s c [] z
 
     module _ (e : Cursor) where
-      picks-on : Goes accessiblesOf s c e → Goes of s c e
+      pub picks-on : Goes accessiblesOf s c e → Goes of s c e
       picks-on g = pick-left s e ∙ ap (λ o. o >>= λ l. some (pick of l)) g ∙ sym (pick-left s c)
 
       module _ (x : Table.Accessible) (b : FirstIs accessiblesOf s c e x) where
-        picks-past : of (x ∷ []) ≡ [] → Goes of s c e
+        pub picks-past : of (x ∷ []) ≡ [] → Goes of s c e
         unfolding pick
         picks-past z = pick-there s e (b .others) (b .left) ∙ sym (pick-there s c _ (b .is) ∙ rw z)
 
-        picks-first : (a : A) → of (x ∷ []) ≡ a ∷ [] → FirstIs of s c e a
+        pub picks-first : (a : A) → of (x ∷ []) ≡ a ∷ [] → FirstIs of s c e a
         unfolding pick
         picks-first a z = record { others = pick of (b .others); is = pick-there s c _ (b .is) ∙ rw z; left = pick-there s e (b .others) (b .left) }
 
@@ -145,6 +148,27 @@ module _ (s : List ℕ) (c : Cursor) (r : R.Record) (h : RecordIs s c r) where
   module-less e z = walk-less s c e ((rw z at h) .after)
 
   module _ (i : Cursor) where
+    module _ (w : Walked accessiblesOf s i c) where
+      pub one-parameter : (q : ParameterAt) (e : Cursor) → r ≡ R.the-variants.Parameter q e → ParameterFirst accessiblesOf Table.parameter s i q e
+      one-parameter q e z =
+          let x = rw z at h in
+          record {
+            after = walk-after accessiblesOf s i c e w (x .after);
+            next = x .next;
+            held = x .held;
+            first = walk-first accessiblesOf s i c e _ w (x .first);
+          }
+
+      pub one-command : (q : CommandAt) (e : Cursor) → r ≡ R.the-variants.Command q e → CommandFirst accessiblesOf Table.command s i q e
+      one-command q e z =
+          let x = rw z at h in
+          record {
+            after = walk-after accessiblesOf s i c e w (x .after);
+            next = x .next;
+            held = x .held;
+            first = walk-first accessiblesOf s i c e _ w (x .first);
+          }
+
     module _ (w : Walked parametersOf s i c) where
       pub parameter-found : (q : ParameterAt) (e : Cursor) → r ≡ R.the-variants.Parameter q e → ParameterFirst parametersOf (λ p. p) s i q e
       unfolding parametersOf

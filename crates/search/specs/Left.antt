@@ -21,6 +21,8 @@ use Rattle.table.specs.declared.layout.ParameterAt.{ParameterAt}
 use Rattle.table.specs.declared.layout.CommandAt.{CommandAt}
 use Rattle.search.specs.declared.cursor.Cursor.{Cursor}
 use Rattle.search.specs.declared.cursor.Record as R
+use Rattle.search.specs.declared.cursor.One as O
+use Rattle.search.specs.declared.cursor.NextAccessible as N
 use Rattle.search.specs.declared.cursor.NextParameter as P
 use Rattle.search.specs.declared.cursor.NextCommand as C
 
@@ -166,6 +168,21 @@ RecordIs s c (R.the-variants.Parameter q e) = ParameterFirst accessiblesOf Table
 RecordIs s c (R.the-variants.Command q e) = CommandFirst accessiblesOf Table.command s c q e
 RecordIs s c (R.the-variants.Module e) = ModuleFirst s c e
 RecordIs s c R.the-variants.End = Ended accessiblesOf s c
+
+-- where the name of an accessible lies
+abbrev pub nameOf : O.One → Part
+nameOf (O.the-variants.Parameter q) = q .name
+nameOf (O.the-variants.Command q) = q .name
+
+-- the accessible a is the first of what is left at c, and e is the cursor after it
+abbrev pub OneFirst : List ℕ → Cursor → O.One → Cursor → Type 0
+OneFirst s c (O.the-variants.Parameter q) e = ParameterFirst accessiblesOf Table.parameter s c q e
+OneFirst s c (O.the-variants.Command q) e = CommandFirst accessiblesOf Table.command s c q e
+
+-- the next accessible from c on
+abbrev pub NextAccessibleIs : List ℕ → Cursor → N.NextAccessible → Type 0
+NextAccessibleIs s c (N.the-variants.At a e) = OneFirst s c a e
+NextAccessibleIs s c N.the-variants.End = Ended accessiblesOf s c
 
 -- the next parameter from c on
 abbrev pub NextParameterIs : List ℕ → Cursor → P.NextParameter → Type 0

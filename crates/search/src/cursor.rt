@@ -15,7 +15,7 @@ ghost use mathlib.Core.Bool.{false};
 ghost use Prim.Native.Nat.{_≤_};
 ghost use lib.ListN.{length};
 ghost use Rattle.table.specs.Layout.{Readable};
-ghost use Rattle.search.specs.Left.{follows, OnWay, FirstCursor, RecordIs, NextParameterIs, NextCommandIs};
+ghost use Rattle.search.specs.Left.{follows, OnWay, FirstCursor, RecordIs, nameOf, NextAccessibleIs, NextParameterIs, NextCommandIs};
 
 // Where the next record begins, how many modules have begun, and the name of the latest.
 pub struct Cursor {
@@ -29,6 +29,18 @@ pub(crate) enum Record {
     Parameter(ParameterAt, Cursor),
     Command(CommandAt, Cursor),
     Module(Cursor),
+    End,
+}
+
+// An accessible of either kind, and where its parts lie.
+pub enum One {
+    Parameter(ParameterAt),
+    Command(CommandAt),
+}
+
+// The next accessible, with the cursor after it.
+pub enum NextAccessible {
+    At(One, Cursor),
     End,
 }
 
@@ -130,6 +142,40 @@ fn next_record(s: &[u8], c: Cursor) -> Record
             )
         }
         Accessible::Bad => Record::End,
+    }
+}
+
+// Where the name of an accessible lies.
+pub fn name_of(a: One) -> Part
+    ensures { λ r. ⌜ r ≡ nameOf a ⌝ }
+{
+    match a {
+        One::Parameter(q) => q.name,
+        One::Command(q) => q.name,
+    }
+}
+
+// Into the modules that follow.
+pub fn next_accessible(s: &[u8], c: Cursor) -> NextAccessible
+    requires { ⌜ OnWay (now s) c ⌝ }
+    ensures { λ r. ⌜ NextAccessibleIs (now (s .entry)) c r ⌝ }
+{
+    let mut i = c;
+    loop {
+        match next_record(s, i) {
+            Record::Parameter(q, e) => {
+                return NextAccessible::At(One::Parameter(q), e);
+            }
+            Record::Command(q, e) => {
+                return NextAccessible::At(One::Command(q), e);
+            }
+            Record::Module(e) => {
+                i = e;
+            }
+            Record::End => {
+                return NextAccessible::End;
+            }
+        }
     }
 }
 

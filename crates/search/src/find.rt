@@ -88,7 +88,7 @@ pub fn find_module(s: &[u8], name: &[u8]) -> FoundModule
 }
 
 // Whether a module's name and an accessible's name are those that are sought.
-fn are_named(s: &[u8], p: Part, q: Part, module: &[u8], name: &[u8]) -> bool
+pub fn are_named(s: &[u8], p: Part, q: Part, module: &[u8], name: &[u8]) -> bool
     requires { ⌜ Inside (now s) p × Inside (now s) q ⌝ }
     ensures { λ r. ⌜ r ≡ (same (now («module» .entry)) (bytesOf (now (s .entry)) p) && same (now (name .entry)) (bytesOf (now (s .entry)) q)) ⌝ }
 {

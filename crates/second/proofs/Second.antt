@@ -58,7 +58,7 @@ module _ (table : List ℕ) where
     -- ## The second history
 
     -- its calls are accepted, and use all their items, where only clients with small numbers are open
-    wholly : (k : List Call) (n : Node) → ((d : ℕ) → So (isOpen (n .clients d)) → So (not (ltb 7 d))) → AllRoomy k
+    pub wholly : (k : List Call) (n : Node) → ((d : ℕ) → So (isOpen (n .clients d)) → So (not (ltb 7 d))) → AllRoomy k
         → ((d : ℕ) → So (inOrder d (isOpen (n .clients d)) (own d (items k))))
         → So (all (readable table) (marks (items k))) → EmptiesOpen n k
         → AllAccepted (answers table n k) × (taken table n k ≡ items k)

@@ -12,9 +12,12 @@ use Rattle.ascii.specs.Text.{bytes}
 use Rattle.counter.specs.Counts.{noCounts, linesCounted}
 use Rattle.ascii.specs.Bytes.{all, count}
 use Rattle.ascii.specs.Numbers.{latest}
+use Rattle.json.specs.Json.{Json, text}
+use Rattle.json.proofs.ReadBack.{readable-trees}
 use Rattle.datainfo.specs.Datainfo.{Datainfo}
-use Rattle.fit.specs.Fit.{Verdict, fits, severity, verdict, storedForm, isFit, isStored}
-use Rattle.form.proofs.Stored.{stored, stored-short, short-stored}
+use Rattle.fit.specs.Fit.{Verdict, fits, severity, storedForm, isFit, isStored}
+use Rattle.form.specs.Theorems.{ReadableShown}
+use Rattle.form.proofs.Stored.{stored, stored-short, change-stored, change-short, short-stored}
 use Rattle.message.specs.Line.{Parts, content, partsOf}
 use Rattle.message.specs.Request.{Request, request}
 use Rattle.message.specs.Error.{Fault, faultOf}
@@ -28,7 +31,7 @@ use Rattle.report.specs.Report.{report}
 use Rattle.report.specs.Judge.{lowest}
 use Rattle.report.proofs.Faults.{no-fault, lowest-none}
 use Rattle.plain.specs.Node.{closed, Value, Node, withClient, withValue, Setting, Client, fresh, opened, isActive, below, activeCount, lineOf, receive, emptied, lineTaken, counting, reportOf, clientNumbers, updatesTo, holding, showing, withValues, withSettings}
-use Rattle.plain.specs.Answer.{busy, statusOf, busySettings, busyUpdates}
+use Rattle.plain.specs.Answer.{shownValue, judgedAt, storedAt, busy, statusOf, busySettings, busyUpdates}
 use Rattle.plain.specs.Answer.{Outcome, refused, carried, argumentVerdict, argumentForm, activates, deactivates, sets, outcome, conclude, answerParts, answer}
 use Rattle.plain.specs.Calls.{Event, Open, Close, Piece, Reading, Unreadable, Call, readingVerdict, ownFaults, callNumber, beforeFeed, hasFeed, ended, Effect, pieceEffect, driverEffect, readingEffect, unreadableEffect, effect, settle, stepIf}
 use Rattle.plain.specs.History.{step}
@@ -68,12 +71,23 @@ fit-is : (v : Verdict) → v ≡ fits → isFit v ≡ true
 unfolding isFit severity
 fit-is v e = rw e refl
 
+-- what is shown was read from a text
+pub shown-readable : (x : Held) → ReadableShown (shownValue x)
+unfolding shownValue
+shown-readable (valued v) = go (text v) refl
+  where
+    go : (o : Option Json) → text v ≡ o → ReadableShown o
+    go none e = tt
+    go (some x) e = readable-trees .ofTexts v x e
+shown-readable (failed f) = tt
+
 -- what is let in, as it is stored
-pub let-in-stored : (w : Table) → Accepted w → (k : ℕ × Placed Parameter) (v : List ℕ) → LetIn w k v
-    → isStored (k .1 .it .datainfo) (storedForm (k .1 .it .datainfo) v) ≡ true
-let-in-stored w a k v l =
-    stored (k .1 .it .datainfo) v (each-at (λ (q : Placed Parameter). ParameterIn (q .it)) (parameters w) (a .parametersIn) (k .0) (k .1) (l .there))
-    (fit-is (verdict (k .1 .it .datainfo) v) (l .fitting))
+pub let-in-stored : (w : Table) → Accepted w → (values : ℕ → Value) (k : ℕ × Placed Parameter) (v : List ℕ) → LetIn w values k v
+    → isStored (k .1 .it .datainfo) (storedAt values k v) ≡ true
+let-in-stored w a values k v l =
+    change-stored (shownValue (values (k .0) .held)) (k .1 .it .datainfo) v (shown-readable (values (k .0) .held))
+    (each-at (λ (q : Placed Parameter). ParameterIn (q .it)) (parameters w) (a .parametersIn) (k .0) (k .1) (l .there))
+    (fit-is (judgedAt values k v) (l .fitting))
 
 -- ## Lines, on an accepted table, at a sound node
 
@@ -156,8 +170,8 @@ module _ (w : Table) (a : Accepted w) (n : Node) (s : Sound w n) where
         says-within (reply r) 415 32013 (omega arith)
         (says-reply r (fine (k .0) (k .1) e (showing v u) (subst (ValueHeld (k .1 .it)) i (s .values (k .0) (k .1) e))) tt)
     told-short _ _ (by-check k v l e) q =
-        let x = showing (storedForm (k .1 .it .datainfo) v) t in
-        let i = let-in-stored w a k v l in
+        let x = showing (storedAt (n .values) k v) t in
+        let i = let-in-stored w a (n .values) k v l in
         says-within (checked (reportOf (k .1) x)) 415 32013 (omega arith)
         (says-checked (reportOf (k .1) x) (fine (k .0) (k .1) (l .there) x (i, h)) tt)
     told-short _ _ by-count q =
@@ -178,20 +192,20 @@ module _ (w : Table) (a : Accepted w) (n : Node) (s : Sound w n) where
         let f = busy-stored (x .1 .it .datainfo) (in-table (x .0) (x .1) (i .there) .names) (i .admits) in
         (new-node (x .0) (x .1) (i .there) (valued busy) f t h, new-updates (x .0) (x .1) (i .there) (valued busy) f t h)
 
-    comes-sets : (k : ℕ × Placed Parameter) (v : List ℕ) → LetIn w k v → Comes w c (sets w n c t k (storedForm (k .1 .it .datainfo) v))
+    comes-sets : (k : ℕ × Placed Parameter) (v : List ℕ) → LetIn w (n .values) k v → Comes w c (sets w n c t k (storedAt (n .values) k v))
     unfolding sets body
     comes-sets k v i =
-        let f = fit-is (verdict (k .1 .it .datainfo) v) (i .fitting) in
+        let f = fit-is (judgedAt (n .values) k v) (i .fitting) in
         let e = i .there in
-        let x : Held = valued (storedForm (k .1 .it .datainfo) v) in
-        let i = stored (k .1 .it .datainfo) v (in-table (k .0) (k .1) e) f in
+        let x : Held = valued (storedAt (n .values) k v) in
+        let i = let-in-stored w a (n .values) k v i in
         let r = reportOf (k .1) (holding x t) in
         let o = statusOf w (k .1) in
         let b = busied (k .1) o refl in
-        let order = orderChange c (k .0) (storedForm (k .1 .it .datainfo) v) in
+        let order = orderChange c (k .0) (storedAt (n .values) k v) in
         let first = busyUpdates (n .clients) o t in
         let updates = updatesTo (n .clients) (k .1 .home) r clientNumbers in
-        let told = written-one order 262 tt (omega (arith, stored-short (k .1 .it .datainfo) v f)) in
+        let told = written-one order 262 tt (omega (arith, change-short (shownValue (n .values (k .0) .held)) (k .1 .it .datainfo) v f)) in
         let set : List Setting = record { parameter = k .0; held = x; time = t } ∷ [] in
         comes (withSettings n (busySettings o t ++ set)) (busySettings o t ++ set) (order ∷ (first ++ updates)) (changed r) 6982 415
         (subst (λ f. Sound w (withValues n f)) (sym (set-more (n .values) (busySettings o t) set))

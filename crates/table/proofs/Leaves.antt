@@ -10,8 +10,8 @@ use Rattle.ascii.specs.Text.{bytes}
 use Rattle.ascii.specs.Bytes.{_>>=_, after, part}
 use Rattle.ascii.specs.Numbers.{unsigned, signed}
 use Rattle.datainfo.specs.Datainfo.{Datainfo}
-use Rattle.datainfo.specs.Layout.{counted, limit, doubleAt, intAt, variants, enumAt, stringAt, arrayAt, elements, tupleAt, fields, structAt, scaledAt, blobAt, typed, datainfoIn}
-use Rattle.table.specs.Layout.{begins, flag, argumentAt, markedAt, headAt}
+use Rattle.datainfo.specs.Layout.{counted, limit, doubleAt, intAt, variants, enumAt, stringAt, arrayAt, flag, flagged, entry, elements, tupleAt, fields, structAt, partialAt, scaledAt, blobAt, typed, datainfoIn}
+use Rattle.table.specs.Layout.{begins, argumentAt, markedAt, headAt}
 
 -- Q holds of what is left, if anything was read
 pub data Within {A : Type 0} (Q : List ℕ → Type 0) : Option (A × List ℕ) → Type 0 where
@@ -99,6 +99,14 @@ module _ {Q : List ℕ → Type 0} (end : Ending Q) where
   unfolding enumAt
   w-enum h = w-then (w-unsigned 1 h) (λ p g. w-then (w-variants (p .0) g) (λ q k. left k))
 
+  pub w-flag : {xs : List ℕ} → Q xs → Within Q (flag xs)
+  unfolding flag
+  w-flag h = w-then (w-unsigned 1 h) (λ p g. w-cond (leb (p .0) 1) (left g) failed)
+
+  pub w-entry : (k : ℕ) {xs : List ℕ} → Q xs → Within Q (entry k xs)
+  unfolding entry flagged
+  w-entry k h = w-then (w-cond (eqb k 11) (w-flag h) (left h)) (λ p g. w-then (w-counted g) (λ q i. left i))
+
   module _ (f : List ℕ → Option (Datainfo × List ℕ)) (w : (xs : List ℕ) → Q xs → Within Q (f xs)) where
     pub w-array : {xs : List ℕ} → Q xs → Within Q (arrayAt f xs)
     unfolding arrayAt
@@ -109,13 +117,13 @@ module _ {Q : List ℕ → Type 0} (end : Ending Q) where
     w-elements zero h = left h
     w-elements (suc m) {xs} h = w-then (w xs h) (λ p g. w-then (w-elements m g) (λ q k. left k))
 
-    pub w-fields : (m : ℕ) {xs : List ℕ} → Q xs → Within Q (fields f m xs)
+    pub w-fields : (k m : ℕ) {xs : List ℕ} → Q xs → Within Q (fields f k m xs)
     unfolding fields
-    w-fields zero h = left h
-    w-fields (suc m) h = w-then (w-counted h) (λ p g. w-then (w (p .1) g) (λ q k. w-then (w-fields m k) (λ r l. left l)))
+    w-fields k zero h = left h
+    w-fields k (suc m) h = w-then (w-entry k h) (λ p g. w-then (w (p .1) g) (λ q i. w-then (w-fields k m i) (λ r l. left l)))
 
     pub w-typed : (k : ℕ) {xs : List ℕ} → Q xs → Within Q (typed f k xs)
-    unfolding typed tupleAt structAt
+    unfolding typed tupleAt structAt partialAt
     w-typed k h =
         w-cond (eqb k 1) (w-double h)
         (w-cond (eqb k 2) (w-int h)
@@ -124,19 +132,16 @@ module _ {Q : List ℕ → Type 0} (end : Ending Q) where
         (w-cond (eqb k 5) (w-string h)
         (w-cond (eqb k 6) (w-array h)
         (w-cond (eqb k 7) (w-then (w-unsigned 1 h) (λ p g. w-then (w-elements (p .0) g) (λ q l. left l)))
-        (w-cond (eqb k 8) (w-then (w-unsigned 1 h) (λ p g. w-then (w-fields (p .0) g) (λ q l. left l)))
+        (w-cond (eqb k 8) (w-then (w-unsigned 1 h) (λ p g. w-then (w-fields 8 (p .0) g) (λ q l. left l)))
         (w-cond (eqb k 9) (w-scaled h)
         (w-cond (eqb k 10) (w-blob h)
-        failed)))))))))
+        (w-cond (eqb k 11) (w-then (w-unsigned 1 h) (λ p g. w-then (w-fields 11 (p .0) g) (λ q l. left l)))
+        failed))))))))))
 
   pub w-datainfo : (l : ℕ) (xs : List ℕ) → Q xs → Within Q (datainfoIn l xs)
   unfolding datainfoIn
   w-datainfo zero xs h = failed
   w-datainfo (suc l) xs h = w-then (w-unsigned 1 h) (λ p g. w-typed (datainfoIn l) (w-datainfo l) (p .0) g)
-
-  pub w-flag : {xs : List ℕ} → Q xs → Within Q (flag xs)
-  unfolding flag
-  w-flag h = w-then (w-unsigned 1 h) (λ p g. w-cond (leb (p .0) 1) (left g) failed)
 
   pub w-argument : (b : Bool) {xs : List ℕ} → Q xs → Within Q (argumentAt b xs)
   unfolding argumentAt

@@ -22,7 +22,7 @@ const MEMBER_VALUES: [i32; 8] = [0, 1, 2, -1, 100, 400, i32::MAX, i32::MIN];
 
 /// A good datainfo of at most so many levels.
 pub fn good(random: &mut Random, levels: usize) -> Datainfo {
-    match random.below(if levels > 1 { 16 } else { 11 }) {
+    match random.below(if levels > 1 { 18 } else { 11 }) {
         0..=1 => double(random),
         2..=3 => int(random),
         4 => Datainfo::Bool,
@@ -32,6 +32,7 @@ pub fn good(random: &mut Random, levels: usize) -> Datainfo {
         9..=10 => blob(random),
         11..=12 => array(random, levels),
         13 => Datainfo::Tuple(members(random, levels)),
+        14..=15 => partial(random, levels),
         _ => {
             let mut scope = Scope::default();
             let members = members(random, levels).into_iter();
@@ -42,6 +43,21 @@ pub fn good(random: &mut Random, levels: usize) -> Datainfo {
             )
         }
     }
+}
+
+/// A struct with optional members: some, none or all of them.
+pub fn partial(random: &mut Random, levels: usize) -> Datainfo {
+    let mut scope = Scope::default();
+    let members: Vec<_> = members(random, levels)
+        .into_iter()
+        .map(|member| (scope.fresh(random), member))
+        .collect();
+    let optional = match random.below(6) {
+        0 => vec![false; members.len()],
+        1 => vec![true; members.len()],
+        _ => members.iter().map(|_| random.one_in(2)).collect(),
+    };
+    Datainfo::Partial { optional, members }
 }
 
 fn double(random: &mut Random) -> Datainfo {
@@ -284,6 +300,10 @@ fn outer(random: &mut Random, inner: Datainfo) -> Datainfo {
             members: Box::new(inner),
         },
         1 => Datainfo::Tuple(vec![Datainfo::Bool, inner]),
+        _ if random.one_in(3) => Datainfo::Partial {
+            optional: vec![random.one_in(2)],
+            members: vec![(names::good(random), inner)],
+        },
         _ => Datainfo::Struct(vec![(names::good(random), inner)]),
     }
 }

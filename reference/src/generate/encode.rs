@@ -145,6 +145,14 @@ impl Encoded {
                 self.add(&minbytes.to_be_bytes());
                 self.add(&maxbytes.to_be_bytes());
             }
+            Datainfo::Partial { optional, members } => {
+                self.add(&[11, members.len() as u8]);
+                for ((name, member), optional) in members.iter().zip(optional) {
+                    self.add(&[u8::from(*optional)]);
+                    self.text(name);
+                    self.datainfo(member);
+                }
+            }
         }
     }
 

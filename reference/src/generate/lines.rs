@@ -118,8 +118,9 @@ fn data(random: &mut Random, datainfo: Option<&Datainfo>) -> Vec<u8> {
     match random.below(16) {
         0 => Vec::new(),
         1 => vec![b' '; random.between(1, 3)],
-        2..=7 => [b" ", &values::sent(random, datainfo)[..]].concat(),
-        8..=11 => [b" ", &values::nearly_fitting(random, datainfo)[..]].concat(),
+        2..=5 => [b" ", &values::sent(random, datainfo)[..]].concat(),
+        6..=8 => [b" ", &values::partly(random, datainfo)[..]].concat(),
+        9..=11 => [b" ", &values::nearly_fitting(random, datainfo)[..]].concat(),
         _ => [b" ", &values::any(random, datainfo)[..]].concat(),
     }
 }

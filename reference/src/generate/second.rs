@@ -46,7 +46,7 @@ struct Stretch {
 
 /// A history's course: its start, its events, and for each client the
 /// stretches before its first event, between its events and after its last.
-struct Course {
+pub(super) struct Course {
     start: Call,
     events: Vec<Event>,
     stretches: [Vec<Stretch>; CLIENTS],
@@ -56,6 +56,11 @@ struct Course {
 /// more than one.
 pub fn second(first: &History, seed: u64) -> Option<History> {
     let course = course(first)?;
+    Some(write(course, &first.table, seed))
+}
+
+/// A history with this course, cut and mingled at random.
+pub(super) fn write(course: Course, table: &[u8], seed: u64) -> History {
     let mut writer = Writer {
         random: Random::new(seed),
         calls: vec![course.start],
@@ -67,14 +72,14 @@ pub fn second(first: &History, seed: u64) -> Option<History> {
         writer.write(event);
     }
     writer.finish();
-    Some(History {
-        table: first.table.clone(),
+    History {
+        table: table.to_vec(),
         calls: writer.calls,
-    })
+    }
 }
 
 /// Takes a history apart. Unused bytes are no part of its course.
-fn course(history: &History) -> Option<Course> {
+pub(super) fn course(history: &History) -> Option<Course> {
     let answers = history.run()?.answers;
     let accepted = history.calls.iter().zip(&answers);
     let accepted = accepted.filter(|(_, answer)| answer.is_accepted());
@@ -147,6 +152,33 @@ impl Course {
     fn end_stretch(&mut self, client: u64, event: Event) {
         self.events.push(event);
         self.stretches[client as usize].push(Stretch::default());
+    }
+
+    /// Leaves lines out, with their line feeds: of each client's lines, in
+    /// order, those that are marked.
+    pub(super) fn leave_out(&mut self, left_out: &[Vec<bool>; CLIENTS]) {
+        let mut lines = [0; CLIENTS];
+        // The number of the stretch that each client is within.
+        let mut within = [0; CLIENTS];
+        let stretches = &mut self.stretches;
+        self.events.retain(|event| match event {
+            Event::LineFeed { client, .. } => {
+                let client = *client as usize;
+                let is_out = left_out[client][lines[client]];
+                lines[client] += 1;
+                if is_out {
+                    stretches[client].remove(within[client]);
+                } else {
+                    within[client] += 1;
+                }
+                !is_out
+            }
+            Event::Open { client, .. } | Event::Close { client, .. } => {
+                within[*client as usize] += 1;
+                true
+            }
+            Event::Reading { .. } | Event::Unreadable { .. } => true,
+        });
     }
 }
 

@@ -81,7 +81,31 @@ pub fn any(random: &mut Random, datainfo: &Datainfo) -> Vec<u8> {
 /// members by their numbers. It is over 256 bytes only where the datainfo asks
 /// for much.
 pub fn fitting(random: &mut Random, datainfo: &Datainfo) -> Vec<u8> {
-    Writer { random, odd_in: 0 }.value(datainfo)
+    let mut writer = Writer { random, odd_in: 0 };
+    match datainfo {
+        Datainfo::Partial { members, .. } => object(&writer.in_order(members)),
+        _ => writer.value(datainfo),
+    }
+}
+
+/// A change that leaves some optional members out, if there are any; the
+/// others in any order, now and then one that is required left out too.
+pub fn partly(random: &mut Random, datainfo: &Datainfo) -> Vec<u8> {
+    let Datainfo::Partial { optional, members } = datainfo else {
+        return sent(random, datainfo);
+    };
+    let kept: Vec<_> = members
+        .iter()
+        .zip(optional)
+        .filter(|(_, optional)| !random.one_in(if **optional { 2 } else { 12 }))
+        .map(|(member, _)| member.clone())
+        .collect();
+    if kept.is_empty() {
+        return random.pick(&[&b"{}"[..], b"{ }", b" {}"]).to_vec();
+    }
+    let mut odd_in = Writer { random, odd_in: 0 };
+    let text = object(&odd_in.members(&kept));
+    with_names(random, datainfo, &text)
 }
 
 /// A fitting value as it may be sent, some enum members by their names.
@@ -122,7 +146,7 @@ fn named(random: &mut Random, datainfo: &Datainfo, value: Json) -> Json {
                     .collect(),
             )
         }
-        (Datainfo::Struct(members), Json::Object(sent)) => {
+        (Datainfo::Struct(members) | Datainfo::Partial { members, .. }, Json::Object(sent)) => {
             let sent = sent.into_iter().map(|(key, value)| {
                 let member = members.iter().find(|(name, _)| *name == key.raw);
                 match member {
@@ -199,7 +223,7 @@ pub fn fitting_of_length(
             let all: Vec<&Datainfo> = members.iter().collect();
             stretched(random, &all, length, list)
         }
-        Datainfo::Struct(members) => {
+        Datainfo::Struct(members) | Datainfo::Partial { members, .. } => {
             let all: Vec<&Datainfo> = members.iter().map(|(_, member)| member).collect();
             stretched(random, &all, length, |values| {
                 let names = members.iter().map(|(name, _)| quoted(name));
@@ -378,7 +402,9 @@ impl Writer<'_> {
                 let elements: Vec<_> = members.iter().map(|member| self.value(member)).collect();
                 list(&elements)
             }
-            Datainfo::Struct(members) => object(&self.members(members)),
+            Datainfo::Struct(members) | Datainfo::Partial { members, .. } => {
+                object(&self.members(members))
+            }
         }
     }
 
@@ -476,12 +502,17 @@ impl Writer<'_> {
         }
     }
 
+    /// A struct's members in table order.
+    fn in_order(&mut self, members: &[(Vec<u8>, Datainfo)]) -> Vec<(Vec<u8>, Vec<u8>)> {
+        let members = members.iter();
+        members
+            .map(|(name, member)| (quoted(name), self.value(member)))
+            .collect()
+    }
+
     /// A struct's members in any order.
     fn members(&mut self, members: &[(Vec<u8>, Datainfo)]) -> Vec<(Vec<u8>, Vec<u8>)> {
-        let mut written: Vec<_> = members
-            .iter()
-            .map(|(name, member)| (quoted(name), self.value(member)))
-            .collect();
+        let mut written = self.in_order(members);
         let first = self.random.below(written.len());
         written.rotate_left(first);
         if self.random.one_in(3) {
@@ -548,7 +579,9 @@ impl Writer<'_> {
                 }
                 list(&elements)
             }
-            Datainfo::Struct(members) => self.odd_struct(members),
+            Datainfo::Struct(members) | Datainfo::Partial { members, .. } => {
+                self.odd_struct(members)
+            }
         }
     }
 

@@ -127,6 +127,17 @@ pub fn structure(members: &[(&str, Vec<u8>)]) -> Vec<u8> {
     bytes
 }
 
+/// Type 11: a flag before each name, 1 for optional.
+pub fn partial(members: &[(u8, &str, Vec<u8>)]) -> Vec<u8> {
+    let mut bytes = vec![11, members.len() as u8];
+    for (optional, name, member) in members {
+        bytes.push(*optional);
+        bytes.extend(text(name.as_bytes()));
+        bytes.extend(member);
+    }
+    bytes
+}
+
 /// `ND`, the records, `EN`.
 pub fn table(records: &[Vec<u8>]) -> Vec<u8> {
     [nd("demo", "one stage"), records.concat(), en()].concat()

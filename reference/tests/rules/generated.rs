@@ -208,7 +208,8 @@ fn any_values_get_every_judgement() {
         match judge(&datainfo, &value) {
             Ok(stored) => {
                 if stored != without_spaces(&value) {
-                    assert!(has_enum(&datainfo), "{datainfo:?}");
+                    let ordered = matches!(datainfo, Datainfo::Partial { .. });
+                    assert!(ordered || has_enum(&datainfo), "{datainfo:?}");
                     exchanged += 1;
                 }
                 assert_eq!(judge(&datainfo, &stored), Ok(stored));
@@ -227,7 +228,7 @@ fn any_values_get_every_judgement() {
 }
 
 /// The histories that the tests below look at.
-fn some_histories() -> impl Iterator<Item = History> {
+pub fn some_histories() -> impl Iterator<Item = History> {
     (0..400).map(|seed| histories::history(seed, 60))
 }
 
@@ -406,7 +407,7 @@ fn histories_cut_pieces_everywhere() {
 
 /// The bytes used, one list for each client and time that it was opened, and
 /// the events in their order.
-fn course(history: &History) -> (Vec<Vec<Vec<u8>>>, Vec<String>) {
+pub fn course(history: &History) -> (Vec<Vec<Vec<u8>>>, Vec<String>) {
     let outcome = history.run().expect("it begins with a start");
     let mut streams = vec![Vec::new(); 8];
     let mut events = Vec::new();

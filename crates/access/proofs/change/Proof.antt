@@ -1,30 +1,23 @@
 -- `access::change` meets its contract. Assumes nothing.
-use Rattle.access.proofs.Finding.{info-known, parameter-known}
-use Rattle.access.proofs.Changed.{change-refused, change-settable, change-set}
 use borrow.Author.Needs.{needs}
+use Rattle.access.proofs.Filled.{fill-given, filled-within, filled-length, change-filled}
 use Rattle.access.proofs.change.Statement.{statement}
 use Rattle.access.proofs.change.Tie as tie
 
-judge-change-requires : tie.Need-judge-change-requires
-judge-change-requires c κs =
-    let start = c .before .before .before .before .before .before in
-    info-known (parameter-known _ (start .pre .0 .lent .accepted) _ _ _ _ _ (start .pre .1 .1))
+slice-aggregate-fill : tie.Need-slice-aggregate-fill
+slice-aggregate-fill c = search needs
 
-enum-known-class : tie.Need-enum-known-class
-enum-known-class c = search needs
+fill-requires : tie.Need-fill-requires
+fill-requires c κs = search fill-given
 
-enum-told : tie.Need-enum-told
-enum-told c = search needs
+array-share-prefix-whole : tie.Need-array-share-prefix-whole
+array-share-prefix-whole c = search filled-within
 
-set-requires : tie.Need-set-requires
-set-requires c κs =
-    let start = c .before .before .before .before .before .before .before .before .before .before .before .before in
-    change-settable _ (start .args .state) _ _ _ _ (start .pre .0) _ _ _ _ _ _ (start .pre .1 .1) _ (c .before .before .before .before .before .judge-change .ensures) (c .before .before .before .enum-told .given .1) (start .pre .1 .0)
+slice-aggregate-change-whole : tie.Need-slice-aggregate-change-whole
+slice-aggregate-change-whole c = search filled-length
 
-returns : tie.Need-returns
-returns c =
-    let start = c .before .before .before .before .before .before .before .before .before .before in
-    change-refused _ (start .args .state) _ _ _ _ (start .pre .0) _ _ _ _ _ _ (start .pre .1 .1) _ (c .before .before .before .judge-change .ensures) _ (c .before .class .given .1)
+change-whole-requires : tie.Need-change-whole-requires
+change-whole-requires c κs = search needs
 
 same-length : tie.Need-same-length
 same-length c = search needs
@@ -32,21 +25,22 @@ same-length c = search needs
 same-length-2 : tie.Need-same-length-2
 same-length-2 c = search needs
 
-returns-2 : tie.Need-returns-2
-returns-2 c =
-    let start = c .before .before .before .before .before .before .before .before .before .before .before .before .before .before .before .before .before in
-    change-set _ (start .args .state) _ _ _ _ (start .pre .0) _ _ _ _ _ _ (start .pre .1 .1) _ (c .before .before .before .before .before .before .before .before .before .before .judge-change .ensures) (c .before .before .before .before .before .before .before .before .enum-told .given .1)
-    _ _ _ (c .before .before .before .before .set .ensures)
+returns : tie.Need-returns
+returns c =
+    let start = c .before .before .before .before .before .before .before .before .before .before .before .before .before .before .before .before .before .before in
+    let came = c .before .before .before .before .change-whole in
+    change-filled (start .args .table .now) (start .args .state) (start .args .values .now) _ _ _ _ _ _ (c .before .before .before .before .before .before .before .before .before .fill .ensures)
+    (start .args .client) (start .args .time) (came .result) (start .args .out .now) (came .last .1 .1 .0) (came .last .1 .0) (came .ensures)
 
 pub change-spec : {M : Type 1} → statement M
 change-spec =
     tie.close
     (tie.spec
-    judge-change-requires
-    enum-known-class
-    enum-told
-    set-requires
-    returns
+    slice-aggregate-fill
+    fill-requires
+    array-share-prefix-whole
+    slice-aggregate-change-whole
+    change-whole-requires
     same-length
     same-length-2
-    returns-2)
+    returns)

@@ -1,50 +1,43 @@
 -- `access::check` meets its contract. Assumes nothing.
-use Rattle.access.proofs.Finding.{info-known, parameter-known}
-use Rattle.access.proofs.Checked.{check-refused, check-told, check-sent}
 use borrow.Author.Needs.{needs}
+use Rattle.access.proofs.Filled.{fill-given, filled-within, filled-length, check-filled}
 use Rattle.access.proofs.check.Statement.{statement}
 use Rattle.access.proofs.check.Tie as tie
 
-judge-change-requires : tie.Need-judge-change-requires
-judge-change-requires c κs =
-    let start = c .before .before .before .before .before in
-    info-known (parameter-known _ (start .pre .0 .accepted) _ _ _ _ _ (start .pre .1 .1))
+slice-aggregate-fill : tie.Need-slice-aggregate-fill
+slice-aggregate-fill c = search needs
 
-enum-known-class : tie.Need-enum-known-class
-enum-known-class c = search needs
+fill-requires : tie.Need-fill-requires
+fill-requires c κs = search fill-given
 
-enum-told : tie.Need-enum-told
-enum-told c = search needs
+array-share-prefix-whole : tie.Need-array-share-prefix-whole
+array-share-prefix-whole c = search filled-within
 
-put-checked-requires : tie.Need-put-checked-requires
-put-checked-requires c κs =
-    let start = c .before .before .before .before .before .before .before .before .before in
-    check-told _ _ _ _ (start .pre .0) _ _ _ _ _ _ (start .pre .1 .1) _
-    (c .before .before .before .judge-change .ensures) (c .before .enum-told .given .1) (start .pre .1 .0)
+slice-aggregate-check-whole : tie.Need-slice-aggregate-check-whole
+slice-aggregate-check-whole c = search filled-length
 
-returns : tie.Need-returns
-returns c =
-    let start = c .before .before .before .before .before .before .before .before .before in
-    check-refused _ _ _ _ (start .pre .0) _ _ _ _ _ _ (start .pre .1 .1) _ (c .before .before .before .judge-change .ensures) _ (c .before .class .given .1)
+check-whole-requires : tie.Need-check-whole-requires
+check-whole-requires c κs = search needs
 
 same-length : tie.Need-same-length
 same-length c = search needs
 
-returns-2 : tie.Need-returns-2
-returns-2 c =
-    let start = c .before .before .before .before .before .before .before .before .before .before .before .before in
-    check-sent _ _ _ _ (start .pre .0) _ _ _ _ _ _ (start .pre .1 .1) _
-    (c .before .before .before .before .before .before .judge-change .ensures) (c .before .before .before .before .enum-told .given .1)
-    _ _ (c .before .before .put-checked .ensures)
+returns : tie.Need-returns
+returns c =
+    let start = c .before .before .before .before .before .before .before .before .before .before .before .before .before .before in
+    let came = c .before .before .check-whole in
+    check-filled (start .args .table .now) (start .args .state) (start .args .values .now) _ _ _ _ _ _ (c .before .before .before .before .before .before .fill .ensures)
+    (start .args .client) (start .args .time) (came .result) (start .args .out .now) (came .last .1 .0) (start .args .values .now)
+    (came .ensures (start .args .state) (start .args .values .now))
 
 pub check-spec : {M : Type 1} → statement M
 check-spec =
     tie.close
     (tie.spec
-    judge-change-requires
-    enum-known-class
-    enum-told
-    put-checked-requires
-    returns
+    slice-aggregate-fill
+    fill-requires
+    array-share-prefix-whole
+    slice-aggregate-check-whole
+    check-whole-requires
     same-length
-    returns-2)
+    returns)

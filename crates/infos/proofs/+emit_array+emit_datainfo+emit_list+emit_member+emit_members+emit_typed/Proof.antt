@@ -12,7 +12,7 @@ use Rattle.datainfo.proofs.Own.{unsigned-within}
 use Rattle.infos.specs.Texts.{countText}
 use Rattle.emit.proofs.Says.{Leads}
 use Rattle.infos.proofs.Infos.{array-none, array-one, array-told}
-use Rattle.infos.proofs.Nested.{member-plain, member-variant, member-field, toCome, members-none, members-start, list-told, members-end, members-bad, members-more, typed-double, typed-int, typed-bool, typed-enum, typed-string, typed-array, typed-tuple, typed-struct, typed-scaled, typed-blob, typed-unknown, datainfo-fifth, datainfo-none, datainfo-some}
+use Rattle.infos.proofs.Nested.{member-plain, member-variant, member-field, toCome, members-none, members-start, list-told, members-end, members-bad, members-more, typed-double, typed-int, typed-bool, typed-enum, typed-string, typed-array, typed-tuple, typed-struct, typed-scaled, typed-blob, typed-partial, typed-unknown, datainfo-fifth, datainfo-none, datainfo-some}
 use Prim.Native.Nat.{ℕ, _<_, _+_, _*_, _≤_}
 use borrow.Fn.Kinds.{In}
 use borrow.Fn.PlainCycle.{Measures, is, falls, and}
@@ -414,8 +414,17 @@ emit-typed-same-length-10 t c = search needs
 emit-typed-returns-10 : (t : ℕ) → emit-typed-lts.Need-returns-10 (emit-typed-claims t) (emit-typed-at t) emit-typed.Post
 emit-typed-returns-10 t c = search typed-blob
 
+emit-typed-emit-list-requires-4 : (t : ℕ) → emit-typed-lts.Need-emit-list-requires-4 (emit-typed-claims t) (emit-typed-at t) emit-typed.Post
+emit-typed-emit-list-requires-4 t c κs = (omega arith, omega arith)
+
+emit-typed-same-length-11 : (t : ℕ) → emit-typed-lts.Need-same-length-11 (emit-typed-claims t) (emit-typed-at t) emit-typed.Post
+emit-typed-same-length-11 t c = search needs
+
 emit-typed-returns-11 : (t : ℕ) → emit-typed-lts.Need-returns-11 (emit-typed-claims t) (emit-typed-at t) emit-typed.Post
-emit-typed-returns-11 t c = search typed-unknown
+emit-typed-returns-11 t c = search typed-partial
+
+emit-typed-returns-12 : (t : ℕ) → emit-typed-lts.Need-returns-12 (emit-typed-claims t) (emit-typed-at t) emit-typed.Post
+emit-typed-returns-12 t c = search typed-unknown
 
 pub +emit-array+emit-datainfo+emit-list+emit-member+emit-members+emit-typed-spec :
     {M : Type 1} → statement M
@@ -514,6 +523,7 @@ pub +emit-array+emit-datainfo+emit-list+emit-member+emit-members+emit-typed-spec
     (emit-typed-emit-list-requires-3 t)
     (emit-typed-emit-scaled-requires t)
     (emit-typed-emit-blob-requires t)
+    (emit-typed-emit-list-requires-4 t)
     (emit-typed-same-length t)
     (emit-typed-returns t)
     (emit-typed-same-length-2 t)
@@ -534,4 +544,6 @@ pub +emit-array+emit-datainfo+emit-list+emit-member+emit-members+emit-typed-spec
     (emit-typed-returns-9 t)
     (emit-typed-same-length-10 t)
     (emit-typed-returns-10 t)
+    (emit-typed-same-length-11 t)
     (emit-typed-returns-11 t)
+    (emit-typed-returns-12 t)

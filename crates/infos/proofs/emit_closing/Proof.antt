@@ -1,5 +1,5 @@
 -- `infos::emit_closing` meets its contract. Assumes nothing.
-use Rattle.infos.proofs.Infos.{closing-tuple, closing-other}
+use Rattle.infos.proofs.Infos.{closing-tuple, closing-partial, closing-other}
 use Rattle.ascii.specs.Text.{bytes}
 use borrow.Author.Needs.{needs}
 use Rattle.infos.proofs.emit_closing.Statement.{statement}
@@ -29,7 +29,20 @@ same-length-2 c = search needs
 
 returns-2 : tie.Need-returns-2
 unfolding bytes
-returns-2 c = search closing-other
+returns-2 c = search closing-partial
+
+slice-aggregate-emit-3 : tie.Need-slice-aggregate-emit-3
+slice-aggregate-emit-3 c = search needs
+
+emit-requires-3 : tie.Need-emit-requires-3
+emit-requires-3 c κs = search needs
+
+same-length-3 : tie.Need-same-length-3
+same-length-3 c = search needs
+
+returns-3 : tie.Need-returns-3
+unfolding bytes
+returns-3 c = search closing-other
 
 pub emit-closing-spec : {M : Type 1} → statement M
 emit-closing-spec =
@@ -42,4 +55,8 @@ emit-closing-spec =
     slice-aggregate-emit-2
     emit-requires-2
     same-length-2
-    returns-2)
+    returns-2
+    slice-aggregate-emit-3
+    emit-requires-3
+    same-length-3
+    returns-3)

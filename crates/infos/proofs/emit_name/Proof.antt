@@ -4,8 +4,8 @@ use borrow.Author.Needs.{needs}
 use Rattle.infos.proofs.emit_name.Statement.{statement}
 use Rattle.infos.proofs.emit_name.Tie as tie
 
-name-at-requires : tie.Need-name-at-requires
-name-at-requires c κs = search needs
+named-at-requires : tie.Need-named-at-requires
+named-at-requires c κs = search needs
 
 emit-key-requires : tie.Need-emit-key-requires
 emit-key-requires c κs = search needs
@@ -17,4 +17,4 @@ returns : tie.Need-returns
 returns c = search key-of
 
 pub emit-name-spec : {M : Type 1} → statement M
-emit-name-spec = tie.close (tie.spec name-at-requires emit-key-requires same-length returns)
+emit-name-spec = tie.close (tie.spec named-at-requires emit-key-requires same-length returns)

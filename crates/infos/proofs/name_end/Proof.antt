@@ -4,8 +4,8 @@ use borrow.Author.Needs.{needs}
 use Rattle.infos.proofs.name_end.Statement.{statement}
 use Rattle.infos.proofs.name_end.Tie as tie
 
-counted-end-requires : tie.Need-counted-end-requires
-counted-end-requires c κs = search needs
+named-end-requires : tie.Need-named-end-requires
+named-end-requires c κs = search needs
 
 enum-known-e : tie.Need-enum-known-e
 enum-known-e c = search needs
@@ -20,4 +20,4 @@ returns-2 : tie.Need-returns-2
 returns-2 c = search nameless
 
 pub name-end-spec : {M : Type 1} → statement M
-name-end-spec = tie.close (tie.spec counted-end-requires enum-known-e enum-told returns returns-2)
+name-end-spec = tie.close (tie.spec named-end-requires enum-known-e enum-told returns returns-2)

@@ -14,8 +14,8 @@ emit-named-requires c κs = search needs
 emit-readonly-requires : tie.Need-emit-readonly-requires
 emit-readonly-requires c κs = search needs
 
-emit-datainfo-requires : tie.Need-emit-datainfo-requires
-emit-datainfo-requires c κs = search needs
+emit-own-requires : tie.Need-emit-own-requires
+emit-own-requires c κs = search needs
 
 slice-aggregate-emit : tie.Need-slice-aggregate-emit
 slice-aggregate-emit c = search needs
@@ -37,7 +37,7 @@ emit-parameter-spec =
     slice-aggregate-emit-named
     emit-named-requires
     emit-readonly-requires
-    emit-datainfo-requires
+    emit-own-requires
     slice-aggregate-emit
     emit-requires
     same-length

@@ -12,7 +12,7 @@ use Rattle.fit.proofs.Nested.{TupleAt, tuple-shallow, tuple-other, tupl
 use Rattle.fit.proofs.Objects.{found-within}
 use Rattle.fit.proofs.Structs.{struct-shallow, struct-other, struct-uneven, struct-even}
 use Rattle.fit.proofs.Structs.{ValuesAt, values-short, values-first, values-over, values-nameless, values-lost, values-bad, values-more}
-use Rattle.fit.proofs.Typed.{fit-fifth, fit-short, fit-array, fit-tuple, fit-struct, fit-plain}
+use Rattle.fit.proofs.Typed.{fit-fifth, fit-short, fit-array, fit-tuple, fit-struct, fit-partial, fit-plain}
 use Prim.Native.Nat.{ℕ, _<_}
 use borrow.Fn.Kinds.{In}
 use borrow.Fn.PlainCycle.{Measures, is, falls, and}
@@ -36,12 +36,12 @@ use Rattle.ascii.proofs.numbers.unsigned.Reads as unsigned-reads
 use Rattle.fit.proofs.fit.limits_fit.Reads as limits-fit-reads
 use Rattle.fit.proofs.fit.plain_fit.Reads as plain-fit-reads
 use Rattle.fit.proofs.fit.worse.Reads as worse-reads
-use Rattle.datainfo.proofs.layout.counted_end.Reads as counted-end-reads
+use Rattle.datainfo.proofs.layout.named_end.Reads as named-end-reads
 use Rattle.datainfo.proofs.layout.datainfo_end.Reads as datainfo-end-reads
 use Rattle.datainfo.proofs.layout.part_end.Reads as part-end-reads
 use Rattle.fit.proofs.object.each_once.Reads as each-once-reads
 use Rattle.fit.proofs.object.find_key.Reads as find-key-reads
-use Rattle.datainfo.proofs.rules.name_at.Reads as name-at-reads
+use Rattle.datainfo.proofs.rules.named_at.Reads as named-at-reads
 use Rattle.fit.proofs.walk.first.Reads as first-reads
 use Rattle.fit.proofs.walk.next.Reads as next-reads
 use Rattle.json.proofs.read.spaces_end.Reads as spaces-end-reads
@@ -103,7 +103,7 @@ abbrev array-fit-claims : ℕ → array-fit-lts.Claims
 array-fit-claims t = (byte-reads.Asked, byte-reads.Learnt, part-end-reads.Asked, part-end-reads.Learnt, first-reads.Asked, first-reads.Learnt, limits-fit-reads.Asked, limits-fit-reads.Learnt, worse-reads.Asked, worse-reads.Learnt, spaces-end-reads.Asked, spaces-end-reads.Learnt, fit-below t, fit.Post, next-reads.Asked, next-reads.Learnt)
 
 abbrev fields-fit-claims : ℕ → fields-fit-lts.Claims
-fields-fit-claims t = (unsigned-reads.Asked, unsigned-reads.Learnt, counted-end-reads.Asked, counted-end-reads.Learnt, name-at-reads.Asked, name-at-reads.Learnt, find-key-reads.Asked, find-key-reads.Learnt, datainfo-end-reads.Asked, datainfo-end-reads.Learnt, fit-below t, fit.Post, worse-reads.Asked, worse-reads.Learnt)
+fields-fit-claims t = (unsigned-reads.Asked, unsigned-reads.Learnt, named-end-reads.Asked, named-end-reads.Learnt, named-at-reads.Asked, named-at-reads.Learnt, find-key-reads.Asked, find-key-reads.Learnt, datainfo-end-reads.Asked, datainfo-end-reads.Learnt, fit-below t, fit.Post, worse-reads.Asked, worse-reads.Learnt)
 
 abbrev fit-claims : ℕ → fit-lts.Claims
 fit-claims t = (unsigned-reads.Asked, unsigned-reads.Learnt, array-fit-below t, array-fit.Post, tuple-fit-below t, tuple-fit.Post, struct-fit-below t, struct-fit.Post, plain-fit-reads.Asked, plain-fit-reads.Learnt)
@@ -202,10 +202,10 @@ array-fit-returns-5 : (t : ℕ) → array-fit-lts.Need-returns-5 (array-fit-clai
 array-fit-returns-5 t c = search array-cut
 
 abbrev fields-fit-Inv-loop : fields-fit-lts.InvT-loop
-fields-fit-Inv-loop s at levels v p depth count from worst₀ field₀ left₀ worst field left = (field ≤ length s) × ValuesAt s at levels v p depth worst field left
+fields-fit-Inv-loop s at levels k v p depth count from worst₀ field₀ left₀ worst field left = (field ≤ length s) × ValuesAt s at levels k v p depth worst field left
 
 abbrev fields-fit-μ-loop : fields-fit-lts.MeasureT-loop
-fields-fit-μ-loop s at levels v p depth count from worst₀ field₀ left₀ worst field left = left
+fields-fit-μ-loop s at levels k v p depth count from worst₀ field₀ left₀ worst field left = left
 
 fields-fit-unsigned-requires : (t : ℕ) → fields-fit-lts.Need-unsigned-requires (fields-fit-claims t) (fields-fit-at t) fields-fit.Post fields-fit-Inv-loop fields-fit-μ-loop
 fields-fit-unsigned-requires t c κs = (omega arith, omega arith)
@@ -222,8 +222,8 @@ fields-fit-returns t c = search values-short
 fields-fit-loop-holds : (t : ℕ) → fields-fit-lts.Need-loop-holds (fields-fit-claims t) (fields-fit-at t) fields-fit.Post fields-fit-Inv-loop fields-fit-μ-loop
 fields-fit-loop-holds t c = (search unsigned-within, search values-first)
 
-fields-fit-counted-end-requires : (t : ℕ) → fields-fit-lts.Need-counted-end-requires (fields-fit-claims t) (fields-fit-at t) fields-fit.Post fields-fit-Inv-loop fields-fit-μ-loop
-fields-fit-counted-end-requires t c κs = omega arith
+fields-fit-named-end-requires : (t : ℕ) → fields-fit-lts.Need-named-end-requires (fields-fit-claims t) (fields-fit-at t) fields-fit.Post fields-fit-Inv-loop fields-fit-μ-loop
+fields-fit-named-end-requires t c κs = omega arith
 
 fields-fit-enum-known-inner : (t : ℕ) → fields-fit-lts.Need-enum-known-inner (fields-fit-claims t) (fields-fit-at t) fields-fit.Post fields-fit-Inv-loop fields-fit-μ-loop
 fields-fit-enum-known-inner t c = search needs
@@ -234,8 +234,8 @@ fields-fit-enum-told-2 t c = search needs
 fields-fit-returns-2 : (t : ℕ) → fields-fit-lts.Need-returns-2 (fields-fit-claims t) (fields-fit-at t) fields-fit.Post fields-fit-Inv-loop fields-fit-μ-loop
 fields-fit-returns-2 t c = search values-nameless
 
-fields-fit-name-at-requires : (t : ℕ) → fields-fit-lts.Need-name-at-requires (fields-fit-claims t) (fields-fit-at t) fields-fit.Post fields-fit-Inv-loop fields-fit-μ-loop
-fields-fit-name-at-requires t c κs = omega arith
+fields-fit-named-at-requires : (t : ℕ) → fields-fit-lts.Need-named-at-requires (fields-fit-claims t) (fields-fit-at t) fields-fit.Post fields-fit-Inv-loop fields-fit-μ-loop
+fields-fit-named-at-requires t c κs = omega arith
 
 fields-fit-find-key-requires : (t : ℕ) → fields-fit-lts.Need-find-key-requires (fields-fit-claims t) (fields-fit-at t) fields-fit.Post fields-fit-Inv-loop fields-fit-μ-loop
 fields-fit-find-key-requires t c κs = omega arith
@@ -321,11 +321,20 @@ fit-struct-fit-requires t c κs = (omega arith, (search unsigned-within, omega a
 fit-returns-5 : (t : ℕ) → fit-lts.Need-returns-5 (fit-claims t) (fit-at t) fit.Post
 fit-returns-5 t c = search fit-struct
 
+fit-sub-struct-fit-2 : (t : ℕ) → fit-lts.Need-sub-struct-fit-2 (fit-claims t) (fit-at t) fit.Post
+fit-sub-struct-fit-2 t c = omega arith
+
+fit-struct-fit-requires-2 : (t : ℕ) → fit-lts.Need-struct-fit-requires-2 (fit-claims t) (fit-at t) fit.Post
+fit-struct-fit-requires-2 t c κs = (omega arith, (search unsigned-within, omega arith))
+
+fit-returns-6 : (t : ℕ) → fit-lts.Need-returns-6 (fit-claims t) (fit-at t) fit.Post
+fit-returns-6 t c = search fit-partial
+
 fit-plain-fit-requires : (t : ℕ) → fit-lts.Need-plain-fit-requires (fit-claims t) (fit-at t) fit.Post
 fit-plain-fit-requires t c κs = (search unsigned-within, omega arith)
 
-fit-returns-6 : (t : ℕ) → fit-lts.Need-returns-6 (fit-claims t) (fit-at t) fit.Post
-fit-returns-6 t c = search (fit-plain, c .plain-fit .ensures)
+fit-returns-7 : (t : ℕ) → fit-lts.Need-returns-7 (fit-claims t) (fit-at t) fit.Post
+fit-returns-7 t c = search (fit-plain, c .plain-fit .ensures)
 
 struct-fit-returns : (t : ℕ) → struct-fit-lts.Need-returns (struct-fit-claims t) (struct-fit-at t) struct-fit.Post
 struct-fit-returns t c = search struct-shallow
@@ -526,10 +535,10 @@ pub +array-fit+fields-fit+fit+struct-fit+tuple-fit-spec : {M : Type 1} → state
     (λ t. fields-fit-lts.spec (
       unsigned-reads.Asked,
       unsigned-reads.Learnt,
-      counted-end-reads.Asked,
-      counted-end-reads.Learnt,
-      name-at-reads.Asked,
-      name-at-reads.Learnt,
+      named-end-reads.Asked,
+      named-end-reads.Learnt,
+      named-at-reads.Asked,
+      named-at-reads.Learnt,
       find-key-reads.Asked,
       find-key-reads.Learnt,
       datainfo-end-reads.Asked,
@@ -548,11 +557,11 @@ pub +array-fit+fields-fit+fit+struct-fit+tuple-fit-spec : {M : Type 1} → state
     (fields-fit-enum-told t)
     (fields-fit-returns t)
     (fields-fit-loop-holds t)
-    (fields-fit-counted-end-requires t)
+    (fields-fit-named-end-requires t)
     (fields-fit-enum-known-inner t)
     (fields-fit-enum-told-2 t)
     (fields-fit-returns-2 t)
-    (fields-fit-name-at-requires t)
+    (fields-fit-named-at-requires t)
     (fields-fit-find-key-requires t)
     (fields-fit-enum-known-q t)
     (fields-fit-enum-told-3 t)
@@ -595,8 +604,11 @@ pub +array-fit+fields-fit+fit+struct-fit+tuple-fit-spec : {M : Type 1} → state
     (fit-sub-struct-fit t)
     (fit-struct-fit-requires t)
     (fit-returns-5 t)
+    (fit-sub-struct-fit-2 t)
+    (fit-struct-fit-requires-2 t)
+    (fit-returns-6 t)
     (fit-plain-fit-requires t)
-    (fit-returns-6 t))
+    (fit-returns-7 t))
     (λ t. struct-fit-lts.spec (
       byte-reads.Asked,
       byte-reads.Learnt,

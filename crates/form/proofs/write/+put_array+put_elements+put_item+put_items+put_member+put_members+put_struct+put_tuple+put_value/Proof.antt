@@ -4,14 +4,15 @@ use Prim.Native.Nat.{_+_, _*_, _≤_}
 use mathlib.Core.Path.{_≡_, refl}
 use lib.ListN.{length, drop}
 use Rattle.ascii.proofs.Bytes.{ended-within}
-use Rattle.datainfo.specs.Layout.{structAt, datainfoIn}
+use Rattle.datainfo.specs.Layout.{datainfoIn}
+use Rattle.datainfo.specs.Members.{membersAt}
 use Rattle.datainfo.proofs.Own.{unsigned-within}
 use Rattle.fit.proofs.Walks.{Inside, inside-ends, inside-at}
 use Rattle.form.proofs.Fields.{field-within}
 use Rattle.form.proofs.Rows.{item-put, RowAt, row-first, row-over, row-cut, row-more, array-shallow, array-past, array-short, array-whole}
 use Rattle.form.proofs.Rows.{ElementsAt, elements-short, elements-first, elements-few, elements-over, elements-bad, elements-more, tuple-shallow, tuple-past, tuple-whole}
 use Rattle.form.proofs.Members.{member-unknown, member-cut, member-put, ObjectAt, object-first, object-over, object-cut, object-more, struct-shallow, struct-past, struct-whole}
-use Rattle.form.proofs.Typed.{forms-fifth, forms-short, forms-enum-at, forms-array, forms-tuple, forms-struct, forms-plain}
+use Rattle.form.proofs.Typed.{forms-fifth, forms-short, forms-enum-at, forms-array, forms-tuple, forms-struct, forms-partial, forms-plain}
 use borrow.Author.Needs.{needs}
 use native.Mathlib.Omega.{arith}
 use Prim.Native.Nat.{ℕ, _<_}
@@ -412,11 +413,11 @@ put-member-returns-3 : (t : ℕ) → put-member-lts.Need-returns-3 (put-member-c
 put-member-returns-3 t c = search member-put
 
 abbrev put-members-Inv-loop : put-members-lts.InvT-loop
-put-members-Inv-loop out₀ at s i levels v p depth a₀ member₀ left₀ start₀ out a member left start =
-    Inside v member × (length out ≡ length out₀) × (a ≤ 18446744073709551615) × ObjectAt (structAt (datainfoIn levels) (drop i s)) depth v p member left start out₀ at out a
+put-members-Inv-loop out₀ at s i levels k v p depth a₀ member₀ left₀ start₀ out a member left start =
+    Inside v member × (length out ≡ length out₀) × (a ≤ 18446744073709551615) × ObjectAt (membersAt (datainfoIn levels) k (drop i s)) depth v p member left start out₀ at out a
 
 abbrev put-members-μ-loop : put-members-lts.MeasureT-loop
-put-members-μ-loop out₀ at s i levels v p depth a₀ member₀ left₀ start₀ out a member left start = left
+put-members-μ-loop out₀ at s i levels k v p depth a₀ member₀ left₀ start₀ out a member left start = left
 
 put-members-add-first : (t : ℕ) → put-members-lts.Need-add-first (put-members-claims t) (put-members-at t) put-members.Post put-members-Inv-loop put-members-μ-loop
 put-members-add-first t c = omega arith
@@ -586,14 +587,26 @@ put-value-same-length-4 t c = search needs
 put-value-returns-6 : (t : ℕ) → put-value-lts.Need-returns-6 (put-value-claims t) (put-value-at t) put-value.Post
 put-value-returns-6 t c = search forms-struct
 
-put-value-put-scalar-requires : (t : ℕ) → put-value-lts.Need-put-scalar-requires (put-value-claims t) (put-value-at t) put-value.Post
-put-value-put-scalar-requires t c κs = omega arith
+put-value-sub-put-struct-2 : (t : ℕ) → put-value-lts.Need-sub-put-struct-2 (put-value-claims t) (put-value-at t) put-value.Post
+put-value-sub-put-struct-2 t c = omega arith
+
+put-value-put-struct-requires-2 : (t : ℕ) → put-value-lts.Need-put-struct-requires-2 (put-value-claims t) (put-value-at t) put-value.Post
+put-value-put-struct-requires-2 t c κs = (omega arith, (search unsigned-within, omega arith))
 
 put-value-same-length-5 : (t : ℕ) → put-value-lts.Need-same-length-5 (put-value-claims t) (put-value-at t) put-value.Post
 put-value-same-length-5 t c = search needs
 
 put-value-returns-7 : (t : ℕ) → put-value-lts.Need-returns-7 (put-value-claims t) (put-value-at t) put-value.Post
-put-value-returns-7 t c = search forms-plain
+put-value-returns-7 t c = search forms-partial
+
+put-value-put-scalar-requires : (t : ℕ) → put-value-lts.Need-put-scalar-requires (put-value-claims t) (put-value-at t) put-value.Post
+put-value-put-scalar-requires t c κs = omega arith
+
+put-value-same-length-6 : (t : ℕ) → put-value-lts.Need-same-length-6 (put-value-claims t) (put-value-at t) put-value.Post
+put-value-same-length-6 t c = search needs
+
+put-value-returns-8 : (t : ℕ) → put-value-lts.Need-returns-8 (put-value-claims t) (put-value-at t) put-value.Post
+put-value-returns-8 t c = search forms-plain
 
 pub +put-array+put-elements+put-item+put-items+put-member+put-members+put-struct+put-tuple+put-value-spec :
     {M : Type 1} → statement M
@@ -767,6 +780,10 @@ pub +put-array+put-elements+put-item+put-items+put-member+put-members+put-struct
     (put-value-put-struct-requires t)
     (put-value-same-length-4 t)
     (put-value-returns-6 t)
-    (put-value-put-scalar-requires t)
+    (put-value-sub-put-struct-2 t)
+    (put-value-put-struct-requires-2 t)
     (put-value-same-length-5 t)
     (put-value-returns-7 t)
+    (put-value-put-scalar-requires t)
+    (put-value-same-length-6 t)
+    (put-value-returns-8 t)

@@ -10,10 +10,10 @@ use Rattle.form.proofs.write.field_at.Statement.{statement}
 use Rattle.form.proofs.write.field_at.Tie as tie
 
 abbrev Inv-loop : tie.InvT-loop
-Inv-loop s i levels name count from field₀ left₀ field left = (field ≤ length s) × SoughtAt s i levels name field left
+Inv-loop s i levels k name count from field₀ left₀ field left = (field ≤ length s) × SoughtAt s i levels k name field left
 
 abbrev μ-loop : tie.MeasureT-loop
-μ-loop s i levels name count from field₀ left₀ field left = left
+μ-loop s i levels k name count from field₀ left₀ field left = left
 
 unsigned-requires : tie.Need-unsigned-requires Inv-loop μ-loop
 unsigned-requires c κs = (omega arith, omega arith)
@@ -30,8 +30,8 @@ returns c = search sought-short
 loop-holds : tie.Need-loop-holds Inv-loop μ-loop
 loop-holds c = (search unsigned-within, search sought-first)
 
-counted-end-requires : tie.Need-counted-end-requires Inv-loop μ-loop
-counted-end-requires c κs = omega arith
+named-end-requires : tie.Need-named-end-requires Inv-loop μ-loop
+named-end-requires c κs = omega arith
 
 enum-known-inner : tie.Need-enum-known-inner Inv-loop μ-loop
 enum-known-inner c = search needs
@@ -42,8 +42,8 @@ enum-told-2 c = search needs
 returns-2 : tie.Need-returns-2 Inv-loop μ-loop
 returns-2 c = search sought-nameless
 
-name-at-requires : tie.Need-name-at-requires Inv-loop μ-loop
-name-at-requires c κs = omega arith
+named-at-requires : tie.Need-named-at-requires Inv-loop μ-loop
+named-at-requires c κs = omega arith
 
 same-requires : tie.Need-same-requires Inv-loop μ-loop
 same-requires c κs = search needs
@@ -86,11 +86,11 @@ field-at-spec =
     enum-told
     returns
     loop-holds
-    counted-end-requires
+    named-end-requires
     enum-known-inner
     enum-told-2
     returns-2
-    name-at-requires
+    named-at-requires
     same-requires
     returns-3
     datainfo-end-requires

@@ -51,7 +51,7 @@ at-command-requires c κs =
         (
           subst (Locates (start .args .table .now) (start .args .«module» .now) (start .args .name .now))
               (c .before .before .k2 .given .1) (c .before .before .before .before .locate .ensures),
-          start .pre .1 .1,
+          start .pre .1 .1 .0,
         ),
       ),
     )
@@ -60,7 +60,7 @@ returns : tie.Need-returns
 returns c =
     let start = c .before .before .before .before .before .before .before .before .before in
     homeless (start .args .table .now) (start .args .«module» .now) (start .args .name .now) (start .args .verb) (start .args .text .now) _ _ _ _ _
-    (start .pre .1 .1)
+    (start .pre .1 .1 .0)
     (subst (Locates (start .args .table .now) (start .args .«module» .now) (start .args .name .now)) (c .enum-told .given .1)
     (c .before .before .locate .ensures))
 
@@ -69,7 +69,7 @@ returns-2 c =
     let start = c .before .before .before .before .before .before .before .before .before .before in
     rw (c .missing .ensures)
     (nothing (start .args .table .now) (start .args .«module» .now) (start .args .name .now) (start .args .verb) (start .args .text .now) _ _ _ _ _
-    (start .pre .1 .1)
+    (start .pre .1 .1 .0)
     (subst (Locates (start .args .table .now) (start .args .«module» .now) (start .args .name .now)) (c .before .enum-told2 .given .1)
     (c .before .before .before .locate .ensures)))
 

@@ -12,7 +12,7 @@ returns : tie.Need-returns
 returns c = search unbuilt
 
 located-requires : tie.Need-located-requires
-located-requires c κs = (search needs, (search needs, search built))
+located-requires c κs = (search needs, (search needs, (search built, search needs)))
 
 same-length : tie.Need-same-length
 same-length c = search needs

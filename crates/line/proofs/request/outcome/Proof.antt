@@ -3,7 +3,7 @@ use mathlib.Core.Path.{refl, subst}
 use Rattle.ascii.specs.Text.{bytes}
 use Rattle.message.specs.Parsed.{Inside}
 use Rattle.plain.specs.Answer.{outcome}
-use Rattle.line.proofs.Carried.{part-short}
+use Rattle.line.proofs.Carried.{part-short, data-short}
 use borrow.Author.Needs.{needs}
 use Rattle.line.proofs.request.outcome.Statement.{statement}
 use Rattle.line.proofs.request.outcome.Tie as tie
@@ -70,7 +70,11 @@ unfolding bytes
 data-of-requires c κs = (c .before .before .before .before .before .before .before .before .before .before .pre .1 .1 .payload-in, refl)
 
 named-requires : tie.Need-named-requires
-named-requires c κs = search needs
+named-requires c κs =
+    let at = c .before .before .before .before .before .before .before .before .before .before .before in
+    let p = at .pre .1 .1 in
+    (at .pre .0, (at .pre .1 .0,
+    rw (c .data-of .ensures) (data-short _ (part-short (at .args .line .now) (at .args .payload) (p .payload-in) (p .short)))))
 
 enum-told-4 : tie.Need-enum-told-4
 enum-told-4 c = search needs
