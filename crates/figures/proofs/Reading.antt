@@ -25,7 +25,7 @@ use Rattle.ascii.specs.Read.{ReadsUnsigned, ReadsSigned}
 use Rattle.decimal.specs.Decimal.{Decimal, numeralFrom, numeral}
 use Rattle.datainfo.specs.Datainfo.{Datainfo}
 use Rattle.datainfo.specs.Datainfo as Datainfo
-use Rattle.datainfo.specs.Layout.{limit, doubleAt, intAt, enumAt, stringAt, arrayAt, tupleAt, structAt, scaledAt, blobAt, counted, variants, elements}
+use Rattle.datainfo.specs.Layout.{limit, doubleAt, intAt, enumAt, stringAt, arrayAt, tupleAt, structAt, scaledAt, blobAt, partialAt, variants, elements}
 use Rattle.datainfo.specs.Layout.{fields, typed, datainfoIn, datainfoAt}
 use Rattle.datainfo.specs.Kept.{ReadsLimit}
 use Rattle.datainfo.specs.declared.rules.Limit as L
@@ -184,7 +184,11 @@ module _ (inner : List ℕ → Option (Datainfo × List ℕ)) (xs : List ℕ) wh
 
   struct-not : Summed (structAt inner xs) false
   unfolding structAt isSummed
-  struct-not d x e = steps (unsigned 1 xs) _ e λ o a e. steps (fields inner (o .0) (o .1)) _ e λ p b e. ap isSummed (ap (λ q. q .0) (just e))
+  struct-not d x e = steps (unsigned 1 xs) _ e λ o a e. steps (fields inner 8 (o .0) (o .1)) _ e λ p b e. ap isSummed (ap (λ q. q .0) (just e))
+
+  partial-not : Summed (partialAt inner xs) false
+  unfolding partialAt isSummed
+  partial-not d x e = steps (unsigned 1 xs) _ e λ o a e. steps (fields inner 11 (o .0) (o .1)) _ e λ p b e. ap isSummed (ap (λ q. q .0) (just e))
 
   typed-not : (k : ℕ) → (k ≡ 2 → ⊥) → (k ≡ 9 → ⊥) → Summed (typed inner k xs) false
   unfolding typed
@@ -199,6 +203,7 @@ module _ (inner : List ℕ → Option (Datainfo × List ℕ)) (xs : List ℕ) wh
       either k 8 (structAt inner xs) _ e (λ n. struct-not d x) λ n e.
       either k 9 (scaledAt xs) _ e (λ n. absurd (s n)) λ n e.
       either k 10 (blobAt xs) _ e (λ n. blob-not d x) λ n e.
+      either k 11 (partialAt inner xs) _ e (λ n. partial-not d x) λ n e.
       absurd (nothing e)
 
 -- the code's ways: by the type byte

@@ -18,9 +18,9 @@ use Rattle.decimal.specs.Decimal.{Decimal, fromInteger, excess, inPower, atMost
 use Rattle.decimal.specs.Decimal.{writtenPower, exactly, isWithinLimits}
 use Rattle.json.specs.Json as Json
 use Rattle.json.specs.Json.{Json, null, boolean, text, compact}
-use Rattle.datainfo.specs.Datainfo.{Datainfo, double, int, bool, enum, string, array, tuple, struct, scaled, blob}
+use Rattle.datainfo.specs.Datainfo.{Datainfo, double, int, bool, enum, string, array, tuple, struct, scaled, blob, partial}
 use Rattle.fit.specs.Fit.{Verdict, fits, wrongType, badJSON, severity, inRange, expect, asNumber, wholeFit, betweenIntegers, fit, numbered, formOf}
-use Rattle.fit.specs.Fit.{storedForm, valueVerdict, verdictOf, verdict, isStored}
+use Rattle.fit.specs.Fit.{asPartial, atTop, inOrder, stored, storedForm, valueVerdict, verdictOf, verdict, isStored}
 use Rattle.form.proofs.Verdicts.{worse-both, in-range, cond-fits, fit-is}
 use Rattle.figures.specs.Figures.{isNarrow, isSummed}
 use Rattle.figures.specs.Tally.{lowest, Small}
@@ -119,8 +119,8 @@ whole-small lo hi (Json.string s) xs w e f = bad e
 whole-small lo hi (Json.array is) xs w e f = bad e
 whole-small lo hi (Json.object ms) xs w e f = bad e
 
-value-small : (d : Datainfo) (v : Json) (xs : List ℕ) → isSummed d ≡ true → fit d v ≡ fits → compact (numbered d v) ≡ xs → Small xs
-unfolding isSummed fit numbered
+value-small : (d : Datainfo) (v : Json) (xs : List ℕ) → isSummed d ≡ true → fit d v ≡ fits → compact (stored d v) ≡ xs → Small xs
+unfolding isSummed fit numbered stored inOrder asPartial atTop
 value-small (int lo hi) v xs s e f = whole-small lo hi v xs s e f
 value-small (scaled a lo hi) v xs s e f = whole-small lo hi v xs s e f
 value-small (double lo hi) v xs s e f = absurd (false≢true s)
@@ -131,6 +131,7 @@ value-small (array lo hi d) v xs s e f = absurd (false≢true s)
 value-small (tuple ds) v xs s e f = absurd (false≢true s)
 value-small (struct fs) v xs s e f = absurd (false≢true s)
 value-small (blob lo hi) v xs s e f = absurd (false≢true s)
+value-small (partial ns fs) v xs s e f = absurd (false≢true s)
 
 read-small : (d : Datainfo) (o : Option Json) (xs : List ℕ) → isSummed d ≡ true → verdictOf d o ≡ fits → formOf d o ≡ xs → Small xs
 unfolding verdictOf valueVerdict formOf

@@ -9,7 +9,7 @@ use lib.Signed.{leZ}
 use Rattle.ascii.specs.Text.{bytes}
 use Rattle.ascii.specs.Numbers.{decimal, integer}
 use Rattle.decimal.specs.Decimal.{numeral}
-use Rattle.datainfo.specs.Datainfo.{Datainfo, double, int, bool, enum, string, array, tuple, struct, scaled, blob}
+use Rattle.datainfo.specs.Datainfo.{Datainfo, double, int, bool, enum, string, array, tuple, struct, scaled, blob, partial}
 
 -- "limits lie within -2,147,483,648 to 2,147,483,647"
 unfoldable pub isNarrow : ℤ → ℤ → Bool
@@ -27,6 +27,7 @@ isSummed (tuple ds) = false
 isSummed (struct fs) = false
 isSummed (scaled s lo hi) = isNarrow lo hi
 isSummed (blob lo hi) = false
+isSummed (partial ns fs) = false
 
 -- "the least, the greatest, and the sum, exact, as whole numbers": of a first number and others
 unfoldable pub least : ℤ → List ℤ → ℤ
