@@ -74,17 +74,19 @@ returns-3 c =
 same-length-5 : tie.Need-same-length-5
 same-length-5 c = search needs
 
+same-length-6 : tie.Need-same-length-6
+same-length-6 c = search needs
+
 returns-4 : tie.Need-returns-4
 unfolding outcome
 returns-4 c =
-    let start = c .before .before .before .before .before .before .before .before .before .before .before .before in
+    let start = c .before .before .before .before .before .before .before .before .before .before .before .before .before in
     let came = c .before .before .check in
-    let told = c .before .before .before .before .enum-told4 .given .1 in
+    let told = c .before .before .before .before .before .enum-told4 .given .1 in
     rw (told, subst (λ v. isBuilt (tableOf (start .args .table .now)) v ≡ true) told (start .pre .1 .1 .1 .0))
     (parameter-comes (start .args .table .now) (start .args .«module» .now) (start .args .name .now) _ _ _ (start .pre .1 .1 .0)
     (start .args .state) (start .args .values .now) (start .args .out .now) (start .args .client) (start .args .time)
-    (came .result) (start .args .values .now) (came .last .1 .0) (λ w n c t. checks w n c t (start .args .text .now))
-    (came .ensures))
+    (came .result) (start .args .values .now) (came .last .1 .1 .0) (λ w n c t. checks w n c t (start .args .text .now)) (came .ensures))
 
 pub at-parameter-spec : {M : Type 1} → statement M
 at-parameter-spec =
@@ -105,4 +107,5 @@ at-parameter-spec =
     returns-2
     returns-3
     same-length-5
+    same-length-6
     returns-4)
