@@ -91,9 +91,10 @@ module _ (s : List ℕ) (st : State) (values m a : List ℕ) (k h : ℕ) (q : Pa
 
       pub shown-given : ShownAt s (q .info) v × (length xs + length v + 2 ≤ length whole)
       shown-given =
-          let short = short-stored (p .it .it .datainfo) v (fits .0) in
-          (record { reads = record { within = p .within; datainfo = p .it .it .datainfo; left = p .left; is = p .info }; shown = Merged.stored (fits .0) },
-          omega (arith, short, g .short, g .room))
+          let short = short-stored (p .it .it .datainfo) v (fits .0) in (
+            record { reads = record { within = p .within; datainfo = p .it .it .datainfo; left = p .left; is = p .info }; shown = Merged.stored (fits .0) },
+            omega (arith, short, g .short, g .room),
+          )
 
       pub shown-filled : (after : List ℕ) (end : ℕ) → Completes (datainfoAt (drop (q .info) s)) v xs whole after end
           → Fills s st values m a xs whole after end

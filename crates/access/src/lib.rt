@@ -84,7 +84,16 @@ pub fn change(
 {
     let mut whole = [0u8; 1282];
     let size = fill(
-        table, values, state, k, home, q, module, name, text, &mut whole,
+        table,
+        values,
+        state,
+        k,
+        home,
+        q,
+        module,
+        name,
+        text,
+        &mut whole,
     );
     change_whole(
         table,
@@ -124,7 +133,16 @@ pub fn check<'a>(
 {
     let mut whole = [0u8; 1282];
     let size = fill(
-        table, values, state, k, home, q, module, name, text, &mut whole,
+        table,
+        values,
+        state,
+        k,
+        home,
+        q,
+        module,
+        name,
+        text,
+        &mut whole,
     );
     check_whole(
         table,

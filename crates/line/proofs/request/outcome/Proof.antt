@@ -72,9 +72,13 @@ data-of-requires c κs = (c .before .before .before .before .before .before .bef
 named-requires : tie.Need-named-requires
 named-requires c κs =
     let at = c .before .before .before .before .before .before .before .before .before .before .before .before .before in
-    let p = at .pre .1 .1 in
-    (at .pre .0, (at .pre .1 .0,
-    rw (c .before .before .data-of .ensures) (data-short _ (part-short (at .args .line .now) (at .args .payload) (p .payload-in) (p .short)))))
+    let p = at .pre .1 .1 in (
+      at .pre .0,
+      (
+        at .pre .1 .0,
+        rw (c .before .before .data-of .ensures) (data-short _ (part-short (at .args .line .now) (at .args .payload) (p .payload-in) (p .short))),
+      ),
+    )
 
 enum-told-4 : tie.Need-enum-told-4
 enum-told-4 c = search needs
