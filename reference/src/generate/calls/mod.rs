@@ -5,6 +5,7 @@
 mod course;
 mod exchanges;
 mod long;
+mod members;
 mod pokes;
 mod ramps;
 mod refusals;
@@ -40,6 +41,7 @@ fn fixed() -> Course {
     let mut course = Course::new();
     exchanges::all(&mut course);
     ramps::all(&mut course);
+    members::all(&mut course);
     for scene in directed::all() {
         course.history(scene.name, &scene.history);
     }
