@@ -277,7 +277,7 @@ fn histories_change_targets() {
         }
     }
     let all = (seen, unseen, without);
-    assert!(seen > 10 && unseen > 10 && without > 10, "{all:?}");
+    assert!(seen > 5 && unseen > 5 && without > 5, "{all:?}");
 }
 
 /// The module whose target a record says to be changed.
