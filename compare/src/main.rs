@@ -13,7 +13,7 @@ mod stack;
 
 use chatter::Chatter;
 use difference::{Counts, Difference};
-use reference::generate::{calls, histories as random, quieter, second, small};
+use reference::generate::{calls, histories as random, quieter, second, small, turns};
 use reference::history::History;
 use reference::operation::Operation;
 use std::process::ExitCode;
@@ -92,6 +92,9 @@ fn compare(seed: u64, count: u64) -> ExitCode {
     for seed in seed..seed.saturating_add(count) {
         tally.twice("small", seed, &small::history(seed));
         tally.twice("random", seed, &random::history(seed, CALLS));
+        if seed % 4 == 0 {
+            tally.twice("turns", seed, &turns::history(seed));
+        }
         tally.operations(&calls::changes(seed));
     }
     tally.print()

@@ -19,5 +19,6 @@ pub mod searches;
 pub mod second;
 pub mod small;
 pub mod tables;
+pub mod turns;
 pub mod values;
 pub mod vectors;

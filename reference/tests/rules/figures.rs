@@ -157,6 +157,20 @@ fn other_types_have_a_count_only() {
 }
 
 #[test]
+fn a_change_of_part_of_a_struct_counts() {
+    let pair = partial(&[(1, "a", int(0, 9)), (1, "b", int(0, 9))]);
+    let events = [
+        line(r#"change t1:p0 {"b":3}"#),
+        line("change t1:p0 {}"),
+        line(r#"change t1:p0 {"c":3}"#),
+    ];
+    assert_eq!(
+        figures(&[(pair, r#"{"a":1,"b":2}"#)], &events),
+        ["p0 count 2"]
+    );
+}
+
+#[test]
 fn a_parameter_is_full_at_65_535_settings_and_keeps_those() {
     // By the residues of 7 k, 19 settings in a row are -9 to 9, which sum to 0.
     let rest = |count: i64| -> i64 { (0..count % 19).map(|k| k * 7 % 19 - 9).sum() };

@@ -1,6 +1,8 @@
 //! Part of a struct: members that a change may leave out (M-113).
 
 use crate::build::*;
+use reference::generate::{second, turns};
+use reference::history::{Answer, Call, History};
 use reference::node::Node;
 use reference::table::Table;
 use reference::{report, value};
@@ -216,4 +218,42 @@ fn flags_in_the_layout_and_in_the_report() {
         Table::judge(&table).err().map(|refusal| refusal.number()),
         Some(1)
     );
+}
+
+/// Who sent lines that are answered by `changed` though they leave members out.
+fn changers(history: &History, answers: &[Answer]) -> Vec<u64> {
+    let calls = history.calls.iter().zip(answers);
+    let one = |(call, answer): (&Call, &Answer)| match call {
+        Call::Piece { client, bytes, .. } => {
+            let members = bytes.iter().filter(|&&byte| byte == b':').count() - 1;
+            let outbox = String::from_utf8_lossy(&answer.outbox).into_owned();
+            (members < 4 && outbox.contains("changed t1:heater")).then_some(*client)
+        }
+        _ => None,
+    };
+    let pieces = calls
+        .filter(|(call, _)| matches!(call, Call::Piece { bytes, .. } if bytes.contains(&b':')));
+    pieces.filter_map(one).collect()
+}
+
+#[test]
+fn parts_by_turns_in_second_histories() {
+    let mut several = 0;
+    for seed in 0..100 {
+        let first = turns::history(seed);
+        let second = second::second(&first, seed + 1_000).expect("one accepted start");
+        let (one, other) = (first.run().unwrap(), second.run().unwrap());
+        assert!(other.answers.iter().all(|answer| answer.is_accepted()));
+        let sent = |answers: &[Answer]| -> Vec<u8> {
+            let outboxes = answers.iter().map(|answer| &answer.outbox[..]);
+            outboxes.collect::<Vec<_>>().concat()
+        };
+        assert_eq!(sent(&one.answers), sent(&other.answers));
+        assert_eq!(one.end, other.end);
+        let mut clients = changers(&first, &one.answers);
+        clients.sort_unstable();
+        clients.dedup();
+        several += usize::from(clients.len() > 1);
+    }
+    assert!(several > 80, "{several}");
 }
