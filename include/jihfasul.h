@@ -5,7 +5,7 @@
  * but memcpy and its like). The library holds nothing between calls, allocates nothing and calls nothing: a host lends each call
  * the table, the values area and an outbox, hands in the state by value and keeps the one that is answered.
  *
- * Table, values area, outbox, lines and values follow the rules of document 01; docs/LIBRARY.md tells how to link and what to lend.
+ * Table, values area, outbox, lines and values follow the rules of documents 01 and 02; docs/LIBRARY.md tells how to link and what to lend.
  * Time is whole milliseconds, at most JIHFASUL_MAX_TIME; it may go back.
  *
  * The areas that are lent to one call must not overlap. A pointer may be anything where its length is 0. A thread that makes calls

@@ -85,13 +85,14 @@ impl Node {
         self.state.counts.get(client).copied()
     }
 
-    /// Opens a client, with an empty line and nothing active.
+    /// Opens a client, with an empty line, nothing active and counts of 0.
     pub fn open(&mut self, client: u64, time: u64) -> Result<(), Refusal> {
         let done = call::open(&self.table, &self.values, &self.state, client, time);
         self.keep(done).map(drop)
     }
 
-    /// Closes a client and forgets its line and what it had active.
+    /// Closes a client and forgets its line and what it had active; its counts
+    /// stay.
     pub fn close(&mut self, client: u64, time: u64) -> Result<(), Refusal> {
         let done = call::close(&self.table, &self.values, &self.state, client, time);
         self.keep(done).map(drop)

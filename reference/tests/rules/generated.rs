@@ -9,7 +9,7 @@ use reference::generate::{
 };
 use reference::history::{Call, History};
 use reference::json;
-use reference::node::BUSY;
+use reference::node::{Counts, BUSY, CLIENTS};
 use reference::outbox::{self, Mark, Record};
 use reference::random::Random;
 use reference::table::{Parameter, Table};
@@ -285,6 +285,42 @@ fn changed_target(record: &Record) -> Option<String> {
     let line = String::from_utf8(record.body.clone()).ok()?;
     let specifier = line.strip_prefix("changed ")?.split(' ').next()?;
     Some(specifier.strip_suffix(":target")?.to_string())
+}
+
+/// What a client's counts are by what was used and sent since its last accepted
+/// open.
+#[test]
+fn counts_are_those_of_the_history() {
+    let mut counted = 0;
+    for history in some_histories() {
+        let outcome = history.run().expect("it begins with a start");
+        let mut due = [Counts::default(); CLIENTS];
+        for (call, answer) in history.calls.iter().zip(&outcome.answers) {
+            match call {
+                Call::Start { .. } => due = Default::default(),
+                Call::Open { client, .. } if answer.is_accepted() => {
+                    due[*client as usize] = Counts::default();
+                }
+                Call::Piece { client, bytes, .. } if answer.is_accepted() => {
+                    let fed = bytes[..answer.used].ends_with(b"\n");
+                    due[*client as usize].lines += u32::from(fed);
+                }
+                _ => {}
+            }
+            for record in outbox::read(&answer.outbox).expect("nothing but records") {
+                let due = &mut due[usize::from(record.client)];
+                let is_error = record.mark == Mark::Reply && record.body.starts_with(b"error_");
+                due.errors += u32::from(is_error);
+                due.updates += u32::from(record.mark == Mark::Update);
+            }
+        }
+        assert_eq!(outcome.end.counts, due);
+        counted += due
+            .iter()
+            .filter(|one| one.errors.min(one.updates) > 0)
+            .count();
+    }
+    assert!(counted > 100, "{counted}");
 }
 
 /// Where a table has notes, a node answers and ends as on the table without
