@@ -56,7 +56,13 @@ module _ (w : Table) (n : Node) (c t : ℕ) where
 
 -- a line whose outcome leaves the node alters nothing
 nothing : (n m : Node) (c : ℕ) (rs : List Record) (r : Reply) → m ≡ counting (idle n c) rs → rs ≡ final c r ∷ [] → AltersNothing n m rs c r
-nothing n m c rs r e f = record { alone = f; values = ap (λ (y : Node). y .values) e; clients = ap (λ (y : Node). y .clients) e }
+nothing n m c rs r e f =
+    record {
+      alone = f;
+      values = ap (λ (y : Node). y .values) e;
+      clients = ap (λ (y : Node). y .clients) e;
+      counts = ap (λ (y : Node). y .counts) e;
+    }
 
 -- by what the change comes to, y, and the check, z
 as-change : (n : Node) (c : ℕ) (p q : Parts) (m m′ : Node) (rs rs′ : List Record) (y z : Outcome) → Alike (idle n c) y z

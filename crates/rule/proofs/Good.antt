@@ -134,9 +134,19 @@ told-alone : (w : Table) (n m : Node) (c t : ℕ) (q : Parts) (p : Placed Parame
     → AltersNothing n m rs c (readReply q p x u)
 unfolding tells readReply
 told-alone w n m c t q p (valued v) u rs e f =
-    record { alone = f; values = ap (λ (y : Node). y .values) e; clients = ap (λ (y : Node). y .clients) e }
+    record {
+      alone = f;
+      values = ap (λ (y : Node). y .values) e;
+      clients = ap (λ (y : Node). y .clients) e;
+      counts = ap (λ (y : Node). y .counts) e;
+    }
 told-alone w n m c t q p (failed v) u rs e f =
-    record { alone = f; values = ap (λ (y : Node). y .values) e; clients = ap (λ (y : Node). y .clients) e }
+    record {
+      alone = f;
+      values = ap (λ (y : Node). y .values) e;
+      clients = ap (λ (y : Node). y .clients) e;
+      counts = ap (λ (y : Node). y .counts) e;
+    }
 
 pub good-reads-are-answered : GoodReadsAreAnswered
 unfolding reads

@@ -59,6 +59,7 @@ altered n m rs c p (refused x) r i h e f g =
       alone = f ∙ ap (λ y. final c y ∷ []) (sym g);
       values = ap (λ (y : Node). y .values) e;
       clients = ap (λ (y : Node). y .clients) e;
+      counts = ap (λ (y : Node). y .counts) e;
     }
 altered n m rs c p (carried y ss l q) r i h e f g = absurd (h (ap kind (sym g) ∙ i))
 

@@ -241,12 +241,13 @@ PiecesAreUsed = (table : List ℕ) (n : Node) (c : ℕ) (bs : List ℕ) (t : ℕ
     → let r = step table n (record { event = Piece c bs t; lent = lent }) in
     r .1 .number ≡ 0 → PieceUsed n (r .0) c bs (r .1)
 
--- A line of client c alters nothing: its reply is all that is sent, no value and no time alters, and of the clients only the sender's line is
--- emptied.
+-- A line of client c alters nothing: its reply is all that is sent, no value and no time alters, of the clients only the sender's line is emptied,
+-- and of what is counted (M-108) only the line and its reply are.
 pub record AltersNothing (n m : Node) (rs : List Record) (c : ℕ) (r : Reply) : Type 0 where
   pub alone : rs ≡ final c r ∷ []
   pub values : m .values ≡ n .values
   pub clients : m .clients ≡ put (n .clients) c (emptied (n .clients c))
+  pub counts : m .counts ≡ counting (lineTaken n c) rs .counts
 
 -- A `read` is replied to with the parameter that it asked for, as the node holds it, and sends nothing else.
 pub record ReadTold (w : Table) (n : Node) (c : ℕ) (bs : List ℕ) (r : Report) (rs : List Record) : Type 0 where

@@ -139,7 +139,7 @@ pub fn good_commands_are_ordered() -> bool
     true
 }
 
-// A line that is answered by an error sends nothing else, alters no value and empties only its sender's line.
+// A line that is answered by an error sends nothing else, alters no value, empties only its sender's line, and is counted with its reply and nothing else.
 pub fn errors_alter_nothing() -> bool
     ensures { λ r. ⌜ (r ≡ true) × ErrorsAlterNothing ⌝ }
 {
