@@ -33,7 +33,8 @@ usage: compare [COMMAND ...]
   cost         what a line costs, beside the reference program
   stack        how deep the stack of a call is, over the same histories
   night TABLE TIME TRACE
-               a night by single calls: what the program `night` is to write,
+               a night by single calls: what the program `night` is to write
+               before its figures,
                of a trace without wrong and half records
   --help       this text
 
