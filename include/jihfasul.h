@@ -156,7 +156,8 @@ struct jihfasul_done jihfasul_close(
 /*
  * Takes a client's bytes: those through the first line feed, or all where there is none. `used` says how many; offer the rest again. A line
  * that its line feed ends is carried out at this call's time, and what is to be sent lies in the outbox's first `written` bytes, at
- * most 32,019. A change that is carried out writes the stored form (without spaces outside strings, an enum's members by their numbers)
+ * most 32,019. A change that is carried out writes the stored form (without spaces outside strings, an enum's members by their numbers,
+ * a struct with optional members whole and in table order)
  * at the front of its parameter's place in the values area, and no other byte. A change of a parameter `target` in a module whose parameter
  * `status` admits `[300,"target changed"]` writes that too, at the front of the status's place, and the status's updates come before the
  * target's. Numbers 0 to 12.

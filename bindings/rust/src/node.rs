@@ -36,7 +36,8 @@ pub struct Value<'a> {
 }
 
 /// A value in stored form, JSON without spaces outside strings and with an
-/// enum's members by their numbers, or an error in its place.
+/// enum's members by their numbers, a struct with optional members whole and in
+/// table order, or an error in its place.
 #[derive(Clone, Copy, Debug, PartialEq, Eq)]
 pub enum Held<'a> {
     /// The table's initial value: it was never set.
