@@ -30,7 +30,9 @@ fn answer_held(
     time: u64,
 ) -> Answered
     requires { ⌜ Ready (now table) state (now values) (now outbox) client × (time ≤ latest) ⌝ }
-    ensures { λ r. ⌜ Answers (now (table .entry)) (state .settings) (now (values .entry)) (now (outbox .entry)) r (now (values .exit)) (now (outbox .exit)) (heldAnswer (now (table .entry)) state (now (values .entry)) client time) (answerSets (tableOf (now (table .entry))) (view (now (table .entry)) state (now (values .entry))) client time) ⌝ }
+    ensures { λ r. ⌜ Answers (now (table .entry)) (state .settings) (now (values .entry)) (now (outbox .entry)) r (now (values .exit))
+        (now (outbox .exit)) (heldAnswer (now (table .entry)) state (now (values .entry)) client time)
+        (answerSets (tableOf (now (table .entry))) (view (now (table .entry)) state (now (values .entry))) client time) ⌝ }
 {
     let c = client as usize;
     let clients = state.clients;
@@ -68,7 +70,9 @@ fn answer_counted(
     time: u64,
 ) -> Answered
     requires { ⌜ Ready (now table) state (now values) (now outbox) client × (time ≤ latest) ⌝ }
-    ensures { λ r. ⌜ Answers (now (table .entry)) (state .settings) (now (values .entry)) (now (outbox .entry)) r (now (values .exit)) (now (outbox .exit)) (answer (tableOf (now (table .entry))) (view (now (table .entry)) state (now (values .entry))) client time) (answerSets (tableOf (now (table .entry))) (view (now (table .entry)) state (now (values .entry))) client time) ⌝ }
+    ensures { λ r. ⌜ Answers (now (table .entry)) (state .settings) (now (values .entry)) (now (outbox .entry)) r (now (values .exit))
+        (now (outbox .exit)) (answer (tableOf (now (table .entry))) (view (now (table .entry)) state (now (values .entry))) client time)
+        (answerSets (tableOf (now (table .entry))) (view (now (table .entry)) state (now (values .entry))) client time) ⌝ }
 {
     let answered = answer_held(table, values, outbox, state, client, time);
     let written = answered.written;
@@ -90,7 +94,8 @@ pub fn take_piece(
     bytes: &[u8],
 ) -> Done
     requires { ⌜ Ready (now table) state (now values) (now outbox) client × (time ≤ latest) ⌝ }
-    ensures { λ r. ⌜ Leaves (now (table .entry)) state (now (values .entry)) (Piece client (now (bytes .entry)) time) (now (outbox .entry)) r (now (values .exit)) (now (outbox .exit)) ⌝ }
+    ensures { λ r. ⌜ Leaves (now (table .entry)) state (now (values .entry)) (Piece client (now (bytes .entry)) time) (now (outbox .entry)) r
+        (now (values .exit)) (now (outbox .exit)) ⌝ }
 {
     let n = feed_at(bytes);
     let settings = state.settings;

@@ -26,7 +26,8 @@ pub fn take_reading(
     home: Cursor,
 ) -> Done
     requires { ⌜ Fitting (now table) state (now values) (now outbox) k time (now bytes) p home ⌝ }
-    ensures { λ r. ⌜ Taken (now (table .entry)) state (now (values .entry)) (now (outbox .entry)) (Reading k (now (bytes .entry)) time) r (now (values .exit)) (now (outbox .exit)) ⌝ }
+    ensures { λ r. ⌜ Taken (now (table .entry)) state (now (values .entry)) (now (outbox .entry)) (Reading k (now (bytes .entry)) time) r
+        (now (values .exit)) (now (outbox .exit)) ⌝ }
 {
     let clients = state.clients;
     let counts = state.counts;

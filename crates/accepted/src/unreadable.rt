@@ -32,7 +32,8 @@ pub fn take_unreadable(
     home: Cursor,
 ) -> Done
     requires { ⌜ Tellable (now table) (now outbox) k time p home ⌝ }
-    ensures { λ r. ⌜ ((values : List ℕ) (class : ℕ) → Standing (now (table .entry)) state values → faultOf class ≡ some (faultAs fault) → Taken (now (table .entry)) state values (now (outbox .entry)) (Unreadable k class time) r values (now (outbox .exit))) ⌝ }
+    ensures { λ r. ⌜ ((values : List ℕ) (class : ℕ) → Standing (now (table .entry)) state values → faultOf class ≡ some (faultAs fault)
+        → Taken (now (table .entry)) state values (now (outbox .entry)) (Unreadable k class time) r values (now (outbox .exit))) ⌝ }
 {
     let clients = state.clients;
     let counts = state.counts;

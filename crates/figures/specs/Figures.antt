@@ -15,7 +15,7 @@ use Rattle.datainfo.specs.Datainfo.{Datainfo, double, int, bool, enum, string, 
 unfoldable pub isNarrow : ℤ → ℤ → Bool
 isNarrow lo hi = leZ (negsuc 2147483647) lo && leZ hi (pos 2147483647)
 
--- "each int or scaled parameter whose limits lie within ..": of "other parameters: count only"
+-- "each int or scaled parameter whose limits lie within .."; "Other parameters: count only"
 unfoldable pub isSummed : Datainfo → Bool
 isSummed (double lo hi) = false
 isSummed (int lo hi) = isNarrow lo hi
@@ -42,7 +42,7 @@ unfoldable pub total : ℤ → List ℤ → ℤ
 total x [] = x
 total x (y ∷ ys) = total (x +ℤ y) ys
 
--- "`least 3 greatest 12 sum 15`"; "No settings: count 0 and the word `none`."
+-- "least 3 greatest 12 sum 15"; "No settings: count 0 and the word `none`."
 unfoldable pub numbersText : List ℤ → List ℕ
 numbersText [] = bytes " none"
 numbersText (x ∷ xs) =

@@ -24,7 +24,8 @@ pub extern "C" fn jihfasul_open(
     client: u64,
     time: u64,
 ) -> Done
-    ensures { λ r. ⌜ Kept (now (table .entry)) (withArea (Open client time) (length (now (values .entry)))) state (now (values .entry)) [] r (now (values .entry)) [] ⌝ }
+    ensures { λ r. ⌜ Kept (now (table .entry)) (withArea (Open client time) (length (now (values .entry)))) state (now (values .entry)) [] r
+        (now (values .entry)) [] ⌝ }
 {
     let number = lent_number(table, values, false, state, time);
     if number != 0 {
@@ -57,7 +58,8 @@ pub extern "C" fn jihfasul_close(
     client: u64,
     time: u64,
 ) -> Done
-    ensures { λ r. ⌜ Kept (now (table .entry)) (withArea (Close client time) (length (now (values .entry)))) state (now (values .entry)) [] r (now (values .entry)) [] ⌝ }
+    ensures { λ r. ⌜ Kept (now (table .entry)) (withArea (Close client time) (length (now (values .entry)))) state (now (values .entry)) [] r
+        (now (values .entry)) [] ⌝ }
 {
     let number = lent_number(table, values, false, state, time);
     if number != 0 {

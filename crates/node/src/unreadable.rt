@@ -24,7 +24,8 @@ pub extern "C" fn jihfasul_unreadable(
     time: u64,
     class: u64,
 ) -> Done
-    ensures { λ r. ⌜ Kept (now (table .entry)) (withOutbox (Unreadable parameter class time) (length (now (values .entry))) (length (now (outbox .entry)))) state (now (values .entry)) (now (outbox .entry)) r (now (values .entry)) (now (outbox .exit)) ⌝ }
+    ensures { λ r. ⌜ Kept (now (table .entry)) (withOutbox (Unreadable parameter class time) (length (now (values .entry))) (length (now (outbox .entry))))
+        state (now (values .entry)) (now (outbox .entry)) r (now (values .entry)) (now (outbox .exit)) ⌝ }
 {
     let number = lent_number(table, values, outbox.len() < 32768, state, time);
     if number != 0 {

@@ -80,7 +80,8 @@ fn call(
     head: Head,
     bytes: &[u8],
 ) -> Done
-    ensures { λ r. ⌜ Calls (now (table .entry)) state (now (values .entry)) (now (outbox .entry)) head (now (bytes .entry)) r (now (values .exit)) (now (outbox .exit)) ⌝ }
+    ensures { λ r. ⌜ Calls (now (table .entry)) state (now (values .entry)) (now (outbox .entry)) head (now (bytes .entry)) r
+        (now (values .exit)) (now (outbox .exit)) ⌝ }
 {
     let kind = head.kind;
     let number = head.number as u64;
@@ -199,7 +200,8 @@ pub fn step(
     trace: &[u8],
 ) -> Stepped
     requires { ⌜ Sound replay ⌝ }
-    ensures { λ r. ⌜ Steps (now (table .entry)) replay (now (values .entry)) (now (outbox .entry)) (now (trace .entry)) r (now (values .exit)) (now (outbox .exit)) ⌝ }
+    ensures { λ r. ⌜ Steps (now (table .entry)) replay (now (values .entry)) (now (outbox .entry)) (now (trace .entry)) r
+        (now (values .exit)) (now (outbox .exit)) ⌝ }
 {
     let left = replay.left;
     if left.size != 0 {

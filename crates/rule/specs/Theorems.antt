@@ -19,7 +19,8 @@ use Rattle.table.specs.Table.{Parameter, Command, parameter, Module, Table}
 use Rattle.table.specs.Layout.{tableOf}
 use Rattle.table.specs.Search.{Placed, parameters, commands, findParameter, findCommand}
 use Rattle.outbox.specs.Outbox.{Record, final, update, orderChange, orderCommand}
-use Rattle.plain.specs.Node.{Value, Node, put, withClient, setValues, isOpen, isActive, lineOf, receive, emptied, lineTaken, counting, reportOf, clientNumbers, updatesTo, updatesOf, holding, showing}
+use Rattle.plain.specs.Node.{Value, Node, put, withClient, setValues, isOpen, isActive, lineOf, receive, emptied, lineTaken, counting, reportOf}
+use Rattle.plain.specs.Node.{clientNumbers, updatesTo, updatesOf, holding, showing}
 use Rattle.plain.specs.Answer.{argumentVerdict, argumentForm, judgedAt, storedAt, busy, statusOf, busySettings, busyUpdates}
 use Rattle.plain.specs.Calls.{Event, Piece, Reading, Unreadable, Lent, Call, Answer, beforeFeed, hasFeed, usedOf, settingsIf}
 use Rattle.plain.specs.History.{step}

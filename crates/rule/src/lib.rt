@@ -1,7 +1,11 @@
 ghost use mathlib.Core.Bool.{true};
 ghost use mathlib.Core.Path.{_≡_};
 ghost use Rattle.rule.specs.Theorems.{BusyBeforeChanged, OtherStatusStays};
-ghost use Rattle.rule.specs.Theorems.{UpdatesGoToActiveClients, ChangesAreSentToAll, GoodChangesAreMade, ReadingsAreSentToAll, UnreadablesAreSentToAll, ValuesAlterBySettings, SettingsAreAll, ActivationsSendAll, GoodActivationsAreMade, ActivationsAreOnesOwn, ParametersBelong, OneReplyForEachLine, PiecesAreUsed, ReadsAreTrue, GoodReadsAreAnswered, CommandsAreOrdered, GoodCommandsAreOrdered, ErrorsAlterNothing, ChecksAreAsChanges, RefusalsAlterNothing};
+ghost use Rattle.rule.specs.Theorems.{UpdatesGoToActiveClients, ChangesAreSentToAll, GoodChangesAreMade, ReadingsAreSentToAll};
+ghost use Rattle.rule.specs.Theorems.{UnreadablesAreSentToAll, ValuesAlterBySettings, SettingsAreAll, ActivationsSendAll};
+ghost use Rattle.rule.specs.Theorems.{GoodActivationsAreMade, ActivationsAreOnesOwn, ParametersBelong, OneReplyForEachLine, PiecesAreUsed};
+ghost use Rattle.rule.specs.Theorems.{ReadsAreTrue, GoodReadsAreAnswered, CommandsAreOrdered, GoodCommandsAreOrdered};
+ghost use Rattle.rule.specs.Theorems.{ErrorsAlterNothing, ChecksAreAsChanges, RefusalsAlterNothing};
 
 // Each function here promises a theorem about the definitions. Nothing is run.
 

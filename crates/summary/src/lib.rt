@@ -172,7 +172,7 @@ fn put_end(out: &mut [u8], at: usize, reader: Reader) -> usize
     put_offset(out, first, reader.offset)
 }
 
-// All that is told of a replay, from the front of the buffer on.
+// All that is told of a replay but its figures, from the front of the buffer on.
 pub fn put_summary<'a>(table: &'a [u8], values: &'a [u8], out: &mut [u8], replay: Replay) -> usize
     requires { ⌜ Told (now table) (replay .state) (now values) (now out) ⌝ }
     ensures { λ r. ⌜ Puts (now (out .entry)) 0 (toldOf (now (table .entry)) replay (now (values .entry))) (now (out .exit)) r × (r ≤ 32768) ⌝ }
@@ -194,7 +194,7 @@ pub fn put_start(out: &mut [u8], number: u64) -> usize
     put_offset(out, first, number)
 }
 
-// The summary of a replay that was driven over a trace is the whole text of that trace.
+// The summary and the figures of a replay that was driven over a trace are the whole text of that trace.
 pub fn text_is_the_replays() -> bool
     ensures { λ r. ⌜ (r ≡ true) × TextIsTheReplays ⌝ }
 {
