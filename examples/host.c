@@ -1,8 +1,8 @@
 /*
- * A host in C, without sockets: where it would write to one, or hand an order to a driver, it prints. It makes the calls of document 01's outbox
+ * A host in C, without sockets: where it would write to one, or hand an order to a driver, it prints. It makes the calls of rule L-21's
  * example and a few more. examples/host.expected has what it prints, docs/LIBRARY.md why.
  *
- *     cc -Iinclude examples/host.c target/staticlib/libnode.a -o host && ./host
+ *     cc $(pkg-config --cflags jihfasul) examples/host.c $(pkg-config --libs jihfasul) -o host && ./host
  */
 #include "jihfasul.h"
 
@@ -24,6 +24,7 @@ static const size_t table_length = sizeof TABLE - 1;
 /* What a host keeps: the values area, the state, and an outbox that is read before the next call. */
 static uint8_t values[JIHFASUL_MIN_VALUES];
 static uint8_t outbox[JIHFASUL_MIN_OUTBOX];
+static uint8_t beside[JIHFASUL_INDEX]; /* an index of the table; a host that lends none passes 0 bytes */
 static struct jihfasul_state state;
 
 /* Hands the records on: lines to the clients' sockets, orders to the drivers. */
@@ -55,7 +56,7 @@ static void receive(uint64_t client, uint64_t time, const char *text)
     size_t length = strlen(text);
     while (length > 0) {
         struct jihfasul_done done = jihfasul_piece(table, table_length, values, sizeof values, outbox, sizeof outbox,
-            state, client, time, (const uint8_t *)text, length);
+            state, client, time, (const uint8_t *)text, length, beside, sizeof beside);
         keep("piece", &done);
         if (done.number != JIHFASUL_ACCEPTED)
             return;
@@ -68,27 +69,39 @@ static void receive(uint64_t client, uint64_t time, const char *text)
 static void read_driver(uint64_t parameter, uint64_t time, const char *text)
 {
     struct jihfasul_done done = jihfasul_reading(table, table_length, values, sizeof values, outbox, sizeof outbox,
-        state, parameter, time, (const uint8_t *)text, strlen(text));
+        state, parameter, time, (const uint8_t *)text, strlen(text), beside, sizeof beside);
     keep("reading", &done);
+}
+
+/* Feeds what a scanner has read at once: the rows say where each text lies in the buffer. Those before the first refused one are taken. */
+static void read_scanner(const struct jihfasul_reading_row *rows, size_t count, const char *texts)
+{
+    struct jihfasul_listed listed = jihfasul_readings(table, table_length, values, sizeof values, outbox, sizeof outbox,
+        state, rows, count, (const uint8_t *)texts, strlen(texts), beside, sizeof beside);
+    printf("readings: number %d, taken %d\n", listed.number, (int)listed.taken);
+    state = listed.state;
+    hand_on(listed.written);
 }
 
 /* Feeds a driver's report that it can't read a parameter. */
 static void fail_driver(uint64_t parameter, uint64_t time, enum jihfasul_error error)
 {
     struct jihfasul_done done = jihfasul_unreadable(table, table_length, values, sizeof values, outbox, sizeof outbox,
-        state, parameter, time, error);
+        state, parameter, time, error, beside, sizeof beside);
     keep("unreadable", &done);
 }
 
 static void open_client(uint64_t client, uint64_t time)
 {
-    struct jihfasul_done done = jihfasul_open(table, table_length, values, sizeof values, state, client, time);
+    struct jihfasul_done done = jihfasul_open(table, table_length, values, sizeof values, state, client, time,
+        beside, sizeof beside);
     keep("open", &done);
 }
 
 static void close_client(uint64_t client, uint64_t time)
 {
-    struct jihfasul_done done = jihfasul_close(table, table_length, values, sizeof values, state, client, time);
+    struct jihfasul_done done = jihfasul_close(table, table_length, values, sizeof values, state, client, time,
+        beside, sizeof beside);
     keep("close", &done);
 }
 
@@ -109,6 +122,7 @@ int main(void)
 {
     struct jihfasul_done done = jihfasul_start(table, table_length, values, sizeof values, 5);
     keep("start", &done);
+    printf("index: number %d, used 0\n", jihfasul_index(table, table_length, beside, sizeof beside)); /* once for this table */
     open_client(2, 1000);
     open_client(5, 1000);
     open_client(5, 1000); /* refused: it is open */
@@ -129,5 +143,7 @@ int main(void)
     show(0); /* in error */
     read_driver(0, 2600, "4.6");
     show(0);
+    static const struct jihfasul_reading_row rows[] = {{0, 2700, 0, 3}, {1, 2701, 3, 3}, {0, 2702, 6, 4}};
+    read_scanner(rows, 3, "4.7150warm"); /* stops at the third: no JSON */
     return 0;
 }

@@ -15,7 +15,7 @@ use std::time::{Duration, Instant};
 const KILOBYTES: [usize; 5] = [1, 2, 4, 8, 16];
 
 /// For each figure the fastest of so many runs of at least this length.
-const RUNS: usize = 50;
+pub const RUNS: usize = 50;
 const RUN: Duration = Duration::from_millis(4);
 
 pub fn print() -> ExitCode {
@@ -25,15 +25,17 @@ pub fn print() -> ExitCode {
     println!("table  parameters  line      library  reference  library / reference");
     for kilobytes in KILOBYTES {
         let (table, count) = table(1_024 * kilobytes);
-        let name = format!("m{}:p{}", (count - 1) / 4, count - 1);
+        let name = name(count - 1);
         let lines = [
             ("ping", "ping x\n".to_string()),
             ("read", format!("read {name}\n")),
             ("change", format!("change {name} 2.5\n")),
+            ("activate", "activate\n".to_string()),
+            ("describe", "describe\n".to_string()),
         ];
         for (kind, line) in lines {
-            let library = library_cost(&table, count, line.as_bytes());
-            let reference = reference_cost(&table, count, line.as_bytes());
+            let reference = reference_cost(&table, line.as_bytes());
+            let library = library_cost(&table, &[line], &[]).time;
             let ratio = library / reference;
             println!(
                 "{kilobytes:2} KB  {count:10}  {kind:8} {library:8.1}  {reference:9.1}  {ratio:19.3}"
@@ -43,10 +45,15 @@ pub fn print() -> ExitCode {
     ExitCode::SUCCESS
 }
 
+/// The names of a parameter of the tables.
+pub fn name(number: usize) -> String {
+    format!("m{}:p{number}", number / 4)
+}
+
 /// A table of so many bytes and the number of its parameters: one for each 128
 /// bytes, 64 at most. A module has four: an enum, a string, a struct of three
 /// doubles and a double.
-fn table(length: usize) -> (Vec<u8>, usize) {
+pub fn table(length: usize) -> (Vec<u8>, usize) {
     let count = (length / 128).min(64);
     let module = |m: usize| Module {
         name: format!("m{m}").into_bytes(),
@@ -117,7 +124,7 @@ fn parameter(number: usize) -> Accessible {
 
 /// The calls before those that are timed: client 0 opens and activates all, and
 /// each parameter is read.
-fn before(table: &[u8], count: usize) -> Vec<Call> {
+fn before(table: &[u8]) -> Vec<Call> {
     let table = Table::judge(table).expect("a good table");
     let mut calls = vec![
         Call::Start {
@@ -132,7 +139,7 @@ fn before(table: &[u8], count: usize) -> Vec<Call> {
         piece(b"activate\n"),
     ];
     let parameters = table.parameters();
-    calls.extend(parameters[..count].iter().map(|parameter| Call::Reading {
+    calls.extend(parameters.iter().map(|parameter| Call::Reading {
         parameter: parameter.number as u64,
         values_len: VALUES,
         outbox_len: OUTBOX,
@@ -152,14 +159,24 @@ fn piece(line: &[u8]) -> Call {
     }
 }
 
-fn library_cost(table: &[u8], count: usize, line: &[u8]) -> f64 {
+/// What a line costs through the library.
+pub struct Cost {
+    pub steps: f64,
+    /// In microseconds.
+    pub time: f64,
+}
+
+/// On average over some lines, with what is lent as an index.
+pub fn library_cost(table: &[u8], lines: &[String], index: &[u8]) -> Cost {
     let mut values = vec![0; VALUES];
     let mut outbox = vec![0; OUTBOX];
     let mut state = State::NOTHING;
-    for call in before(table, count) {
+    for call in before(table) {
         let done = match &call {
             Call::Start { time, .. } => call::start(table, &values, *time),
-            Call::Open { client, time, .. } => call::open(table, &values, &state, *client, *time),
+            Call::Open { client, time, .. } => {
+                call::open(table, &values, &state, *client, *time, index)
+            }
             Call::Reading {
                 parameter,
                 time,
@@ -167,32 +184,48 @@ fn library_cost(table: &[u8], count: usize, line: &[u8]) -> f64 {
                 ..
             } => {
                 let (values, outbox) = (&mut values, &mut outbox);
-                call::reading(table, values, outbox, &state, *parameter, *time, text)
+                call::reading(
+                    table, values, outbox, &state, *parameter, *time, text, index,
+                )
             }
             Call::Piece { bytes, .. } => {
-                call::piece(table, &mut values, &mut outbox, &state, 0, 1, bytes)
+                call::piece(table, &mut values, &mut outbox, &state, 0, 1, bytes, index)
             }
-            Call::Close { .. } | Call::Unreadable { .. } => {
-                unreachable!("nothing is closed and nothing fails")
+            Call::Close { .. }
+            | Call::Unreadable { .. }
+            | Call::Lend { .. }
+            | Call::Readings { .. } => {
+                unreachable!("nothing is closed, fails or is listed, and the index stays")
             }
         };
         assert_eq!(done.number, 0);
         state = done.state;
     }
-    fastest(|| {
-        let done = call::piece(table, &mut values, &mut outbox, &state, 0, 1_500, line);
-        assert_eq!(done.number, 0);
-        state = done.state;
-    })
+    let mut steps = 0;
+    let time = fastest(|| {
+        steps = 0;
+        for line in lines {
+            let (values, outbox, line) = (&mut values, &mut outbox, line.as_bytes());
+            let done = call::piece(table, values, outbox, &state, 0, 1_500, line, index);
+            assert_eq!(done.number, 0);
+            steps += done.steps;
+            state = done.state;
+        }
+    });
+    let count = lines.len() as f64;
+    Cost {
+        steps: steps as f64 / count,
+        time: time / count,
+    }
 }
 
-fn reference_cost(table: &[u8], count: usize, line: &[u8]) -> f64 {
+fn reference_cost(table: &[u8], line: &[u8]) -> f64 {
     let mut kept = Kept::new(VALUES);
-    for call in before(table, count) {
-        assert!(kept.call(table, &call).is_accepted());
+    for call in before(table) {
+        assert!(kept.call(table, &[], &call).is_accepted());
     }
     let call = piece(line);
-    fastest(|| assert!(kept.call(table, &call).is_accepted()))
+    fastest(|| assert!(kept.call(table, &[], &call).is_accepted()))
 }
 
 /// Microseconds for doing something once.

@@ -10,17 +10,27 @@ pub struct Difference {
     pub text: String,
 }
 
-/// How many calls were made, and how many of them each number answered.
+/// How many calls were made, and how many of them each number answered; how many
+/// searches there were, their steps in all and the most of one; how many readings
+/// lists took.
 #[derive(Default)]
 pub struct Counts {
     pub calls: usize,
-    pub numbers: [usize; 17],
+    pub numbers: [usize; 19],
+    pub searches: usize,
+    pub steps: usize,
+    pub most_steps: usize,
+    pub listed: usize,
 }
 
 impl Counts {
     pub fn add(&mut self, answer: &Answer) {
         self.calls += 1;
         self.numbers[usize::from(answer.number)] += 1;
+        self.searches += usize::from(answer.steps != 0);
+        self.steps += answer.steps;
+        self.most_steps = self.most_steps.max(answer.steps);
+        self.listed += answer.taken;
     }
 }
 
@@ -82,7 +92,11 @@ fn show_answer(answer: &Answer) -> String {
         number,
         used,
         outbox,
+        steps,
+        taken,
     } = answer;
     let (written, outbox) = (outbox.len(), front(outbox));
-    format!("number {number}, used {used}, written {written}: {outbox}")
+    format!(
+        "number {number}, used {used}, written {written}, steps {steps}, taken {taken}: {outbox}"
+    )
 }

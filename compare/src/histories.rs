@@ -3,10 +3,11 @@
 use crate::difference::{same, same_answer, Counts, Difference};
 use crate::library::{readable, Library, Shown};
 use crate::seen::Seen;
-use reference::history::{History, Player};
+use reference::history::{Call, History, Player};
 use reference::node::{self, MIN_VALUES};
 use reference::refusal::Refusal;
 use reference::table::Table;
+use reference::value;
 
 /// What a history sends in all, and how it ends.
 #[derive(Debug, PartialEq)]
@@ -32,9 +33,14 @@ pub fn run(history: &History, counts: &mut Counts) -> Result<Course, Difference>
     for (at, call) in history.calls.iter().enumerate() {
         let difference = |text| Difference { call: at + 1, text };
         let due = player.call(call).expect("the first call is a start");
+        if let Call::Lend { index } = call {
+            library.lend(index);
+            continue;
+        }
         let found = library.call(call).map_err(difference)?;
         same_answer(call, &found, &due).map_err(difference)?;
         counts.add(&found);
+        expect_rows(&mut library, call, found.taken);
         let node = player.node().expect("a start makes a node").state();
         same_state(&mut library, node).map_err(difference)?;
         sent.extend(found.outbox);
@@ -43,12 +49,30 @@ pub fn run(history: &History, counts: &mut Counts) -> Result<Course, Difference>
     let refusal = Table::judge(&history.table).err();
     let call = history.calls.len();
     let values = same("table", &library.table, &history.table)
+        .and_then(|()| library.fill())
         .and_then(|()| same_values(&mut library, node, refusal));
     Ok(Course {
         sent,
         end: Seen::in_library(&library.state, node.parameters.len()),
         values: values.map_err(|text| Difference { call, text })?,
     })
+}
+
+/// What the readings of a list that were taken leave in the values area, one
+/// after another: of the same parameter a shorter value leaves the end of a longer.
+fn expect_rows(library: &mut Library, call: &Call, taken: usize) {
+    let Call::Readings { rows, texts, .. } = call else {
+        return;
+    };
+    let Ok(table) = Table::judge(&library.table) else {
+        return;
+    };
+    for row in &rows[..taken] {
+        let parameter = table.parameters()[row.parameter as usize];
+        let text = row.text(texts).expect("it was taken");
+        let stored = value::judge(parameter.datainfo, text).expect("it was taken");
+        library.values.expect(256 * parameter.number, &stored);
+    }
 }
 
 /// The state, and each byte of the values area: stored values at the front of

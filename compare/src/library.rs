@@ -1,15 +1,39 @@
 //! The library's side: calls over areas whose every byte is watched.
 
 use crate::area::Area;
-use jihfasul::{call, Counts, Done, State};
+use crate::difference::same;
+use jihfasul::{call, Counts, Done, Listed, Row, State};
 use reference::history::{Answer, Call};
+use reference::index::{self, INDEX};
+use reference::list;
 use reference::operation::{Poke, OUTBOX_AREA, VALUES_AREA};
+
+/// The bytes that an index may have here.
+const INDEX_AREA: usize = 2 * INDEX;
 
 pub struct Library {
     pub table: Vec<u8>,
     pub state: State,
     pub values: Area,
     outbox: Area,
+    index: Area,
+    /// How many bytes of the index calls are lent.
+    lent: usize,
+}
+
+/// What a call answers; a list also how many readings it took.
+pub struct Made {
+    pub done: Done,
+    pub taken: usize,
+}
+
+pub fn row(row: &list::Row) -> Row {
+    Row {
+        parameter: row.parameter,
+        time: row.time,
+        offset: row.offset,
+        length: row.length,
+    }
 }
 
 /// The value that a parameter shows.
@@ -55,31 +79,59 @@ impl Library {
             state: State::NOTHING,
             values: Area::new(VALUES_AREA),
             outbox: Area::new(OUTBOX_AREA),
+            index: Area::new(INDEX_AREA),
+            lent: 0,
         }
     }
 
+    /// The calls from here on are lent this index.
+    pub fn lend(&mut self, index: &[u8]) {
+        self.index.set(0, index);
+        self.lent = index.len();
+    }
+
+    /// Fills an index from the table, and compares its number and every byte with
+    /// what is due: for a length under, at and above that of an index.
+    pub fn fill(&self) -> Result<(), String> {
+        for length in [0, INDEX - 1, INDEX, INDEX + 2] {
+            let mut area = Area::new(INDEX_AREA);
+            let mut due = area.front(length).to_vec();
+            let filled = index::fill(&self.table, &mut due);
+            let number = filled.map_or_else(|refusal| refusal.number(), |()| 0);
+            area.expect(0, &due);
+            let found = call::index(&self.table, area.front(length));
+            same("number of a filling", &found, &number)?;
+            same("place in an index", &area.difference(), &None)?;
+        }
+        Ok(())
+    }
+
     /// Makes a call and keeps the state. `Err` if the outbox or, after a
-    /// refusal, the state isn't as it is to be, whatever the call was about.
+    /// refusal, the state isn't as it is to be, whatever the call was about, or
+    /// if the index was written. A list that took readings is no refusal.
     pub fn call(&mut self, call: &Call) -> Result<Answer, String> {
-        let done = self.make(call);
+        let Made { done, taken } = self.make(call);
         let Done {
             number,
             used,
             written,
+            steps,
             state,
         } = done;
+        same("place in the index", &self.index.difference(), &None)?;
         let before = match call {
             Call::Start { .. } => State::NOTHING,
             _ => self.state,
         };
-        if number != 0 && state != before {
+        if number != 0 && taken == 0 && state != before {
             return Err(format!("refused with {number}, but the state was altered"));
         }
         self.state = state;
         let outbox = match call {
             Call::Piece { outbox_len, .. }
             | Call::Reading { outbox_len, .. }
-            | Call::Unreadable { outbox_len, .. } => *outbox_len,
+            | Call::Unreadable { outbox_len, .. }
+            | Call::Readings { outbox_len, .. } => *outbox_len,
             _ => 0,
         };
         if written > outbox {
@@ -92,14 +144,76 @@ impl Library {
                 number,
                 used,
                 outbox,
+                steps,
+                taken,
             }),
         }
     }
 
     /// The call itself; the state stays.
-    pub fn make(&mut self, call: &Call) -> Done {
+    pub fn make(&mut self, call: &Call) -> Made {
+        let taken = match call {
+            Call::Readings {
+                values_len,
+                outbox_len,
+                rows,
+                texts,
+            } => return self.list(*values_len, *outbox_len, rows, texts),
+            _ => 0,
+        };
+        let done = self.single(call);
+        Made { done, taken }
+    }
+
+    /// A list as the library answers it.
+    pub fn listed(
+        &mut self,
+        values_len: usize,
+        outbox_len: usize,
+        rows: &[Row],
+        texts: &[u8],
+    ) -> Listed {
+        call::readings(
+            &self.table,
+            self.values.front(values_len),
+            self.outbox.front(outbox_len),
+            &self.state,
+            rows,
+            texts,
+            self.index.front(self.lent),
+        )
+    }
+
+    fn list(
+        &mut self,
+        values_len: usize,
+        outbox_len: usize,
+        rows: &[list::Row],
+        texts: &[u8],
+    ) -> Made {
+        let rows: Vec<Row> = rows.iter().map(row).collect();
+        let Listed {
+            number,
+            taken,
+            written,
+            steps,
+            state,
+        } = self.listed(values_len, outbox_len, &rows, texts);
+        let done = Done {
+            number,
+            used: 0,
+            written,
+            steps,
+            state,
+        };
+        Made { done, taken }
+    }
+
+    /// Any call but a list as the library answers it.
+    pub fn single(&mut self, call: &Call) -> Done {
         let (table, state) = (&self.table, &self.state);
         let (values, outbox) = (&mut self.values, &mut self.outbox);
+        let index = &*self.index.front(self.lent);
         match call {
             Call::Start { values_len, time } => {
                 call::start(table, values.front(*values_len), *time)
@@ -108,12 +222,26 @@ impl Library {
                 client,
                 values_len,
                 time,
-            } => call::open(table, values.front(*values_len), state, *client, *time),
+            } => call::open(
+                table,
+                values.front(*values_len),
+                state,
+                *client,
+                *time,
+                index,
+            ),
             Call::Close {
                 client,
                 values_len,
                 time,
-            } => call::close(table, values.front(*values_len), state, *client, *time),
+            } => call::close(
+                table,
+                values.front(*values_len),
+                state,
+                *client,
+                *time,
+                index,
+            ),
             Call::Piece {
                 client,
                 values_len,
@@ -122,7 +250,7 @@ impl Library {
                 bytes,
             } => {
                 let (values, outbox) = (values.front(*values_len), outbox.front(*outbox_len));
-                call::piece(table, values, outbox, state, *client, *time, bytes)
+                call::piece(table, values, outbox, state, *client, *time, bytes, index)
             }
             Call::Reading {
                 parameter,
@@ -132,7 +260,7 @@ impl Library {
                 text,
             } => {
                 let (values, outbox) = (values.front(*values_len), outbox.front(*outbox_len));
-                call::reading(table, values, outbox, state, *parameter, *time, text)
+                call::reading(table, values, outbox, state, *parameter, *time, text, index)
             }
             Call::Unreadable {
                 parameter,
@@ -142,8 +270,11 @@ impl Library {
                 class,
             } => {
                 let (values, outbox) = (values.front(*values_len), outbox.front(*outbox_len));
-                call::unreadable(table, values, outbox, state, *parameter, *time, *class)
+                call::unreadable(
+                    table, values, outbox, state, *parameter, *time, *class, index,
+                )
             }
+            Call::Lend { .. } | Call::Readings { .. } => unreachable!("no single call"),
         }
     }
 

@@ -1,6 +1,7 @@
 //! Compares the library with the reference program, and measures it.
 
 mod area;
+mod beside;
 mod chatter;
 mod cost;
 mod difference;
@@ -9,11 +10,13 @@ mod library;
 mod night;
 mod operations;
 mod seen;
+mod slowest;
 mod stack;
+mod texts;
 
 use chatter::Chatter;
 use difference::{Counts, Difference};
-use reference::generate::{calls, histories as random, quieter, second, small, turns};
+use reference::generate::{calls, histories as random, quieter, racks, second, small, turns};
 use reference::history::History;
 use reference::operation::Operation;
 use std::process::ExitCode;
@@ -23,15 +26,21 @@ Compares the static library with the reference program, and measures it.
 
 usage: compare [COMMAND ...]
 
-  SEED COUNT   the fixed calls (examples, refusals, unfit states, long lines),
-               then for each of COUNT seeds, from SEED on, a small history and
-               a random one, both again cut and mingled anew, and one in which
-               the state is changed at random between the calls
+  SEED COUNT   the fixed calls (examples, refusals, unfit states, indexes, long
+               lines, lists of readings), then for each of COUNT seeds, from
+               SEED on, a small history, a random one and one with lists, all
+               again cut and mingled anew, listed anew and lent other indexes,
+               and one in which the state is changed at random between the calls
   (nothing)    the same with the seeds of ./test
-  chatter      for the same seeds a small history and a random one, each with
-               and without lines of other clients that are no accepted changes
+  chatter      for the same seeds a small history, a random one and one with
+               lists, each with and without lines of other clients that are no
+               accepted changes
   cost         what a line costs, beside the reference program
+  index        what an index spares: steps and time of a read
+  slowest      what a call costs on the slowest tables that are known
   stack        how deep the stack of a call is, over the same histories
+  tables       tables told as a text and built again, and which record is at
+               fault in those that are refused
   night TABLE TIME TRACE
                a night by single calls: what the program `night` is to write
                before its figures,
@@ -40,7 +49,7 @@ usage: compare [COMMAND ...]
 
 A difference is printed with the history's name and seed and the first call at
 which the two sides differ, counted from 1: `reference history SEED`, `second
-SEED`, `quieter SEED` and `small SEED` print these histories.
+SEED`, `quieter SEED`, `racks SEED` and `small SEED` print these histories.
 ";
 
 /// The seeds that `./test` uses.
@@ -60,7 +69,10 @@ fn main() -> ExitCode {
         [] => compare(SEED, COUNT),
         ["chatter"] => compare_without_lines(SEED, COUNT),
         ["cost"] => cost::print(),
+        ["index"] => beside::print(),
+        ["slowest"] => slowest::print(),
         ["stack"] => stack::print(),
+        ["tables"] => texts::print(),
         ["night", table, time, trace] => night::print(table, time, trace),
         ["--help"] => {
             print!("{HELP}");
@@ -90,9 +102,11 @@ struct Tally {
 fn compare(seed: u64, count: u64) -> ExitCode {
     let mut tally = Tally::default();
     tally.operations(&calls::operations(0, 0));
+    tally.operations(&calls::lists());
     for seed in seed..seed.saturating_add(count) {
         tally.twice("small", seed, &small::history(seed));
         tally.twice("random", seed, &random::history(seed, CALLS));
+        tally.twice("racks", seed, &racks::history(seed, CALLS));
         if seed % 4 == 0 {
             tally.twice("turns", seed, &turns::history(seed));
         }
@@ -108,6 +122,8 @@ fn compare_without_lines(seed: u64, count: u64) -> ExitCode {
         tally.without_lines("small", seed, &small::history(seed), &mut chatter);
         let first = random::history(seed, CALLS);
         tally.without_lines("random", seed, &first, &mut chatter);
+        let first = racks::history(seed, CALLS);
+        tally.without_lines("racks", seed, &first, &mut chatter);
     }
     chatter.print();
     tally.print()
@@ -120,11 +136,17 @@ impl Tally {
         let numbers = numbers.map(|(number, count)| format!("{number}: {count}"));
         let numbers: Vec<String> = numbers.collect();
         println!("calls answered with each number: {}", numbers.join(", "));
-        println!(
-            "{} calls of {} histories",
-            self.counts.calls,
-            passed + failed
-        );
+        let Counts {
+            calls,
+            searches,
+            steps,
+            most_steps,
+            listed,
+            ..
+        } = self.counts;
+        println!("{listed} readings taken of lists");
+        println!("{searches} searches with {steps} steps, at most {most_steps}");
+        println!("{calls} calls of {} histories", passed + failed);
         println!("{passed} passed, {failed} failed");
         match failed {
             0 => ExitCode::SUCCESS,

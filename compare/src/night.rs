@@ -7,6 +7,9 @@ use reference::table::Table;
 use std::fs;
 use std::process::ExitCode;
 
+/// No index is lent.
+const NONE: &[u8] = &[];
+
 /// What stands before a record's bytes.
 const HEAD: usize = 13;
 
@@ -79,15 +82,15 @@ impl Night<'_> {
         let time = head[3..11].try_into().map(u64::from_be_bytes);
         let time = time.map_err(|_| "a time has eight bytes")?;
         let done = match (&head[..2], bytes) {
-            (b"EO", []) => call::open(table, values, state, number, time),
-            (b"EC", []) => call::close(table, values, state, number, time),
-            (b"ER", _) => call::reading(table, values, outbox, state, number, time, bytes),
+            (b"EO", []) => call::open(table, values, state, number, time, NONE),
+            (b"EC", []) => call::close(table, values, state, number, time, NONE),
+            (b"ER", _) => call::reading(table, values, outbox, state, number, time, bytes, NONE),
             (b"EF", [class]) => {
                 let class = u64::from(*class);
-                call::unreadable(table, values, outbox, state, number, time, class)
+                call::unreadable(table, values, outbox, state, number, time, class, NONE)
             }
             (b"EP", _) => loop {
-                let done = call::piece(table, values, outbox, state, number, time, bytes);
+                let done = call::piece(table, values, outbox, state, number, time, bytes, NONE);
                 bytes = &bytes[done.used..];
                 if done.number != 0 || bytes.is_empty() {
                     break done;

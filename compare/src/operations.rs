@@ -14,6 +14,8 @@ use reference::table::Table;
 struct Pair {
     library: Library,
     kept: Kept,
+    /// What calls are lent as an index.
+    index: Vec<u8>,
     /// How many parameters the table has, or its number.
     parameters: Result<usize, Refusal>,
     calls: usize,
@@ -45,6 +47,7 @@ impl Pair {
         Pair {
             library,
             kept,
+            index: Vec::new(),
             parameters: Err(Refusal::Layout),
             calls: 0,
         }
@@ -56,6 +59,11 @@ impl Pair {
                 let judged = Table::judge(bytes);
                 self.parameters = judged.map(|table| table.parameters().len());
                 self.library.table.clone_from(bytes);
+                return self.library.fill();
+            }
+            Operation::Call(Call::Lend { index }) => {
+                self.index.clone_from(index);
+                self.library.lend(index);
             }
             Operation::Poke(poke) => {
                 poke.apply(&mut self.kept);
@@ -69,7 +77,7 @@ impl Pair {
 
     fn call(&mut self, call: &Call, counts: &mut Counts) -> Result<(), String> {
         self.calls += 1;
-        let due = self.kept.call(&self.library.table, call);
+        let due = self.kept.call(&self.library.table, &self.index, call);
         let found = self.library.call(call)?;
         same_answer(call, &found, &due)?;
         counts.add(&found);

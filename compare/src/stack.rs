@@ -1,9 +1,10 @@
 //! How deep the stack of a call gets: the call is made on a stack of its own,
 //! filled with a pattern, and then it shows how far the pattern is gone.
 
-use crate::library::Library;
-use jihfasul::{call::STACK, Done, State};
-use reference::generate::calls;
+use crate::library::{row, Library};
+use jihfasul::call::{self, STACK};
+use jihfasul::{Done, State, INDEX};
+use reference::generate::{calls, racks};
 use reference::history::Call;
 use reference::node::MIN_VALUES;
 use reference::operation::{Operation, VALUES_AREA};
@@ -19,6 +20,8 @@ const PAGE: usize = 4_096;
 /// The histories that are run.
 const SEED: u64 = 1;
 const COUNT: u64 = 200;
+/// The calls of a history with lists.
+const CALLS: usize = 20;
 
 struct Stack {
     bytes: Vec<u8>,
@@ -81,14 +84,16 @@ struct Deepest {
     piece: usize,
     reading: usize,
     unreadable: usize,
+    readings: usize,
     value: usize,
+    index: usize,
 }
 
 impl Deepest {
     fn most(&self) -> usize {
         let kept = self.start.max(self.open).max(self.close).max(self.value);
         let sent = self.piece.max(self.reading).max(self.unreadable);
-        kept.max(sent)
+        kept.max(sent).max(self.readings).max(self.index)
     }
 
     fn of(&mut self, call: &Call) -> &mut usize {
@@ -99,6 +104,8 @@ impl Deepest {
             Call::Piece { .. } => &mut self.piece,
             Call::Reading { .. } => &mut self.reading,
             Call::Unreadable { .. } => &mut self.unreadable,
+            Call::Readings { .. } => &mut self.readings,
+            Call::Lend { .. } => unreachable!("lending is no call"),
         }
     }
 }
@@ -109,9 +116,18 @@ fn deepest() -> Deepest {
     let mut deepest = Deepest::default();
     let mut library = Library::new(&[]);
     library.values.set(0, &[0; VALUES_AREA]);
-    for operation in calls::operations(SEED, COUNT) {
+    let lists = (SEED..SEED + COUNT).flat_map(|seed| racks::operations(seed, CALLS));
+    let operations = calls::operations(SEED, COUNT).into_iter();
+    for operation in operations.chain(calls::lists()).chain(lists) {
         match operation {
-            Operation::Table(bytes) => library.table = bytes,
+            Operation::Table(bytes) => {
+                library.table = bytes;
+                let mut index = [0; INDEX];
+                let table = &library.table;
+                let depth = stack.depth(|| _ = call::index(table, &mut index));
+                deepest.index = depth.max(deepest.index);
+            }
+            Operation::Call(Call::Lend { index }) => library.lend(&index),
             Operation::Poke(poke) => library.poke(&poke),
             Operation::Call(call) => measure(&mut stack, &mut deepest, &mut library, &call),
             Operation::Show(_) | Operation::Note(_) => {}
@@ -132,7 +148,9 @@ pub fn print() -> ExitCode {
     println!("piece      {:6} bytes", deepest.piece);
     println!("reading    {:6} bytes", deepest.reading);
     println!("unreadable {:6} bytes", deepest.unreadable);
+    println!("readings   {:6} bytes", deepest.readings);
     println!("value      {:6} bytes", deepest.value);
+    println!("index      {:6} bytes", deepest.index);
     let kept = deepest.most() <= STACK;
     println!(
         "stack: {} passed, {} failed",
@@ -144,7 +162,18 @@ pub fn print() -> ExitCode {
 
 fn measure(stack: &mut Stack, deepest: &mut Deepest, library: &mut Library, call: &Call) {
     let mut state = library.state;
-    let depth = stack.depth(|| state = library.make(call).state);
+    let depth = match call {
+        Call::Readings {
+            values_len,
+            outbox_len,
+            rows,
+            texts,
+        } => {
+            let rows: Vec<_> = rows.iter().map(row).collect();
+            stack.depth(|| state = library.listed(*values_len, *outbox_len, &rows, texts).state)
+        }
+        _ => stack.depth(|| state = library.single(call).state),
+    };
     library.state = state;
     let most = deepest.of(call);
     *most = depth.max(*most);

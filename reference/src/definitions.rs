@@ -7,7 +7,7 @@ const HEADER: &str = "\
 -- Histories that the reference program generated, with the answers that it gives. Printed by it; not edited by hand. Assumes nothing.
 use mathlib.Core.List.{List, [], _∷_}
 use Rattle.ascii.specs.Text.{bytes}
-use Rattle.plain.specs.Calls.{Open, Close, Piece, Reading, Unreadable, withArea, withOutbox}
+use Rattle.plain.specs.Calls.{Open, Close, Piece, Reading, Unreadable, withArea, withOutbox, beside}
 use Rattle.examples.specs.Told.{History}
 ";
 
@@ -29,8 +29,12 @@ fn definition(number: usize, history: &History) -> Option<String> {
     let (Call::Start { values_len, time }, calls) = history.calls.split_first()? else {
         return None;
     };
-    let calls: Option<Vec<String>> = calls.iter().map(call).collect();
-    let due: Vec<String> = answers[1..].iter().map(answer).collect();
+    let due = calls.iter().zip(&answers[1..]);
+    let due: Vec<String> = due
+        .filter(|(call, _)| call.is_made())
+        .map(|(_, due)| answer(due))
+        .collect();
+    let calls = lent(calls);
     Some(format!(
         "unfoldable pub history-{number} : History\n\
          history-{number} =\n    record {{\n      table = {};\n      area = {values_len};\n      time = {time};\n      start = {};\n      \
@@ -50,9 +54,23 @@ fn list(items: &[String]) -> String {
         + "[]"
 }
 
+/// The calls, each with the index that it is lent.
+fn lent(calls: &[Call]) -> Option<Vec<String>> {
+    let mut index: &[u8] = &[];
+    let mut printed = Vec::new();
+    for one in calls {
+        match one {
+            Call::Lend { index: next } => index = next,
+            _ if index.is_empty() => printed.push(call(one)?),
+            _ => printed.push(format!("beside ({}) ({})", bytes(index), call(one)?)),
+        }
+    }
+    Some(printed)
+}
+
 fn call(call: &Call) -> Option<String> {
     Some(match call {
-        Call::Start { .. } => return None,
+        Call::Start { .. } | Call::Lend { .. } | Call::Readings { .. } => return None,
         Call::Open {
             client,
             values_len,
@@ -97,10 +115,11 @@ fn call(call: &Call) -> Option<String> {
 
 fn answer(answer: &Answer) -> String {
     format!(
-        "record {{ number = {}; used = {}; written = {} }}",
+        "record {{ number = {}; used = {}; written = {}; steps = {} }}",
         answer.number,
         answer.used,
-        bytes(&answer.outbox)
+        bytes(&answer.outbox),
+        answer.steps
     )
 }
 

@@ -1,6 +1,7 @@
 //! Histories: a table and a list of calls, and what a plain node answers.
 
-use crate::node::{Node, State};
+use crate::list::Row;
+use crate::node::{Listed, Node, State};
 use crate::refusal::{Refusal, ACCEPTED};
 
 /// A call with its arguments. Of the values area and the outbox only the
@@ -42,15 +43,37 @@ pub enum Call {
         time: u64,
         class: u64,
     },
+    /// A list of readings; their texts lie in the buffer beside it.
+    Readings {
+        values_len: usize,
+        outbox_len: usize,
+        rows: Vec<Row>,
+        texts: Vec<u8>,
+    },
+    /// No call: those from here on are lent this index, or none where it has no
+    /// bytes. A start is lent none.
+    Lend {
+        index: Vec<u8>,
+    },
 }
 
-/// What a call answers: its number, and for pieces the bytes used, for pieces
-/// and what drivers report the bytes written.
+impl Call {
+    /// Whether it is a call by itself; lending an index is none.
+    pub fn is_made(&self) -> bool {
+        !matches!(self, Call::Lend { .. })
+    }
+}
+
+/// What a call answers: its number, and for pieces the bytes used and the steps
+/// of a search, for pieces and what drivers report the bytes written, for lists
+/// how many readings were taken. A list that stops has a number and an effect.
 #[derive(Clone, Debug, Default, PartialEq)]
 pub struct Answer {
     pub number: u8,
     pub used: usize,
     pub outbox: Vec<u8>,
+    pub steps: usize,
+    pub taken: usize,
 }
 
 /// A table and calls over it; the first call is a start.
@@ -72,6 +95,12 @@ impl Answer {
         self.number == ACCEPTED
     }
 
+    /// Whether something was done: it is accepted, or a list that took some of
+    /// its readings.
+    pub fn has_effect(&self) -> bool {
+        self.is_accepted() || self.taken > 0
+    }
+
     /// A refusal uses no bytes and writes none.
     fn refused(refusal: Refusal) -> Answer {
         Answer {
@@ -82,9 +111,17 @@ impl Answer {
 
     fn driver(result: Result<Vec<u8>, Refusal>) -> Answer {
         result.map_or_else(Answer::refused, |outbox| Answer {
-            number: ACCEPTED,
-            used: 0,
             outbox,
+            ..Answer::default()
+        })
+    }
+
+    fn list(result: Result<Listed, Refusal>) -> Answer {
+        result.map_or_else(Answer::refused, |listed| Answer {
+            number: listed.refusal.map_or(ACCEPTED, Refusal::number),
+            outbox: listed.outbox,
+            taken: listed.taken,
+            ..Answer::default()
         })
     }
 
@@ -96,6 +133,7 @@ impl Answer {
 /// A node that is fed calls one by one.
 pub struct Player {
     table: Vec<u8>,
+    index: Vec<u8>,
     node: Option<Node>,
 }
 
@@ -103,6 +141,7 @@ impl Player {
     pub fn new(table: &[u8]) -> Player {
         Player {
             table: table.to_vec(),
+            index: Vec::new(),
             node: None,
         }
     }
@@ -114,10 +153,15 @@ impl Player {
 
     /// Makes a call. `None` if a start is still missing.
     pub fn call(&mut self, call: &Call) -> Option<Answer> {
-        if let Call::Start { values_len, time } = call {
-            let (node, result) = Node::start(&self.table, *values_len, *time);
-            self.node = Some(node);
-            return Some(Answer::plain(result));
+        match call {
+            Call::Start { values_len, time } => {
+                let (mut node, result) = Node::start(&self.table, *values_len, *time);
+                node.lend(&self.index);
+                self.node = Some(node);
+                return Some(Answer::plain(result));
+            }
+            Call::Lend { index } => self.index = index.clone(),
+            _ => {}
         }
         self.node.as_mut().map(|node| answer(node, call))
     }
@@ -127,6 +171,10 @@ impl Player {
 pub(crate) fn answer(node: &mut Node, call: &Call) -> Answer {
     match call {
         Call::Start { .. } => unreachable!("the player makes a new node for a start"),
+        Call::Lend { index } => {
+            node.lend(index);
+            Answer::default()
+        }
         Call::Open {
             client,
             values_len,
@@ -148,6 +196,8 @@ pub(crate) fn answer(node: &mut Node, call: &Call) -> Answer {
                 number: ACCEPTED,
                 used: taken.used,
                 outbox: taken.outbox,
+                steps: taken.steps,
+                taken: 0,
             },
             Err(refusal) => Answer::refused(refusal),
         },
@@ -165,6 +215,12 @@ pub(crate) fn answer(node: &mut Node, call: &Call) -> Answer {
             time,
             class,
         } => Answer::driver(node.unreadable(*parameter, *values_len, *outbox_len, *time, *class)),
+        Call::Readings {
+            values_len,
+            outbox_len,
+            rows,
+            texts,
+        } => Answer::list(node.readings(*values_len, *outbox_len, rows, texts)),
     }
 }
 

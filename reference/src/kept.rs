@@ -5,7 +5,9 @@
 use crate::error::SensorError;
 use crate::history::{self, Answer, Call};
 use crate::line::{Unfinished, LINE_FEED, MAX_LINE};
-use crate::node::{Client, Counts, Held, Node, State, CLIENTS, MAX_TIME};
+use crate::list::Row;
+use crate::node::{Client, Counts, Held, Node, State, CLIENTS, MAX_TIME, MIN_VALUES};
+use crate::outbox::MIN_OUTBOX;
 use crate::refusal::Refusal;
 use crate::table::{Parameter, Table, MAX_ACCESSIBLES};
 use crate::value::{self, MAX_STORED};
@@ -97,7 +99,7 @@ impl Kept {
     }
 
     /// Makes a call over a table.
-    pub fn call(&mut self, table: &[u8], call: &Call) -> Answer {
+    pub fn call(&mut self, table: &[u8], index: &[u8], call: &Call) -> Answer {
         if let Call::Start { values_len, time } = call {
             let (node, result) = Node::start(table, *values_len, *time);
             self.start_anew(node.state());
@@ -106,18 +108,35 @@ impl Kept {
         let judged = Table::judge(table);
         let before = judged.as_ref().ok().and_then(|table| self.view(table));
         let mut node = Node::over(judged, before.clone());
+        node.lend(index);
         let answer = history::answer(&mut node, call);
-        let judged_first = (1..=Refusal::Values.number()).contains(&answer.number);
-        match before {
-            None if !judged_first => Answer {
+        let lent = [Refusal::Index, Refusal::List].map(Refusal::number);
+        let judged_first = (1..=Refusal::Values.number())
+            .chain(lent)
+            .any(|it| it == answer.number);
+        match (before, call) {
+            (None, _) if !judged_first => Answer {
                 number: UNFIT,
                 ..Answer::default()
             },
-            Some(before) if answer.is_accepted() => {
+            (Some(_), Call::Readings { rows, texts, .. }) => {
+                self.take_rows(table, &rows[..answer.taken], texts);
+                answer
+            }
+            (Some(before), _) if answer.is_accepted() => {
                 self.take_over(&before, node.state());
                 answer
             }
             _ => answer,
+        }
+    }
+
+    /// Takes readings of a list one by one: the values area has what each of
+    /// them leaves there.
+    fn take_rows(&mut self, table: &[u8], rows: &[Row], texts: &[u8]) {
+        for row in rows {
+            let call = row.single(MIN_VALUES, MIN_OUTBOX, texts);
+            assert!(self.call(table, &[], &call).is_accepted());
         }
     }
 

@@ -1,5 +1,5 @@
-//! The plain node of document 01, with broken sensors (M-102) as document 02
-//! asks for them, as an ordinary Rust program.
+//! The plain node of document 01, with the requests of document 02 that
+//! `README.md` names, as an ordinary Rust program.
 //!
 //! It is written from the documents alone and shares nothing with the proved
 //! core, so that the two can be compared. Trees, `Vec` and plain recursion
@@ -9,6 +9,7 @@
 //!   report;
 //! * [`mod@index`] fills an index beside the table and searches with it;
 //! * [`json`], [`decimal`], [`base64`], [`datainfo`] and [`value`] judge values;
+//! * [`list`] is a list of readings;
 //! * [`mod@line`] parts a request, [`error`] names the error classes, [`outbox`]
 //!   holds the records that are sent;
 //! * [`node`] is the plain node itself;
@@ -31,6 +32,7 @@ pub mod index;
 pub mod json;
 pub mod kept;
 pub mod line;
+pub mod list;
 pub mod name;
 pub mod node;
 pub mod operation;

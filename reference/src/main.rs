@@ -6,7 +6,7 @@ use reference::error::ErrorClass;
 use reference::generate::nights::Night;
 use reference::generate::vectors::{self, ValueCase};
 use reference::generate::{
-    borders, calls, directed, encode, histories, indexes, nights, quieter, second, small,
+    borders, calls, directed, encode, histories, indexes, nights, quieter, racks, second, small,
 };
 use reference::history::History;
 use reference::operation;
@@ -20,7 +20,7 @@ use std::path::Path;
 use std::process::ExitCode;
 
 const HELP: &str = "\
-The plain node of document 01 with M-100, M-102, M-107, M-110 and M-111, and generators for comparing others with it.
+The plain node of docs/RULES.md with the requests that reference/README.md names, and generators for comparing others with it.
 
 usage: reference COMMAND ...
 
@@ -30,6 +30,7 @@ usage: reference COMMAND ...
                         refused calls left out
   quieter SEED [CALLS]  the same again without lines of other clients that
                         are not accepted changes, for one client
+  racks SEED [CALLS]    a history with lists of readings
   small SEED            a small table and a handful of calls
   directed              the names of the directed small histories
   directed NUMBER       one of them
@@ -187,6 +188,8 @@ fn text_command(arguments: &[&str]) -> Result<String, String> {
         ["second", seed, calls] => print_second(number(seed)?, number(calls)?),
         ["quieter", seed] => print_quieter(number(seed)?, DEFAULT_CALLS),
         ["quieter", seed, calls] => print_quieter(number(seed)?, number(calls)?),
+        ["racks", seed] => print_run(&racks::history(number(seed)?, DEFAULT_CALLS)),
+        ["racks", seed, calls] => print_run(&racks::history(number(seed)?, number(calls)?)),
         ["small", seed] => print_run(&small::history(number(seed)?)),
         ["directed"] => Ok(print_names()),
         ["directed", at] => print_run(&directed_history(number(at)?)?),

@@ -139,6 +139,8 @@ fn call_bytes(call: &Call) -> Vec<u8> {
             time,
             class,
         } => head(b'U', *parameter, *values_len, *outbox_len, *time).to_bytes(&class.to_be_bytes()),
+        Call::Lend { index } => Head::new(b'I').to_bytes(index),
+        Call::Readings { .. } => unreachable!("no program of these operations makes lists"),
     }
 }
 
@@ -209,13 +211,15 @@ impl Poke {
 /// The lines that the program is to print.
 pub fn output(operations: &[Operation]) -> String {
     let mut table = Vec::new();
+    let mut index: Vec<u8> = Vec::new();
     let mut kept = Kept::new(VALUES_AREA);
     let mut lines = String::new();
     for operation in operations {
         match operation {
             Operation::Table(bytes) => table = bytes.clone(),
+            Operation::Call(Call::Lend { index: next }) => index = next.clone(),
             Operation::Call(call) => {
-                let answer = kept.call(&table, call);
+                let answer = kept.call(&table, &index, call);
                 lines += &answer_line(call, &answer, &kept.values);
             }
             Operation::Poke(poke) => poke.apply(&mut kept),
@@ -237,11 +241,15 @@ fn answer_line(call: &Call, answer: &Answer, values: &[u8]) -> String {
         Call::Piece { .. } => "piece",
         Call::Reading { .. } => "reading",
         Call::Unreadable { .. } => "unreadable",
+        Call::Lend { .. } => return String::new(),
+        Call::Readings { .. } => unreachable!("no program of these operations makes lists"),
     };
     let Answer {
         number,
         used,
         outbox,
+        steps,
+        ..
     } = answer;
     let written = outbox.len();
     let untouched = (written..OUTBOX_AREA).map(|place| (place % 251) as u8);
@@ -252,7 +260,7 @@ fn answer_line(call: &Call, answer: &Answer, values: &[u8]) -> String {
         (true, false) => format!(" {}", readable(outbox)),
         (false, _) => " kept".to_string(),
     };
-    format!("{name} {number} {used} {written} {outbox_digest} {values_digest}{end}\n")
+    format!("{name} {number} {used} {written} {steps} {outbox_digest} {values_digest}{end}\n")
 }
 
 /// The bytes as digits of a number in base 257, the remainder by 2 to the 40th.

@@ -4,8 +4,9 @@
 pub const ACCEPTED: u8 = 0;
 
 /// Why a call is refused. Of several faults the first in this order is given,
-/// so calls look for them in it; 18 is judged straight after 8. Number 9 is about a state that somebody
-/// else kept; a plain node keeps its own and never gives it.
+/// so calls look for them in it; 18 is judged straight after 8, and 17 after
+/// it. Number 9 is about a state that somebody else kept; a plain node keeps its
+/// own and never gives it.
 #[derive(Clone, Copy, Debug, PartialEq, Eq, PartialOrd, Ord)]
 pub enum Refusal {
     /// The table is too long or its layout can't be read.
@@ -27,6 +28,8 @@ pub enum Refusal {
     Values = 8,
     /// The index has less than 128 bytes.
     Index = 18,
+    /// A list has more than nine readings.
+    List = 17,
     /// The time is above the limit.
     Time = 10,
     /// The client's number is above 7.

@@ -3,6 +3,7 @@
 
 use crate::history::{Answer, Call, History, Outcome};
 use crate::line::Unfinished;
+use crate::list::Row;
 use crate::node::{Counts, State};
 use std::fmt::Write;
 
@@ -36,7 +37,10 @@ pub fn from_hex(text: &str) -> Option<Vec<u8>> {
 pub fn print(history: &History, outcome: &Outcome) -> String {
     let mut text = format!("table {}\n", hex(&history.table));
     for (call, answer) in history.calls.iter().zip(&outcome.answers) {
-        text += &format!("{} = {}\n", print_call(call), print_answer(call, answer));
+        text += &match call {
+            Call::Lend { .. } => format!("{}\n", print_call(call)),
+            _ => format!("{} = {}\n", print_call(call), print_answer(call, answer)),
+        };
     }
     text + "end\n" + &print_state(&outcome.end)
 }
@@ -81,7 +85,43 @@ fn print_call(call: &Call) -> String {
             time,
             class,
         } => format!("unreadable {parameter} {values_len} {outbox_len} {time} {class}"),
+        Call::Lend { index } => format!("index {}", hex(index)),
+        Call::Readings {
+            values_len,
+            outbox_len,
+            rows,
+            texts,
+        } => {
+            let rows: String = rows
+                .iter()
+                .map(|row| format!(" {}", print_row(row)))
+                .collect();
+            format!("readings {values_len} {outbox_len} {}{rows}", hex(texts))
+        }
     }
+}
+
+fn print_row(row: &Row) -> String {
+    let Row {
+        parameter,
+        time,
+        offset,
+        length,
+    } = row;
+    format!("{parameter},{time},{offset},{length}")
+}
+
+fn read_row(word: &&str) -> Option<Row> {
+    let numbers: Option<Vec<u64>> = word.split(',').map(|one| one.parse().ok()).collect();
+    let [parameter, time, offset, length] = numbers?[..] else {
+        return None;
+    };
+    Some(Row {
+        parameter,
+        time,
+        offset,
+        length,
+    })
 }
 
 fn print_answer(call: &Call, answer: &Answer) -> String {
@@ -89,10 +129,13 @@ fn print_answer(call: &Call, answer: &Answer) -> String {
         number,
         used,
         outbox,
+        steps,
+        taken,
     } = answer;
     match call {
-        Call::Piece { .. } => format!("{number} {used} {}", hex(outbox)),
+        Call::Piece { .. } => format!("{number} {used} {steps} {}", hex(outbox)),
         Call::Reading { .. } | Call::Unreadable { .. } => format!("{number} {}", hex(outbox)),
+        Call::Readings { .. } => format!("{number} {taken} {}", hex(outbox)),
         _ => number.to_string(),
     }
 }
@@ -195,6 +238,15 @@ fn read_call(words: &[&str]) -> Option<Call> {
             outbox_len: outbox_len.parse().ok()?,
             time: time.parse().ok()?,
             class: class.parse().ok()?,
+        },
+        ["readings", values_len, outbox_len, texts, rows @ ..] => Call::Readings {
+            values_len: values_len.parse().ok()?,
+            outbox_len: outbox_len.parse().ok()?,
+            rows: rows.iter().map(read_row).collect::<Option<_>>()?,
+            texts: from_hex(texts)?,
+        },
+        ["index", index] => Call::Lend {
+            index: from_hex(index)?,
         },
         _ => return None,
     })

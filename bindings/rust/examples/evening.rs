@@ -1,24 +1,53 @@
 //! An evening of two rooms that share one node: plays `evening.script`, or the
 //! script that the command line names, and prints who sent what, who was sent
 //! what, and what the drivers were ordered to do. No socket and no hardware:
-//! where a host would write to one, this one prints. With `--record FOLDER` it
-//! leaves the table and a trace of the events there, for the program `night`.
+//! where a host would write to one, this one prints. The node's table is
+//! `evening.table`, or the one after `--table`, as a text or as bytes. With
+//! `--record FOLDER` it leaves the table's bytes and a trace of the events there,
+//! for the program `night`.
 
 #[path = "evening/script.rs"]
 mod script;
-#[path = "evening/table.rs"]
-mod table;
 
 use jihfasul::state::CLIENTS;
+use jihfasul::table::{self, Table};
 use jihfasul::{Held, Mark, Node, Record, Recorder, Records, Refusal, SensorError};
-use script::{clock, entries, fault, Act, Entry, Event};
-use std::fmt::Write;
+use script::{clock, entry, Act, Entry, Event};
+use std::fmt::Write as _;
 use std::fs::File;
+use std::io::Write as _;
 use std::path::{Path, PathBuf};
 use std::{env, fs, io, process};
-use table::{choice, double, int, pair, string, Access, Table};
 
 const SCRIPT: &str = concat!(env!("CARGO_MANIFEST_DIR"), "/examples/evening.script");
+const TABLE: &str = concat!(env!("CARGO_MANIFEST_DIR"), "/examples/evening.table");
+
+/// `./evening` names here the program that replays, seen from the user's folder.
+const NIGHT: &str = "JIHFASUL_NIGHT_COMMAND";
+
+/// The arguments can't be understood, or nothing can be printed.
+const UNUSABLE: i32 = 2;
+
+const HELP: &str = "\
+Plays a script of clients and drivers on a node, and prints who sent what, who was
+sent what, and what the drivers were ordered to do.
+
+usage: evening [--table FILE] [--record FOLDER] [SCRIPT]
+       evening --help
+
+  SCRIPT            what happens; without it an evening of two rooms, which says at
+                    its head what a script has:
+                    bindings/rust/examples/evening.script
+  --table FILE      the node's table, as a text (docs/TABLE.md) or as the bytes that
+                    jihfasul-table builds; without it the two rooms':
+                    bindings/rust/examples/evening.table
+  --record FOLDER   leaves the table's bytes and a trace of the events in a new
+                    FOLDER, for ./night
+
+A line of a script that can't be played is quoted with what was expected; what was
+played before it is printed. The exit status is 0 if all of the script was played, 1
+if not, and 2 if the arguments can't be understood or nothing can be printed.
+";
 
 /// The marks of the columns, and what the times in the reports are.
 const HEAD: &str = "  >  to the node: a line, or what a driver has read
@@ -31,56 +60,14 @@ Times in what the node sends are seconds since midnight: 20:00:00 is 72000.000.
 
 /// A printed line of the node has at most this many bytes; of a longer one the
 /// front is printed, and its length.
-const WIDTH: usize = 80;
-
-/// The table of the node: a cold stage in each room, and the compressor that
-/// cools both.
-fn rooms() -> Table {
-    let kelvin = double(0, 300);
-    let mode = choice(&[("standby", 0), ("running", 1)]);
-    let seconds = int(1, 600);
-    let status = pair(&choice(&[("idle", 100), ("busy", 300)]), &string(0, 40));
-    Table::new("two_rooms", "two cold stages and their compressor")
-        .edition("ISSE,SECoP,V2021-02-17,v2.0")
-        .module("t_east", "stage in the east room")
-        .parameter(
-            "value",
-            "temperature in K",
-            Access::ReadOnly,
-            &kelvin,
-            "4.2",
-        )
-        .parameter("target", "set point in K", Access::Write, &kelvin, "4.2")
-        .parameter(
-            "status",
-            "what it does",
-            Access::ReadOnly,
-            &status,
-            r#"[100,"at rest"]"#,
-        )
-        .command("stop", "stay at this temperature", None)
-        .module("t_west", "stage in the west room")
-        .parameter("value", "temperature in K", Access::ReadOnly, &kelvin, "77")
-        .parameter("target", "set point in K", Access::Write, &kelvin, "77")
-        .command("stop", "stay at this temperature", None)
-        .module("compressor", "helium compressor of both stages")
-        .note("oil changed in May")
-        .parameter(
-            "value",
-            "pressure in bar",
-            Access::ReadOnly,
-            &double(0, 30),
-            "16.5",
-        )
-        .parameter("mode", "what it does", Access::Write, &mode, "1")
-        .command("purge", "purge for some seconds", Some(&seconds))
-        .end()
-}
+const WIDTH: usize = 100;
 
 /// What is printed, and the names in it.
 struct Log {
     text: String,
-    table: Table,
+    /// `module:parameter` and `module:command` of each number.
+    parameters: Vec<String>,
+    commands: Vec<String>,
     /// The client of each number.
     clients: [Option<String>; CLIENTS],
     /// Who had each number last.
@@ -105,13 +92,13 @@ impl Log {
             Mark::Reply | Mark::Update => self.say("", &who, &format!("< {}", sent(body))),
             Mark::Change => {
                 let (number, value) = order(body);
-                let name = &self.table.parameters[number];
+                let name = &self.parameters[number];
                 let what = format!("< set {name} to {value} (parameter {number}, for {who})");
                 self.say("", "driver", &what);
             }
             Mark::Command => {
                 let (number, argument) = order(body);
-                let name = &self.table.commands[number];
+                let name = &self.commands[number];
                 let what = [name, argument.as_str()].join(" ");
                 let what = what.trim_end();
                 let what = format!("< carry out {what} (command {number}, for {who})");
@@ -145,29 +132,41 @@ struct Evening {
     node: Node,
     log: Log,
     recorder: Option<Recorder<File>>,
+    /// The last event's.
+    time: u64,
 }
 
 impl Evening {
-    fn start(event: &Event, folder: Option<&Path>) -> Result<Evening, String> {
-        let table = rooms();
+    fn start(event: &Event, bytes: Vec<u8>, folder: Option<&Path>) -> Result<Evening, String> {
+        let table = Table::read(&bytes).map_err(|fault| fault.to_string())?;
         let recorder = match folder {
-            Some(folder) => Some(recorder(folder, &table.bytes, event.time)?),
+            Some(folder) => Some(recorder(folder, &bytes, event.time)?),
             None => None,
         };
-        let node = Node::start(table.bytes.clone(), event.time);
         let mut log = Log {
             text: HEAD.to_string(),
-            table,
+            parameters: table.parameters(),
+            commands: table.commands(),
             clients: Default::default(),
             last: Default::default(),
         };
         log.say(&clock(event.time), &event.who, &event.what);
-        let node = node.map_err(|refusal| refusal.to_string())?;
+        let node = Node::start(bytes, event.time).map_err(|refusal| refusal.to_string())?;
         Ok(Evening {
             node,
             log,
             recorder,
+            time: event.time,
         })
+    }
+
+    /// Plays a line of the script, or says what was expected in its place.
+    fn line(&mut self, line: &str) -> Result<(), String> {
+        match entry(line)? {
+            Entry::Caption(text) => self.log.caption(&text),
+            Entry::Event(event) => self.play(&event)?,
+        }
+        Ok(())
     }
 
     fn play(&mut self, event: &Event) -> Result<(), String> {
@@ -175,8 +174,9 @@ impl Evening {
             time, who, what, ..
         } = event;
         let clock = clock(*time);
+        self.time = *time;
         match &event.act {
-            Act::Start => return Err("the node has started before".to_string()),
+            Act::Start => return Err("the node has started before; it starts once".to_string()),
             Act::Connect => {
                 let client = self.free_number(who)?;
                 let what = format!("{what}, as client {client}");
@@ -196,23 +196,31 @@ impl Evening {
                 self.record(|recorder| recorder.feed(client as u64, *time, bytes))?;
                 self.send(*time, client, bytes);
             }
+            Act::Read(..) | Act::Fail(..) => self.driven(event)?,
+        }
+        Ok(())
+    }
+
+    /// Takes a driver's report.
+    fn driven(&mut self, event: &Event) -> Result<(), String> {
+        let Event {
+            time, who, what, ..
+        } = event;
+        let clock = clock(*time);
+        match &event.act {
             Act::Read(parameter, value) => {
-                let number = self.parameter(parameter)?;
+                let (number, value) = (self.parameter(parameter)?, value.as_bytes());
                 self.log.say(&clock, who, what);
-                let (number, value) = (number as u64, value.as_bytes());
                 self.record(|recorder| recorder.reading(number, *time, value))?;
-                let result = self.node.reading(number, *time, value);
-                told_by_driver(&mut self.log, result);
+                told_by_driver(&mut self.log, self.node.reading(number, *time, value));
             }
             Act::Fail(parameter, class) => {
-                let number = self.parameter(parameter)?;
-                let error = error_named(class)?;
+                let (number, error) = (self.parameter(parameter)?, error_named(class)?);
                 self.log.say(&clock, who, what);
-                let number = number as u64;
                 self.record(|recorder| recorder.unreadable(number, *time, error))?;
-                let result = self.node.unreadable(number, *time, error);
-                told_by_driver(&mut self.log, result);
+                told_by_driver(&mut self.log, self.node.unreadable(number, *time, error));
             }
+            _ => {}
         }
         Ok(())
     }
@@ -230,22 +238,32 @@ impl Evening {
     fn number(&self, who: &str) -> Result<usize, String> {
         let clients = &self.log.clients;
         let found = clients.iter().position(|one| one.as_deref() == Some(who));
-        found.ok_or_else(|| format!("{who} isn't connected"))
+        found.ok_or_else(|| format!("{who} isn't connected; expected before: {who} connects"))
     }
 
-    fn parameter(&self, name: &str) -> Result<usize, String> {
-        let names = &self.log.table.parameters;
-        let found = names.iter().position(|one| one == name);
-        found.ok_or_else(|| format!("there is no parameter {name}"))
+    fn parameter(&self, name: &str) -> Result<u64, String> {
+        let names = &self.log.parameters;
+        let mut numbered = (0..).zip(names);
+        let found = numbered.find(|(_, one)| *one == name);
+        let found = found.map(|(number, _)| number);
+        let known = || names.join(", ");
+        found.ok_or_else(|| {
+            format!(
+                "the table has no parameter {name}; expected one of {}",
+                known()
+            )
+        })
     }
 
     /// The lowest number that no client has.
     fn free_number(&self, who: &str) -> Result<usize, String> {
         if self.number(who).is_ok() {
-            return Err(format!("{who} is connected already"));
+            return Err(format!(
+                "{who} is connected already; expected before: {who} leaves"
+            ));
         }
         let found = self.log.clients.iter().position(Option::is_none);
-        found.ok_or_else(|| "every client number is taken".to_string())
+        found.ok_or_else(|| "eight clients are connected; expected before: one leaves".to_string())
     }
 
     fn connect(&mut self, time: u64, client: usize, who: &str) {
@@ -276,7 +294,7 @@ impl Evening {
     /// The values that are shown at the end, and what was counted.
     fn end(&mut self) -> Result<(), Refusal> {
         self.log.caption("What the node shows at the end:");
-        for number in 0..self.log.table.parameters.len() {
+        for number in 0..self.log.parameters.len() {
             let value = self.node.value(number as u64)?;
             let text = |bytes| String::from_utf8_lossy(bytes).to_string();
             let shown = match value.held {
@@ -284,7 +302,7 @@ impl Evening {
                 Held::Initial(bytes) => text(bytes) + "  (initial)",
                 Held::Error(error) => format!("can't be read: {error}"),
             };
-            let what = format!("{:18}  {shown}", self.log.table.parameters[number]);
+            let what = format!("{:18}  {shown}", self.log.parameters[number]);
             self.log.say(&clock(value.time), "node", &what);
         }
         self.log
@@ -306,11 +324,20 @@ impl Evening {
 fn recorder(folder: &Path, table: &[u8], time: u64) -> Result<Recorder<File>, String> {
     let at = |path: &Path, error: io::Error| format!("{}: {error}", path.display());
     let (table_file, trace) = (folder.join("table"), folder.join("trace"));
+    if let Some(there) = [&trace, &table_file].into_iter().find(|path| path.exists()) {
+        let there = there.display();
+        return Err(format!(
+            "{there} is there already and stays; --record takes a new folder"
+        ));
+    }
     fs::create_dir_all(folder).map_err(|error| at(folder, error))?;
     let recorder = Recorder::create(&trace).map_err(|error| at(&trace, error))?;
     fs::write(&table_file, table).map_err(|error| at(&table_file, error))?;
     let (table, trace) = (table_file.display(), trace.display());
-    eprintln!("Recorded: ./night {table} {time} {trace} replays it.");
+    let night = env::var(NIGHT).unwrap_or("./night".to_string());
+    say(&format!(
+        "Recorded: {night} {table} {time} {trace} replays it."
+    ));
     Ok(recorder)
 }
 
@@ -325,58 +352,164 @@ fn told_by_driver(log: &mut Log, result: Result<Records, Refusal>) {
 fn error_named(name: &str) -> Result<SensorError, String> {
     let mut all = SensorError::ALL.into_iter();
     let found = all.find(|error| error.to_string() == name);
-    found.ok_or_else(|| format!("there is no error {name}"))
+    let known = SensorError::ALL.map(|error| error.to_string()).join(", ");
+    found.ok_or_else(|| format!("there is no error {name}; expected one of {known}"))
 }
 
-/// Plays a script, recorded in the folder if there is one, and gives what is
-/// printed.
-fn told(script: &str, folder: Option<&Path>) -> Result<String, String> {
-    let entries = entries(script)?;
-    let Some((Entry::Event(first), rest)) = entries.split_first() else {
-        return Err("the script doesn't begin with an event".to_string());
+/// What is printed of a script, and where it couldn't be played on.
+struct Played {
+    text: String,
+    stopped: Result<(), String>,
+}
+
+/// Plays a script, recorded in the folder if there is one.
+fn played(path: &str, script: &str, table: Vec<u8>, folder: Option<&Path>) -> Played {
+    let quoted = |number: usize, line: &str, expected: &str| {
+        format!("{path}, line {number}: {line}\n  {expected}")
     };
-    let Act::Start = first.act else {
-        return Err(fault(first.line, "the node hasn't started"));
-    };
-    let mut evening = Evening::start(first, folder)?;
-    for entry in rest {
-        match entry {
-            Entry::Caption(text) => evening.log.caption(text),
-            Entry::Event(event) => evening
-                .play(event)
-                .map_err(|text| fault(event.line, &text))?,
+    let lines = (1..).zip(script.lines());
+    let mut lines = lines.filter(|(_, line)| !line.trim().is_empty() && !line.starts_with('#'));
+    let (number, line) = lines.next().unwrap_or((1, ""));
+    let event = first(line).map_err(|expected| quoted(number, line, &expected));
+    let started = event.and_then(|event| Evening::start(&event, table, folder));
+    let mut evening = match started {
+        Ok(evening) => evening,
+        Err(error) => {
+            return Played {
+                text: String::new(),
+                stopped: Err(error),
+            }
         }
+    };
+    let played = lines.try_for_each(|(number, line)| {
+        let before = evening.time;
+        let played = evening.line(line);
+        if evening.time < before {
+            let back = "a note: this is before the line above; after 23:59:59 comes 24:00:00";
+            say(&quoted(number, line, back));
+        }
+        played.map_err(|expected| quoted(number, line, &expected))
+    });
+    let stopped = played.and_then(|()| evening.end().map_err(|refusal| refusal.to_string()));
+    Played {
+        text: evening.log.text,
+        stopped,
     }
-    evening.end().map_err(|refusal| refusal.to_string())?;
-    Ok(evening.log.text)
 }
 
-/// The folder after `--record`, and the script.
-fn arguments() -> Option<(Option<PathBuf>, String)> {
-    let arguments: Vec<String> = env::args().skip(1).collect();
-    let arguments: Vec<&str> = arguments.iter().map(String::as_str).collect();
-    let (folder, rest) = match arguments[..] {
-        ["--record", folder, ref rest @ ..] => (Some(PathBuf::from(folder)), rest.to_vec()),
-        _ => (None, arguments),
-    };
-    match rest[..] {
-        [] => Some((folder, SCRIPT.to_string())),
-        [path] if !path.starts_with('-') => Some((folder, path.to_string())),
-        _ => None,
+/// A script's first event.
+fn first(line: &str) -> Result<Event, String> {
+    match entry(line) {
+        Ok(Entry::Event(event)) if matches!(event.act, Act::Start) => Ok(event),
+        _ => Err("a script begins with, for example: 20:00:00  node  starts".to_string()),
     }
+}
+
+/// The bytes of a table that is given as a text or as bytes.
+fn bytes(path: &str) -> Result<Vec<u8>, String> {
+    let content = fs::read(path).map_err(|error| format!("{path}: {error}"))?;
+    let told = |fault: &dyn std::fmt::Display| format!("{path}: {fault}");
+    if content.starts_with(b"ND") {
+        let read = Table::read(&content).map_err(|fault| told(&fault));
+        return read.map(|_| content);
+    }
+    table::build(&content).map_err(|faults| {
+        let faults: Vec<String> = faults.iter().map(|fault| told(fault)).collect();
+        faults.join("\n")
+    })
+}
+
+struct Arguments {
+    table: String,
+    folder: Option<PathBuf>,
+    script: String,
+}
+
+/// What is asked for, or what is said where that can't be understood.
+fn arguments(mut given: &[&str]) -> Result<Arguments, String> {
+    let mut arguments = Arguments {
+        table: TABLE.to_string(),
+        folder: None,
+        script: SCRIPT.to_string(),
+    };
+    loop {
+        given = match *given {
+            [] => return Ok(arguments),
+            ["--table", path, ref rest @ ..] => {
+                arguments.table = path.to_string();
+                rest
+            }
+            ["--record", folder, ref rest @ ..] => {
+                arguments.folder = Some(PathBuf::from(folder));
+                rest
+            }
+            [script] if !script.starts_with('-') => {
+                arguments.script = script.to_string();
+                &[]
+            }
+            [script, option, ..] if !script.starts_with('-') && option.starts_with('-') => {
+                return Err(format!("options come first, before {script}"));
+            }
+            _ => return Err(HELP.to_string()),
+        };
+    }
+}
+
+/// Whether all was played, where it could be printed.
+fn run(arguments: &Arguments) -> Result<bool, String> {
+    let Arguments {
+        table,
+        folder,
+        script,
+    } = arguments;
+    let read = fs::read_to_string(script).map_err(|error| format!("{script}: {error}"));
+    let played = bytes(table).and_then(|table| {
+        let content = read?;
+        let content = content.trim_start_matches('\u{feff}');
+        Ok(played(script, content, table, folder.as_deref()))
+    });
+    let (text, stopped) = match played {
+        Ok(Played { text, stopped }) => (text, stopped),
+        Err(error) => (String::new(), Err(error)),
+    };
+    print(&text)?;
+    if let Err(error) = &stopped {
+        say(error);
+    }
+    Ok(stopped.is_ok())
+}
+
+/// A reader that has seen enough and closes the pipe is no failure.
+fn print(text: &str) -> Result<(), String> {
+    let mut out = io::stdout();
+    let printed = out.write_all(text.as_bytes()).and_then(|()| out.flush());
+    match printed {
+        Err(error) if error.kind() != io::ErrorKind::BrokenPipe => {
+            Err(format!("standard output: {error}"))
+        }
+        _ => Ok(()),
+    }
+}
+
+/// A line on standard error. Where that can't be written to, the exit status is
+/// what is left to tell.
+fn say(line: &str) {
+    let _ = writeln!(io::stderr(), "{line}");
 }
 
 fn main() {
-    let Some((folder, path)) = arguments() else {
-        eprintln!("usage: evening [--record FOLDER] [SCRIPT]");
-        process::exit(2);
+    let given: Vec<String> = env::args().skip(1).collect();
+    let given: Vec<&str> = given.iter().map(String::as_str).collect();
+    let done = match given[..] {
+        ["--help" | "-h"] => print(HELP).map(|()| true),
+        _ => arguments(&given).and_then(|arguments| run(&arguments)),
     };
-    let script = fs::read_to_string(&path).map_err(|error| error.to_string());
-    match script.and_then(|script| told(&script, folder.as_deref())) {
-        Ok(text) => print!("{text}"),
+    match done {
+        Ok(true) => {}
+        Ok(false) => process::exit(1),
         Err(error) => {
-            eprintln!("{path}: {error}");
-            process::exit(1);
+            say(error.trim_end());
+            process::exit(UNUSABLE);
         }
     }
 }

@@ -3,7 +3,7 @@
 //! example and a few more, the same as `examples/host.c`, and prints the same:
 //! `examples/host.expected`; `docs/LIBRARY.md` says why.
 
-use jihfasul::{Held, Mark, Node, Record, Records, Refusal, SensorError};
+use jihfasul::{Held, Index, Mark, Node, Record, Records, Refusal, Row, SensorError};
 
 /// One module "t1": two parameters, "value" (read only) and "target", doubles
 /// from 0 to 300, and a command "stop".
@@ -66,6 +66,15 @@ fn read_driver(node: &mut Node, parameter: u64, time: u64, text: &[u8]) {
     reported("reading", node.reading(parameter, time, text));
 }
 
+/// Feeds what a scanner has read at once: the rows say where each text lies in
+/// the buffer. Those before the first refused one are taken.
+fn read_scanner(node: &mut Node, rows: &[Row], texts: &[u8]) {
+    let rack = node.readings(rows, texts);
+    let number = rack.refusal.map_or(0, Refusal::number);
+    println!("readings: number {number}, taken {}", rack.taken);
+    rack.records.for_each(hand_on);
+}
+
 /// Feeds a driver's report that it can't read a parameter.
 fn fail_driver(node: &mut Node, parameter: u64, time: u64, error: SensorError) {
     reported("unreadable", node.unreadable(parameter, time, error));
@@ -94,6 +103,8 @@ fn show(node: &Node, parameter: u64) {
 fn main() -> Result<(), Refusal> {
     let mut node = Node::start(table(), 5)?;
     say("start", &Ok(()));
+    node.lend(Some(Index::of(node.table())?)); // once for this table
+    say("index", &Ok(()));
     say("open", &node.open(2, 1000));
     say("open", &node.open(5, 1000));
     say("open", &node.open(5, 1000)); // refused: it is open
@@ -124,5 +135,13 @@ fn main() -> Result<(), Refusal> {
     show(&node, 0); // in error
     read_driver(&mut node, 0, 2600, b"4.6");
     show(&node, 0);
+    let row = |(parameter, time, offset, length)| Row {
+        parameter,
+        time,
+        offset,
+        length,
+    };
+    let rows = [(0, 2700, 0, 3), (1, 2701, 3, 3), (0, 2702, 6, 4)].map(row);
+    read_scanner(&mut node, &rows, b"4.7150warm"); // stops at the third: no JSON
     Ok(())
 }

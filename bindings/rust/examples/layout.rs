@@ -3,7 +3,7 @@
 //! it.
 
 use jihfasul::state::{CLIENTS, LINE};
-use jihfasul::{call, Counts, Done, Shown, State, OUTBOX, VALUES};
+use jihfasul::{call, version, Counts, Done, Listed, Row, Shown, State, INDEX, OUTBOX, VALUES};
 use std::mem::{offset_of, size_of};
 
 /// One module with two parameters, both bool: "p", true, and "q", false.
@@ -11,6 +11,16 @@ const TABLE: &[u8] =
     b"ND\x01e\x01dMO\x01m\x01dPA\x01p\x01d\0\x03\0\x04truePA\x01q\x01d\0\x03\0\x05falseEN";
 
 fn print_layout() {
+    println!(
+        "version {}, of the library {}",
+        version::VERSION,
+        version::version()
+    );
+    println!(
+        "layout {}, of the library {}",
+        version::STATE_LAYOUT,
+        version::state_layout()
+    );
     println!("stack of {} bytes", call::STACK);
     println!("state of {} bytes", size_of::<State>());
     println!("state clients at {}", offset_of!(State, clients));
@@ -61,7 +71,19 @@ fn print_answers_layout() {
     println!("done number at {}", offset_of!(Done, number));
     println!("done used at {}", offset_of!(Done, used));
     println!("done written at {}", offset_of!(Done, written));
+    println!("done steps at {}", offset_of!(Done, steps));
     println!("done state at {}", offset_of!(Done, state));
+    println!("reading_row of {} bytes", size_of::<Row>());
+    println!("reading_row parameter at {}", offset_of!(Row, parameter));
+    println!("reading_row time at {}", offset_of!(Row, time));
+    println!("reading_row offset at {}", offset_of!(Row, offset));
+    println!("reading_row length at {}", offset_of!(Row, length));
+    println!("listed of {} bytes", size_of::<Listed>());
+    println!("listed number at {}", offset_of!(Listed, number));
+    println!("listed taken at {}", offset_of!(Listed, taken));
+    println!("listed written at {}", offset_of!(Listed, written));
+    println!("listed steps at {}", offset_of!(Listed, steps));
+    println!("listed state at {}", offset_of!(Listed, state));
     println!("shown of {} bytes", size_of::<Shown>());
     println!("shown number at {}", offset_of!(Shown, number));
     println!("shown stored at {}", offset_of!(Shown, stored));
@@ -109,6 +131,7 @@ fn print_state(state: &State) {
 struct Host {
     values: Vec<u8>,
     outbox: Vec<u8>,
+    index: Vec<u8>,
     state: State,
 }
 
@@ -118,34 +141,59 @@ impl Host {
             number,
             used,
             written,
+            steps,
             state,
         } = done;
         self.state = state;
-        println!("number {number}, used {used}, written {written}");
+        println!("number {number}, used {used}, written {written}, steps {steps}");
         println!("digest {}", digest(&state));
     }
 
     fn open(&mut self, client: u64) {
-        let done = call::open(TABLE, &self.values, &self.state, client, 500);
+        let done = call::open(TABLE, &self.values, &self.state, client, 500, &self.index);
         self.keep(done);
     }
 
     fn piece(&mut self, client: u64, bytes: &[u8]) {
         let (values, outbox) = (&mut self.values, &mut self.outbox);
-        let done = call::piece(TABLE, values, outbox, &self.state, client, 600, bytes);
+        let (state, index) = (&self.state, &self.index);
+        let done = call::piece(TABLE, values, outbox, state, client, 600, bytes, index);
         self.keep(done);
     }
 
     fn reading(&mut self, time: u64, text: &[u8]) {
         let (values, outbox) = (&mut self.values, &mut self.outbox);
-        let done = call::reading(TABLE, values, outbox, &self.state, 1, time, text);
+        let (state, index) = (&self.state, &self.index);
+        let done = call::reading(TABLE, values, outbox, state, 1, time, text, index);
         self.keep(done);
     }
 
     fn unreadable(&mut self, time: u64, class: u64) {
         let (values, outbox) = (&self.values, &mut self.outbox);
-        let done = call::unreadable(TABLE, values, outbox, &self.state, 0, time, class);
+        let (state, index) = (&self.state, &self.index);
+        let done = call::unreadable(TABLE, values, outbox, state, 0, time, class, index);
         self.keep(done);
+    }
+
+    fn close(&mut self, client: u64) {
+        let done = call::close(TABLE, &self.values, &self.state, client, 800, &self.index);
+        self.keep(done);
+    }
+
+    fn list(&mut self, rows: &[Row]) {
+        let (values, outbox) = (&mut self.values, &mut self.outbox);
+        let (state, index) = (&self.state, &self.index);
+        let listed = call::readings(TABLE, values, outbox, state, rows, b"truefalse", index);
+        let Listed {
+            number,
+            taken,
+            written,
+            steps,
+            state,
+        } = listed;
+        self.state = state;
+        println!("number {number}, taken {taken}, written {written}, steps {steps}");
+        println!("digest {}", digest(&state));
     }
 
     fn value(&self, parameter: u64) {
@@ -168,6 +216,7 @@ fn main() {
     let mut host = Host {
         values: vec![0; VALUES],
         outbox: vec![0; OUTBOX],
+        index: Vec::new(),
         state: State::NOTHING,
     };
     print_layout();
@@ -182,7 +231,7 @@ fn main() {
     host.piece(7, b"_count\n");
     host.reading(777, b"true");
     host.reading(778, b"1");
-    host.keep(call::close(TABLE, &host.values, &host.state, 7, 800));
+    host.close(7);
     print_state(&host.state);
     for parameter in 0..3 {
         host.value(parameter);
@@ -191,4 +240,32 @@ fn main() {
     host.unreadable(902, 259);
     print_state(&host.state);
     host.value(0);
+    host.piece(3, b"\n");
+    host.piece(3, b"read m:q\n");
+    let mut index = vec![0; INDEX];
+    println!("index {}", call::index(TABLE, &mut index[..INDEX - 1]));
+    println!("index {}", call::index(TABLE, &mut index));
+    host.index = index.clone();
+    host.piece(3, b"read m:q\n");
+    host.index = vec![0; 1];
+    host.piece(3, b"read m:q\n");
+    print_lists(&mut host);
+}
+
+fn print_lists(host: &mut Host) {
+    let row = |(parameter, time, offset, length)| Row {
+        parameter,
+        time,
+        offset,
+        length,
+    };
+    let mut rows = [(0, 0, 0, 0); 10].map(row);
+    rows[..3].copy_from_slice(&[(1, 950, 0, 4), (0, 951, 4, 5), (2, 952, 0, 4)].map(row));
+    host.list(&rows[..2]);
+    host.index = Vec::new();
+    host.list(&rows);
+    host.list(&rows[..3]);
+    host.list(&[]);
+    host.value(0);
+    host.value(1);
 }

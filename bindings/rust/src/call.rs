@@ -2,7 +2,7 @@
 //! in and out. They ask nothing of their arguments: whatever is wrong is
 //! refused by a number. [`Node`](crate::Node) keeps the parts for its user.
 
-use crate::state::{Done, Shown, State};
+use crate::state::{Done, Listed, Row, Shown, State};
 
 /// The bytes of stack, at most, that a call takes with the state handed in and
 /// the answer.
@@ -10,7 +10,7 @@ pub const STACK: usize = 131_072;
 
 /// The library's functions. A slice passes as a pointer and a length.
 mod library {
-    use super::{Done, Shown, State};
+    use super::{Done, Listed, Row, Shown, State};
 
     extern "C" {
         pub fn jihfasul_start(
@@ -21,6 +21,13 @@ mod library {
             time: u64,
         ) -> Done;
 
+        pub fn jihfasul_index(
+            table: *const u8,
+            table_length: usize,
+            index: *mut u8,
+            index_length: usize,
+        ) -> u8;
+
         pub fn jihfasul_open(
             table: *const u8,
             table_length: usize,
@@ -29,6 +36,8 @@ mod library {
             state: State,
             client: u64,
             time: u64,
+            index: *const u8,
+            index_length: usize,
         ) -> Done;
 
         pub fn jihfasul_close(
@@ -39,6 +48,8 @@ mod library {
             state: State,
             client: u64,
             time: u64,
+            index: *const u8,
+            index_length: usize,
         ) -> Done;
 
         pub fn jihfasul_piece(
@@ -53,6 +64,8 @@ mod library {
             time: u64,
             bytes: *const u8,
             bytes_length: usize,
+            index: *const u8,
+            index_length: usize,
         ) -> Done;
 
         pub fn jihfasul_reading(
@@ -67,6 +80,8 @@ mod library {
             time: u64,
             bytes: *const u8,
             bytes_length: usize,
+            index: *const u8,
+            index_length: usize,
         ) -> Done;
 
         pub fn jihfasul_unreadable(
@@ -80,7 +95,25 @@ mod library {
             parameter: u64,
             time: u64,
             class: u64,
+            index: *const u8,
+            index_length: usize,
         ) -> Done;
+
+        pub fn jihfasul_readings(
+            table: *const u8,
+            table_length: usize,
+            values: *mut u8,
+            values_length: usize,
+            outbox: *mut u8,
+            outbox_length: usize,
+            state: State,
+            rows: *const Row,
+            rows_count: usize,
+            texts: *const u8,
+            texts_length: usize,
+            index: *const u8,
+            index_length: usize,
+        ) -> Listed;
 
         pub fn jihfasul_value(
             table: *const u8,
@@ -110,7 +143,20 @@ pub fn start(table: &[u8], values: &[u8], time: u64) -> Done {
     }
 }
 
-pub fn open(table: &[u8], values: &[u8], state: &State, client: u64, time: u64) -> Done {
+/// Fills the first 128 bytes of an index from a table; the number, 0 for
+/// filled. Each call below but `value` may be lent one, or none with no bytes.
+pub fn index(table: &[u8], index: &mut [u8]) -> u8 {
+    unsafe { library::jihfasul_index(table.as_ptr(), table.len(), index.as_mut_ptr(), index.len()) }
+}
+
+pub fn open(
+    table: &[u8],
+    values: &[u8],
+    state: &State,
+    client: u64,
+    time: u64,
+    index: &[u8],
+) -> Done {
     unsafe {
         library::jihfasul_open(
             table.as_ptr(),
@@ -120,11 +166,20 @@ pub fn open(table: &[u8], values: &[u8], state: &State, client: u64, time: u64) 
             *state,
             client,
             time,
+            index.as_ptr(),
+            index.len(),
         )
     }
 }
 
-pub fn close(table: &[u8], values: &[u8], state: &State, client: u64, time: u64) -> Done {
+pub fn close(
+    table: &[u8],
+    values: &[u8],
+    state: &State,
+    client: u64,
+    time: u64,
+    index: &[u8],
+) -> Done {
     unsafe {
         library::jihfasul_close(
             table.as_ptr(),
@@ -134,6 +189,8 @@ pub fn close(table: &[u8], values: &[u8], state: &State, client: u64, time: u64)
             *state,
             client,
             time,
+            index.as_ptr(),
+            index.len(),
         )
     }
 }
@@ -147,6 +204,7 @@ pub fn piece(
     client: u64,
     time: u64,
     bytes: &[u8],
+    index: &[u8],
 ) -> Done {
     unsafe {
         library::jihfasul_piece(
@@ -161,6 +219,8 @@ pub fn piece(
             time,
             bytes.as_ptr(),
             bytes.len(),
+            index.as_ptr(),
+            index.len(),
         )
     }
 }
@@ -173,6 +233,7 @@ pub fn reading(
     parameter: u64,
     time: u64,
     bytes: &[u8],
+    index: &[u8],
 ) -> Done {
     unsafe {
         library::jihfasul_reading(
@@ -187,6 +248,8 @@ pub fn reading(
             time,
             bytes.as_ptr(),
             bytes.len(),
+            index.as_ptr(),
+            index.len(),
         )
     }
 }
@@ -201,6 +264,7 @@ pub fn unreadable(
     parameter: u64,
     time: u64,
     class: u64,
+    index: &[u8],
 ) -> Done {
     unsafe {
         library::jihfasul_unreadable(
@@ -214,6 +278,38 @@ pub fn unreadable(
             parameter,
             time,
             class,
+            index.as_ptr(),
+            index.len(),
+        )
+    }
+}
+
+/// Takes a list of at most nine readings, whose texts lie in a buffer. At the
+/// first that is refused the call stops: those before it stand.
+pub fn readings(
+    table: &[u8],
+    values: &mut [u8],
+    outbox: &mut [u8],
+    state: &State,
+    rows: &[Row],
+    texts: &[u8],
+    index: &[u8],
+) -> Listed {
+    unsafe {
+        library::jihfasul_readings(
+            table.as_ptr(),
+            table.len(),
+            values.as_mut_ptr(),
+            values.len(),
+            outbox.as_mut_ptr(),
+            outbox.len(),
+            *state,
+            rows.as_ptr(),
+            rows.len(),
+            texts.as_ptr(),
+            texts.len(),
+            index.as_ptr(),
+            index.len(),
         )
     }
 }

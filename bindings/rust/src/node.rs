@@ -1,16 +1,18 @@
 //! A node that keeps what the calls are lent.
 
 use crate::call;
+use crate::index::Index;
 use crate::outbox::{Record, Records};
 use crate::refusal::Refusal;
 use crate::sensor::SensorError;
-use crate::state::{Counts, Done, State};
+use crate::state::{Counts, Done, Row, State};
 
 /// The bytes of a values area and of an outbox.
 pub const VALUES: usize = 16_384;
 pub const OUTBOX: usize = 32_768;
 
-/// A table with its values area and state, and an outbox for the calls.
+/// A table with its values area and state, an outbox for the calls, and perhaps
+/// an index beside the table.
 ///
 /// Times are milliseconds. A refused call alters nothing.
 #[derive(Clone)]
@@ -18,13 +20,25 @@ pub struct Node {
     table: Vec<u8>,
     values: Vec<u8>,
     outbox: Vec<u8>,
+    index: Option<Index>,
     state: State,
 }
 
-/// What a piece did: how many bytes it used, and what is to be sent.
+/// What a piece did: how many bytes it used, how many steps the search for its
+/// line's accessible took, and what is to be sent.
 #[derive(Clone, Debug)]
 pub struct Taken<'a> {
     pub used: usize,
+    pub steps: usize,
+    pub records: Records<'a>,
+}
+
+/// What a list of readings did: how many were taken, why the one after them was
+/// refused or the whole list, if so, and what is to be sent.
+#[derive(Clone, Debug)]
+pub struct Rack<'a> {
+    pub taken: usize,
+    pub refusal: Option<Refusal>,
     pub records: Records<'a>,
 }
 
@@ -64,8 +78,15 @@ impl Node {
             table,
             values,
             outbox: vec![0; OUTBOX],
+            index: None,
             state,
         }
+    }
+
+    /// The calls from here on are lent this index, or none: a line's accessible is
+    /// found in other steps, and nothing else changes.
+    pub fn lend(&mut self, index: Option<Index>) {
+        self.index = index;
     }
 
     pub fn table(&self) -> &[u8] {
@@ -88,33 +109,51 @@ impl Node {
 
     /// Opens a client, with an empty line, nothing active and counts of 0.
     pub fn open(&mut self, client: u64, time: u64) -> Result<(), Refusal> {
-        let done = call::open(&self.table, &self.values, &self.state, client, time);
+        let done = call::open(
+            &self.table,
+            &self.values,
+            &self.state,
+            client,
+            time,
+            lent(&self.index),
+        );
         self.keep(done).map(drop)
     }
 
     /// Closes a client and forgets its line and what it had active; its counts
     /// stay.
     pub fn close(&mut self, client: u64, time: u64) -> Result<(), Refusal> {
-        let done = call::close(&self.table, &self.values, &self.state, client, time);
+        let done = call::close(
+            &self.table,
+            &self.values,
+            &self.state,
+            client,
+            time,
+            lent(&self.index),
+        );
         self.keep(done).map(drop)
     }
 
     /// Takes a client's bytes through the first line feed, or all where there is
     /// none; the rest is to be offered again.
     pub fn piece(&mut self, client: u64, time: u64, bytes: &[u8]) -> Result<Taken<'_>, Refusal> {
-        let (values, outbox) = (&mut self.values, &mut self.outbox);
         let done = call::piece(
             &self.table,
-            values,
-            outbox,
+            &mut self.values,
+            &mut self.outbox,
             &self.state,
             client,
             time,
             bytes,
+            lent(&self.index),
         );
-        let used = done.used;
+        let Done { used, steps, .. } = done;
         let records = self.keep(done)?;
-        Ok(Taken { used, records })
+        Ok(Taken {
+            used,
+            steps,
+            records,
+        })
     }
 
     /// Takes all of some bytes of a client, piece by piece, and hands on each
@@ -127,7 +166,7 @@ impl Node {
         mut send: impl FnMut(Record<'_>),
     ) -> Result<(), Refusal> {
         loop {
-            let Taken { used, records } = self.piece(client, time, bytes)?;
+            let Taken { used, records, .. } = self.piece(client, time, bytes)?;
             records.for_each(&mut send);
             bytes = &bytes[used..];
             if bytes.is_empty() {
@@ -143,15 +182,15 @@ impl Node {
         time: u64,
         text: &[u8],
     ) -> Result<Records<'_>, Refusal> {
-        let (values, outbox) = (&mut self.values, &mut self.outbox);
         let done = call::reading(
             &self.table,
-            values,
-            outbox,
+            &mut self.values,
+            &mut self.outbox,
             &self.state,
             parameter,
             time,
             text,
+            lent(&self.index),
         );
         self.keep(done)
     }
@@ -172,8 +211,29 @@ impl Node {
             parameter,
             time,
             error.class().into(),
+            lent(&self.index),
         );
         self.keep(done)
+    }
+
+    /// Takes a list of at most nine readings, whose texts lie in a buffer. At the
+    /// first that is refused it stops: those before it stand.
+    pub fn readings(&mut self, rows: &[Row], texts: &[u8]) -> Rack<'_> {
+        let listed = call::readings(
+            &self.table,
+            &mut self.values,
+            &mut self.outbox,
+            &self.state,
+            rows,
+            texts,
+            lent(&self.index),
+        );
+        self.state = listed.state;
+        Rack {
+            taken: listed.taken,
+            refusal: Refusal::judge(listed.number).err(),
+            records: Records::new(&self.outbox[..listed.written]),
+        }
     }
 
     /// What a parameter shows: a value, or why it can't be read.
@@ -197,4 +257,9 @@ impl Node {
         self.state = done.state;
         Ok(Records::new(&self.outbox[..done.written]))
     }
+}
+
+/// What a call is lent as an index; none has no bytes.
+fn lent(index: &Option<Index>) -> &[u8] {
+    index.as_ref().map_or(&[], |index| index.bytes())
 }

@@ -11,6 +11,9 @@ const MOST: usize = 4_096;
 /// Writes each event after a start as a record of a trace: a mark, a byte with
 /// the client or the parameter, the time (u64), the length (u16, both
 /// big-endian) and the bytes. Call it before the node, with the same arguments.
+/// Of a list of readings call it after the node, as for single readings: with
+/// those that were taken and the one that stopped the list. A list that is
+/// refused as a whole has no record.
 ///
 /// A record is handed to the writer whole and flushed, so whatever ends the
 /// program leaves at most the last record half written; a replay tells that. A

@@ -4,7 +4,8 @@ use std::error::Error;
 use std::fmt;
 
 /// The numbers that a call answers with, but for 0, "accepted". A refused call
-/// has altered nothing.
+/// has altered nothing, except a list of readings that took some before it
+/// stopped: those stand.
 #[derive(Clone, Copy, Debug, PartialEq, Eq, PartialOrd, Ord)]
 #[repr(u8)]
 pub enum Refusal {
@@ -24,9 +25,11 @@ pub enum Refusal {
     NoSuchParameter = 14,
     Reading = 15,
     UnknownError = 16,
+    List = 17,
+    Index = 18,
 }
 
-const ALL: [(Refusal, &str); 16] = [
+const ALL: [(Refusal, &str); 18] = [
     (Refusal::Layout, "the table is too long or can't be read"),
     (
         Refusal::Counts,
@@ -64,6 +67,8 @@ const ALL: [(Refusal, &str); 16] = [
         "the reading's value is refused by the value rules",
     ),
     (Refusal::UnknownError, "there is no error of this number"),
+    (Refusal::List, "the list has more than nine readings"),
+    (Refusal::Index, "the index is under 128 bytes"),
 ];
 
 impl Refusal {
@@ -75,15 +80,21 @@ impl Refusal {
     pub(crate) fn judge(number: u8) -> Result<(), Refusal> {
         match number {
             0 => Ok(()),
-            _ => Err(ALL[usize::from(number) - 1].0),
+            _ => Err(Refusal::entry(number).0),
         }
+    }
+
+    fn entry(number: u8) -> (Refusal, &'static str) {
+        let mut all = ALL.into_iter();
+        all.find(|(refusal, _)| refusal.number() == number)
+            .expect("a number that calls answer with")
     }
 }
 
 impl fmt::Display for Refusal {
     fn fmt(&self, f: &mut fmt::Formatter) -> fmt::Result {
         let number = self.number();
-        let (_, text) = ALL[usize::from(number) - 1];
+        let (_, text) = Refusal::entry(number);
         write!(f, "{text} (number {number})")
     }
 }
@@ -97,8 +108,9 @@ mod tests {
     #[test]
     fn each_number_has_its_refusal() {
         assert_eq!(Refusal::judge(0), Ok(()));
-        for (at, (refusal, _)) in ALL.iter().enumerate() {
-            assert_eq!(usize::from(refusal.number()), at + 1);
+        let numbers: Vec<u8> = ALL.iter().map(|(refusal, _)| refusal.number()).collect();
+        assert_eq!(numbers, (1..=18).collect::<Vec<u8>>());
+        for (refusal, _) in &ALL {
             assert_eq!(Refusal::judge(refusal.number()), Err(*refusal));
         }
     }

@@ -77,14 +77,40 @@ impl State {
     };
 }
 
+/// A reading of a list: the parameter's number, the time, and where its text
+/// lies in the buffer beside the list.
+#[repr(C)]
+#[derive(Clone, Copy, Debug, PartialEq, Eq)]
+pub struct Row {
+    pub parameter: u64,
+    pub time: u64,
+    pub offset: u64,
+    pub length: u64,
+}
+
+/// What a list answers: its number, or that of the first reading that is
+/// refused, how many readings were taken, how many bytes of the outbox they
+/// wrote, the steps of a search, which are 0, and the next state.
+#[repr(C)]
+#[derive(Clone, Copy, Debug, PartialEq, Eq)]
+pub struct Listed {
+    pub number: u8,
+    pub taken: usize,
+    pub written: usize,
+    pub steps: usize,
+    pub state: State,
+}
+
 /// What a call answers: its number, how many of a piece's bytes it used, how
-/// many bytes of the outbox it wrote, and the next state.
+/// many bytes of the outbox it wrote, how many steps the search for a line's
+/// accessible took, and the next state.
 #[repr(C)]
 #[derive(Clone, Copy, Debug, PartialEq, Eq)]
 pub struct Done {
     pub number: u8,
     pub used: usize,
     pub written: usize,
+    pub steps: usize,
     pub state: State,
 }
 

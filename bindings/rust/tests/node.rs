@@ -1,7 +1,7 @@
 //! The wrapper over the library: what it keeps, and that a refusal alters
-//! nothing. What is expected stands in documents 01 and 02 (M-102).
+//! nothing. What is expected stands in documents 01 and 02 (M-102, M-105).
 
-use jihfasul::{Held, Mark, Node, Refusal, SensorError, State, Value};
+use jihfasul::{Counts, Held, Index, Mark, Node, Refusal, Row, SensorError, State, Value, INDEX};
 
 /// One module "m" with two parameters, both bool: "p", true, and "q", false.
 fn table() -> Vec<u8> {
@@ -122,4 +122,83 @@ fn a_kept_state_is_gone_on_with() {
     assert_eq!(unfit.close(3, 7), Err(Refusal::State));
     let mut nothing = Node::resume(table(), Vec::new(), State::NOTHING);
     assert_eq!(nothing.open(0, 7), Err(Refusal::Values));
+}
+
+/// The FNV-1a hashes of `m:p` and `m:q` modulo 128 are 34 and 53.
+#[test]
+fn an_index_is_filled_from_a_table() {
+    let mut due = [255; INDEX];
+    (due[34], due[53]) = (0, 1);
+    assert_eq!(Index::of(&table()), Ok(Index::from(due)));
+    assert_eq!(Index::of(b""), Err(Refusal::Layout));
+    assert_eq!(Index::of(b"ND\x01e\x01dEN"), Err(Refusal::Counts));
+}
+
+/// The steps of a line, and what is sent for it.
+fn answered(node: &mut Node, index: Option<Index>, line: &[u8]) -> (usize, Vec<u8>) {
+    node.lend(index);
+    let taken = node.piece(3, 700, line).expect("an open client");
+    assert_eq!(taken.used, line.len());
+    let sent = taken.records.map(|record| record.body.to_vec());
+    (taken.steps, sent.collect::<Vec<_>>().concat())
+}
+
+#[test]
+fn an_index_alters_the_steps_alone() {
+    let mut node = started();
+    node.open(3, 6).expect("closed until now");
+    let filled = Index::of(&table()).expect("a good table");
+    let indexes = [
+        (None, [2, 2, 0]),
+        (Some(filled), [1, 3, 0]),
+        (Some(Index::from([255; INDEX])), [3, 3, 0]),
+        (Some(Index::from([0; INDEX])), [130, 130, 0]),
+    ];
+    for (index, due) in indexes {
+        let mut again = node.clone();
+        let reply = b"reply m:q [false,{\"t\":0.005}]\n".to_vec();
+        let missing = b"error_do m:r [\"NoSuchCommand\",\"no such command\",{}]\n".to_vec();
+        let pong = b"pong m:q [null,{\"t\":0.700}]\n".to_vec();
+        assert_eq!(answered(&mut again, index, b"read m:q\n"), (due[0], reply));
+        assert_eq!(answered(&mut again, index, b"do m:r\n"), (due[1], missing));
+        assert_eq!(answered(&mut again, index, b"ping m:q\n"), (due[2], pong));
+        let (lines, errors, updates) = (3, 1, 0);
+        let counts = Counts {
+            lines,
+            errors,
+            updates,
+        };
+        assert_eq!(again.counts(3), Some(counts));
+    }
+}
+
+#[test]
+fn a_list_is_taken_up_to_the_first_refused_reading() {
+    let mut node = started();
+    node.open(0, 6).expect("closed until now");
+    fed(&mut node, 0, b"activate m\n");
+    let row = |(parameter, time, offset, length)| Row {
+        parameter,
+        time,
+        offset,
+        length,
+    };
+    // The texts are `false` and ` true`.
+    let texts = b"false true";
+    let rows = [(0, 20, 0, 5), (1, 10, 5, 5), (0, 30, 5, 6), (1, 30, 0, 5)].map(row);
+    let rack = node.readings(&rows, texts);
+    assert_eq!((rack.taken, rack.refusal), (2, Some(Refusal::Reading)));
+    let sent: Vec<Vec<u8>> = rack.records.map(|record| record.body.to_vec()).collect();
+    let first = b"update m:p [false,{\"t\":0.020}]\n".to_vec();
+    let second = b"update m:q [true,{\"t\":0.010}]\n".to_vec();
+    assert_eq!(sent, [first, second]);
+    let shown = |held, time| Ok(Value { held, time });
+    assert_eq!(node.value(0), shown(Held::Set(b"false"), 20));
+    assert_eq!(node.value(1), shown(Held::Set(b"true"), 10));
+    let state = *node.state();
+    let rack = node.readings(&[rows[0]; 10], texts);
+    assert_eq!((rack.taken, rack.refusal), (0, Some(Refusal::List)));
+    let rack = node.readings(&[], texts);
+    assert_eq!((rack.taken, rack.refusal), (0, None));
+    assert_eq!(*node.state(), state);
 }

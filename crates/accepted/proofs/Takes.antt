@@ -4,18 +4,18 @@ use native.Mathlib.Omega.{arith}
 use mathlib.Core.List.{List}
 use mathlib.Core.Path.{_≡_, refl, ap, _∙_}
 use lib.ListN.{length, take, drop}
-use Rattle.ascii.specs.Writer.{Puts}
+use Rattle.ascii.specs.contracts.Writer.{Puts}
 use Rattle.ascii.proofs.Puts.{puts-length}
 use Rattle.datainfo.specs.Datainfo.{Datainfo}
 use Rattle.datainfo.specs.Layout.{datainfoAt}
 use Rattle.fit.specs.Fit.{storedForm}
-use Rattle.form.specs.Formed.{FitsAt, PutsForm}
+use Rattle.form.specs.contracts.Formed.{FitsAt, PutsForm}
 use Rattle.form.proofs.Stored.{stored, stored-short}
 use Rattle.table.specs.Layout.{tableOf}
-use Rattle.table.specs.At.{bytesOf, parameterOf}
+use Rattle.table.specs.contracts.At.{bytesOf, parameterOf}
 use Rattle.table.specs.declared.layout.ParameterAt.{ParameterAt}
 use Rattle.message.specs.Reply.{valued}
-use Rattle.message.specs.Said.{reportOf}
+use Rattle.message.specs.contracts.Said.{reportOf}
 use Rattle.outbox.specs.Outbox.{Record, encodeAll}
 use Rattle.search.specs.declared.cursor.Cursor.{Cursor}
 use Rattle.plain.specs.Node.{clientNumbers, updatesTo}
@@ -25,10 +25,10 @@ use Rattle.state.specs.declared.Settings.{Settings}
 use Rattle.state.specs.declared.State.{State}
 use Rattle.state.specs.View.{clientAt, view, withHeld, withSetting, withStored, withLength, nextSettings}
 use Rattle.state.proofs.Forms.{stands}
-use Rattle.state.specs.Counted.{SentCounted}
+use Rattle.state.specs.contracts.Counted.{SentCounted}
 use Rattle.state.proofs.Settled.{Sized}
-use Rattle.promise.specs.Answer.{doneWith}
-use Rattle.accepted.specs.Fitting.{Fitting, Taken}
+use Rattle.promise.specs.contracts.Answer.{doneWith}
+use Rattle.accepted.specs.contracts.Fitting.{Fitting, Taken}
 use Rattle.accepted.proofs.Tells.{it, there, tell-room, tell-few, is-told}
 
 module _ (table : List ℕ) (s : State) (values outbox : List ℕ) (k t : ℕ) (bs : List ℕ) (q : ParameterAt) (e : Cursor) (g : Fitting table s values outbox k t bs q e) where
@@ -93,7 +93,7 @@ module _ (table : List ℕ) (s : State) (values outbox : List ℕ) (k t : ℕ) (
       pub is-taken :
           Sized (s .settings) → (settings : Settings) → settings ≡ withLength (s .settings) k (r - 256 * k) t
           → (outbox′ : List ℕ) (n : ℕ) → Puts outbox 0 (encodeAll sent) outbox′ n → (r : State) → SentCounted (nextSettings s settings) outbox′ n r
-          → Taken table s values outbox (Reading k bs t) (doneWith 0 n r) after outbox′
+          → Taken table s values outbox (Reading k bs t) (doneWith 0 n 0 r) after outbox′
       unfolding withHeld withSetting withStored parameterOf
       is-taken z settings i outbox′ n p u y =
           is-told table outbox k t q e (g .tellable) s (valued form) small values (g .standing) (stored d bs (datainfos-in-table .ofParameters table (g .tellable .accepted) k (it table outbox k t q e (g .tellable)) (there table outbox k t q e (g .tellable))) (g .fits)) (Reading k bs t) does

@@ -8,22 +8,22 @@ use mathlib.Core.Option.{some}
 use mathlib.Core.Path.{_≡_, refl, sym, ap, _∙_}
 use lib.ListN.{length, getElem?}
 use Rattle.ascii.specs.Bytes.{any}
-use Rattle.ascii.specs.Writer.{Puts}
+use Rattle.ascii.specs.contracts.Writer.{Puts}
 use Rattle.table.specs.Table.{Parameter, Table}
 use Rattle.table.specs.Layout.{tableOf}
 use Rattle.table.specs.Search.{Placed, parameters}
-use Rattle.table.specs.At.{bytesOf, parameterOf}
+use Rattle.table.specs.contracts.At.{bytesOf, parameterOf}
 use Rattle.table.specs.declared.layout.ParameterAt.{ParameterAt}
 use Rattle.table.proofs.Search.{parameter-home}
 use Rattle.message.specs.Error.{faultNumber, faultOf}
 use Rattle.message.specs.Reply.{Held, failed, Report}
-use Rattle.message.specs.Said.{faultAs, reportOf}
+use Rattle.message.specs.contracts.Said.{faultAs, reportOf}
 use Rattle.message.specs.declared.say.Fault.{Fault}
 use Rattle.outbox.specs.Outbox.{Record, encodeAll}
-use Rattle.outbox.specs.Tallied.{Holds}
+use Rattle.outbox.specs.contracts.Tallied.{Holds}
 use Rattle.outbox.proofs.Tallied.{puts-holds}
 use Rattle.search.specs.declared.cursor.Cursor.{Cursor}
-use Rattle.search.specs.Left.{placed}
+use Rattle.search.specs.contracts.Left.{placed}
 use Rattle.plain.specs.Node.{Node, Setting, withSettings, counting, clientNumbers, updatesTo}
 use Rattle.plain.proofs.Counts.{no-updates}
 use Rattle.plain.specs.Calls.{Event, Unreadable, Effect, driverEffect, unreadableEffect, effect}
@@ -36,14 +36,14 @@ use Rattle.state.specs.declared.Settings.{Settings}
 use Rattle.state.specs.declared.State.{State}
 use Rattle.state.specs.View.{clientAt, view, withHeld, withSetting, withError, areaWith, settingsWith, outboxAfter, written, nextSettings}
 use Rattle.state.specs.Fit.{clientUnfit, settingsUnfit, isUnfit}
-use Rattle.state.specs.Counted.{SentCounted}
+use Rattle.state.specs.contracts.Counted.{SentCounted}
 use Rattle.state.proofs.Counted.{sent-node, sent-fit, sent-settings}
 use Rattle.state.proofs.Settled.{Sized}
 use Rattle.state.proofs.Sets.{AllSet, all-set}
-use Rattle.promise.specs.Answer.{doneWith}
-use Rattle.promise.specs.Leaves.{Leaves}
+use Rattle.promise.specs.contracts.Answer.{doneWith}
+use Rattle.promise.specs.contracts.Leaves.{Leaves}
 use Rattle.promise.proofs.Clients.{fit-parts}
-use Rattle.accepted.specs.Fitting.{readingRoom, Tellable, Standing, Taken}
+use Rattle.accepted.specs.contracts.Fitting.{readingRoom, Tellable, Standing, Taken}
 
 module _ (table outbox : List ℕ) (k t : ℕ) (q : ParameterAt) (e : Cursor) (g : Tellable table outbox k t q e) where
   abbrev w : Table
@@ -144,7 +144,7 @@ module _ (table outbox : List ℕ) (k t : ℕ) (q : ParameterAt) (e : Cursor) (g
         holds : Holds outbox′ n (updates (s .clients) h)
         holds = let room = g .room in puts-holds puts (omega (arith, few))
 
-        is-left : Leaves table s values ev outbox (doneWith 0 n r) after outbox′
+        is-left : Leaves table s values ev outbox (doneWith 0 n 0 r) after outbox′
         unfolding written outboxAfter areaWith settingsWith
         is-left =
             let d = sym does-is in
@@ -163,8 +163,8 @@ module _ (table outbox : List ℕ) (k t : ℕ) (q : ParameterAt) (e : Cursor) (g
               fit = sent-fit table next after outbox′ n r y rs holds w still-fit;
             }
 
-        pub is-told : Taken table s values outbox ev (doneWith 0 n r) after outbox′
-        is-told = record { leaves = is-left; short = few }
+        pub is-told : Taken table s values outbox ev (doneWith 0 n 0 r) after outbox′
+        is-told = record { leaves = is-left; short = few; steps = refl; clients = ap (λ (x : State). x .clients) (y .is (updates (s .clients) h) holds) }
 
   -- ## A parameter that can't be read, by the names as they are read from the table
 
@@ -174,7 +174,7 @@ module _ (table outbox : List ℕ) (k t : ℕ) (q : ParameterAt) (e : Cursor) (g
         → (outbox′ : List ℕ) (n : ℕ)
         → Puts outbox 0 (encodeAll (sent (s .clients) f m a named-module named)) outbox′ n → (r : State) → SentCounted (nextSettings s settings) outbox′ n r
         → (values : List ℕ) (class : ℕ) → Standing table s values → faultOf class ≡ some (faultAs f)
-        → Taken table s values outbox (Unreadable k class t) (doneWith 0 n r) values outbox′
+        → Taken table s values outbox (Unreadable k class t) (doneWith 0 n 0 r) values outbox′
     unfolding effect unreadableEffect withHeld withSetting
     is-failed z number j settings i outbox′ n puts r y values class stands known =
         is-told s (failed (faultAs f)) tt values stands tt (Unreadable k class t) (rw (there, known) refl) z settings

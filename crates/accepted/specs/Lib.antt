@@ -1,2 +1,1 @@
-pub mod Fitting
-pub mod Held
+pub mod contracts

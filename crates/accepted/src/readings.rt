@@ -1,5 +1,6 @@
 // A reading that fits its parameter.
 use form::put_form;
+use limits::PLACE;
 use message::say::Sensor;
 use promise::Done;
 use search::cursor::Cursor;
@@ -10,7 +11,7 @@ use table::layout::ParameterAt;
 use update::bytes_of;
 use update::put_updates_to;
 ghost use Rattle.plain.specs.Calls.{Reading};
-ghost use Rattle.accepted.specs.Fitting.{Fitting, Taken};
+ghost use Rattle.accepted.specs.contracts.Fitting.{Fitting, Taken};
 
 // "An accepted reading stores the value ..": of parameter k, of which p has the positions; `home` is the cursor after it, in its module. The
 // updates are written to the front of the outbox, or of the part of one, that it is lent.
@@ -31,7 +32,7 @@ pub fn take_reading(
 {
     let clients = state.clients;
     let counts = state.counts;
-    let at = 256 * k;
+    let at = PLACE * k;
     let end = put_form(table, p.info, values, at, bytes);
     let module = bytes_of(table, home.name);
     let name = bytes_of(table, p.name);
@@ -58,6 +59,7 @@ pub fn take_reading(
         number: 0,
         used: 0,
         written,
+        steps: 0,
         state: next,
     }
 }

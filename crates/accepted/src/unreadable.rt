@@ -15,9 +15,9 @@ ghost use mathlib.Core.List.{List};
 ghost use mathlib.Core.Option.{some};
 ghost use mathlib.Core.Path.{_≡_};
 ghost use Rattle.message.specs.Error.{faultOf};
-ghost use Rattle.message.specs.Said.{faultAs};
+ghost use Rattle.message.specs.contracts.Said.{faultAs};
 ghost use Rattle.plain.specs.Calls.{Unreadable};
-ghost use Rattle.accepted.specs.Fitting.{Tellable, Standing, Taken};
+ghost use Rattle.accepted.specs.contracts.Fitting.{Tellable, Standing, Taken};
 
 // "Each parameter's record then holds .. such an error, with its time": of parameter k, of which p has the positions; `home` is the cursor after it,
 // in its module. The updates are written to the front of the outbox, or of the part of one, that it is lent. What the values area has doesn't matter.
@@ -53,6 +53,7 @@ pub fn take_unreadable(
         number: 0,
         used: 0,
         written,
+        steps: 0,
         state: next,
     }
 }

@@ -7,13 +7,13 @@ use mathlib.Core.Option.{Option, none, some}
 use Rattle.ascii.specs.Bytes.{_>>=_}
 use Rattle.datainfo.specs.Datainfo.{Datainfo}
 use Rattle.datainfo.specs.Layout.{datainfoAt}
-use Rattle.fit.specs.Verdict.{meaning, JudgesText}
+use Rattle.fit.specs.contracts.Verdict.{meaning, JudgesText}
 use Rattle.fit.specs.declared.Verdict.{Verdict}
 use Rattle.table.specs.Layout.{argumentAt}
 use Rattle.table.proofs.Accessibles.{in-some}
 use Rattle.table.proofs.Whole.{never}
 use Rattle.plain.specs.Answer.{argumentVerdict}
-use Rattle.access.specs.Argument.{JudgesArgument}
+use Rattle.access.specs.contracts.Argument.{JudgesArgument}
 
 -- ## The verdict
 

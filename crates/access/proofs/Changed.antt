@@ -11,10 +11,10 @@ use Rattle.table.specs.declared.layout.ParameterAt.{ParameterAt}
 use Rattle.table.specs.Layout.{tableOf}
 use Rattle.table.specs.Table.{Parameter}
 use Rattle.table.specs.Search.{Placed}
-use Rattle.search.specs.Found.{ParameterFound}
+use Rattle.search.specs.contracts.Found.{ParameterFound}
 use Rattle.message.specs.Error.{class}
 use Rattle.message.specs.Reply.{valued, changed}
-use Rattle.message.specs.Said.{classOf, reportOf}
+use Rattle.message.specs.contracts.Said.{classOf, reportOf}
 use Rattle.message.specs.declared.say.Class.{Class}
 use Rattle.outbox.specs.Outbox.{orderChange}
 use Rattle.plain.specs.Node.{clientNumbers, updatesTo}
@@ -22,14 +22,14 @@ use Rattle.plain.specs.Answer as Plain
 use Rattle.plain.specs.Answer.{refused, busy, sets}
 use Rattle.state.specs.declared.State.{State}
 use Rattle.state.specs.View.{clientAt, view}
-use Rattle.outcome.specs.Ready.{Ready}
-use Rattle.outcome.specs.Outcome.{Refuses, Stores, OutcomeIs, OfParameter}
+use Rattle.outcome.specs.contracts.Ready.{Ready}
+use Rattle.outcome.specs.contracts.Outcome.{Refuses, Stores, OutcomeIs, OfParameter}
 use Rattle.outcome.specs.declared.Outcome.{Outcome}
 use Rattle.outcome.specs.declared.Outcome.the-variants.{Refused}
-use Rattle.access.specs.Busy.{statusUpdates}
-use Rattle.access.specs.Set.{setRecords, Settable, Accepts, IsSet, IsSetBy}
-use Rattle.access.specs.Whole.{changesWhole}
-use Rattle.access.specs.Judged.{JudgesChange}
+use Rattle.access.specs.contracts.Busy.{statusUpdates}
+use Rattle.access.specs.contracts.Set.{setRecords, Settable, Accepts, IsSet, IsSetBy}
+use Rattle.access.specs.contracts.Whole.{changesWhole}
+use Rattle.access.specs.contracts.Judged.{JudgesChange}
 use Rattle.access.specs.declared.judge.Judged.{Judged}
 use Rattle.access.specs.declared.judge.Judged.the-variants as J
 use Rattle.access.proofs.Finding.{ParameterKnown, parameter-known, the-parameter}

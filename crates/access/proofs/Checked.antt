@@ -5,21 +5,21 @@ use mathlib.Core.Path.{_≡_, refl, subst, _∙_}
 use mathlib.Core.List.{List, []}
 use lib.ListN.{length, take, drop}
 use Rattle.ascii.specs.Numbers.{latest}
-use Rattle.ascii.specs.Writer.{Puts}
+use Rattle.ascii.specs.contracts.Writer.{Puts}
 use Rattle.datainfo.specs.Layout.{datainfoIn, datainfoAt}
 use Rattle.fit.specs.Fit.{storedForm}
-use Rattle.form.specs.Formed.{FitsAt, PutsForm}
+use Rattle.form.specs.contracts.Formed.{FitsAt, PutsForm}
 use Rattle.table.specs.declared.layout.ParameterAt.{ParameterAt}
 use Rattle.table.specs.Layout.{tableOf}
 use Rattle.table.specs.Table.{Parameter}
 use Rattle.table.specs.Search.{Placed}
-use Rattle.search.specs.Found.{ParameterFound}
+use Rattle.search.specs.contracts.Found.{ParameterFound}
 use Rattle.message.specs.Error.{class}
 use Rattle.message.specs.Reply.{valued, Report, checked}
-use Rattle.message.specs.Said.{classOf, reportOf}
+use Rattle.message.specs.contracts.Said.{classOf, reportOf}
 use Rattle.message.specs.declared.say.Class.{Class}
 use Rattle.outbox.specs.Outbox.{final, encode}
-use Rattle.outbox.specs.Written.{RoomFor}
+use Rattle.outbox.specs.contracts.Written.{RoomFor}
 use Rattle.plain.specs.Node.{Node}
 use Rattle.plain.specs.Answer as Plain
 use Rattle.plain.specs.Answer.{refused, shows}
@@ -27,13 +27,13 @@ use Rattle.sound.proofs.Records.{Fine, says-checked, written-final}
 use Rattle.sound.proofs.Room.{room-after, puts-none, puts-after}
 use Rattle.state.specs.declared.State.{State}
 use Rattle.state.specs.View.{view}
-use Rattle.outcome.specs.Ready.{Lent}
-use Rattle.outcome.specs.Outcome.{Refuses, Sends, OfParameter}
+use Rattle.outcome.specs.contracts.Ready.{Lent}
+use Rattle.outcome.specs.contracts.Outcome.{Refuses, Sends, OfParameter}
 use Rattle.outcome.specs.declared.Outcome.the-variants.{Refused, Sent}
-use Rattle.access.specs.Argument.{Reported}
-use Rattle.access.specs.Told.{PutsChecked}
-use Rattle.access.specs.Whole.{checksWhole}
-use Rattle.access.specs.Judged.{JudgesChange}
+use Rattle.access.specs.contracts.Argument.{Reported}
+use Rattle.access.specs.contracts.Told.{PutsChecked}
+use Rattle.access.specs.contracts.Whole.{checksWhole}
+use Rattle.access.specs.contracts.Judged.{JudgesChange}
 use Rattle.access.specs.declared.judge.Judged.{Judged}
 use Rattle.access.specs.declared.judge.Judged.the-variants as J
 use Rattle.access.proofs.Finding.{ParameterKnown, parameter-known, the-parameter}

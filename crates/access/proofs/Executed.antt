@@ -7,23 +7,23 @@ use lib.ListN.{drop}
 use Rattle.ascii.specs.Text.{bytes}
 use Rattle.ascii.specs.Numbers.{latest}
 use Rattle.fit.specs.Fit.{fits, isFit, severity}
-use Rattle.fit.specs.Verdict.{meaning}
+use Rattle.fit.specs.contracts.Verdict.{meaning}
 use Rattle.fit.specs.declared.Verdict.{Verdict}
 use Rattle.table.specs.Layout.{argumentAt, tableOf}
-use Rattle.search.specs.Found.{CommandFound}
+use Rattle.search.specs.contracts.Found.{CommandFound}
 use Rattle.table.specs.declared.layout.CommandAt.{CommandAt}
 use Rattle.message.specs.Error.{class}
 use Rattle.message.specs.Reply.{valued, done}
-use Rattle.message.specs.Said.{classOf, reportOf}
+use Rattle.message.specs.contracts.Said.{classOf, reportOf}
 use Rattle.message.specs.declared.say.Class.{Class}
 use Rattle.outbox.specs.Outbox.{orderCommand}
 use Rattle.plain.specs.Node.{Node}
 use Rattle.plain.specs.Answer.{Outcome, refused, carried, letIn, argumentVerdict, argumentForm, does}
-use Rattle.outcome.specs.Ready.{Lent}
-use Rattle.outcome.specs.Outcome.{Refuses, Sends, OfCommand}
+use Rattle.outcome.specs.contracts.Ready.{Lent}
+use Rattle.outcome.specs.contracts.Outcome.{Refuses, Sends, OfCommand}
 use Rattle.outcome.specs.declared.Outcome.the-variants.{Refused, Sent}
-use Rattle.access.specs.Argument.{JudgesArgument, Ordered, Reported, orderRecords, IsOrdered}
-use Rattle.access.specs.Judged.{Lets}
+use Rattle.access.specs.contracts.Argument.{JudgesArgument, Ordered, Reported, orderRecords, IsOrdered}
+use Rattle.access.specs.contracts.Judged.{Lets}
 use Rattle.access.specs.declared.judge.Judged.{Judged}
 use Rattle.access.specs.declared.judge.Judged.the-variants as J
 use Rattle.access.proofs.Finding.{CommandKnown, command-known, the-command}

@@ -13,16 +13,16 @@ use Rattle.json.specs.Json as Json
 use Rattle.json.specs.Json.{Json, text, spaced, bare}
 use Rattle.datainfo.specs.Layout.{datainfoAt}
 use Rattle.fit.specs.Fit.{completedOf}
-use Rattle.form.specs.Merged.{ShownBy, ShownAt, Completes}
-use Rattle.form.specs.Merged as Merged
+use Rattle.form.specs.contracts.Merged.{ShownBy, ShownAt, Completes}
+use Rattle.form.specs.contracts.Merged as Merged
 use Rattle.form.proofs.Stored.{short-stored, change-verdict, change-form}
 use Rattle.message.specs.Error.{faultOf}
 use Rattle.message.specs.Reply.{Held, valued}
-use Rattle.message.specs.Said.{sensorFault}
+use Rattle.message.specs.contracts.Said.{sensorFault}
 use Rattle.message.specs.declared.say.Fault.{Fault}
 use Rattle.message.specs.declared.say.Sensor.{Sensor}
 use Rattle.message.specs.declared.say.Sensor.the-variants.{Works, Fails}
-use Rattle.table.specs.At.{Inside}
+use Rattle.table.specs.contracts.At.{Inside}
 use Rattle.table.specs.declared.layout.ParameterAt.{ParameterAt}
 use Rattle.table.specs.Layout.{tableOf}
 use Rattle.table.specs.Table.{Parameter}
@@ -31,13 +31,13 @@ use Rattle.plain.specs.Node as Node
 use Rattle.plain.specs.Answer as Plain
 use Rattle.plain.specs.Answer.{shownValue, sets, shows, judging, changes, checks}
 use Rattle.sound.specs.Theorems.{ValueHeld}
-use Rattle.search.specs.Found.{ParameterFound}
+use Rattle.search.specs.contracts.Found.{ParameterFound}
 use Rattle.state.specs.declared.State.{State}
 use Rattle.state.specs.View.{shownBytes, view}
-use Rattle.outcome.specs.Ready.{Ready}
-use Rattle.outcome.specs.Outcome.{OutcomeIs, OfParameter}
+use Rattle.outcome.specs.contracts.Ready.{Ready}
+use Rattle.outcome.specs.contracts.Outcome.{OutcomeIs, OfParameter}
 use Rattle.outcome.specs.declared.Outcome.{Outcome}
-use Rattle.access.specs.Whole.{judgingWhole, changesWhole, checksWhole, Fillable, Fills}
+use Rattle.access.specs.contracts.Whole.{judgingWhole, changesWhole, checksWhole, Fillable, Fills}
 use Rattle.access.proofs.Finding.{ParameterKnown, parameter-known, info-known, the-parameter}
 use Rattle.access.proofs.Showing.{read-low, read-lies, holds, is-value, held-fits}
 

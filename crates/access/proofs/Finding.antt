@@ -13,13 +13,13 @@ use Rattle.form.specs.Theorems.{InTable}
 use Rattle.table.specs.Table.{Parameter, Command}
 use Rattle.table.specs.Layout.{argumentAt, tableOf}
 use Rattle.table.specs.Search.{Placed, parameters, commands, findParameter, findCommand}
-use Rattle.table.specs.At.{bytesOf, Inside, ArgumentReadable, parameterOf, commandOf}
+use Rattle.table.specs.contracts.At.{bytesOf, Inside, ArgumentReadable, parameterOf, commandOf}
 use Rattle.table.specs.declared.layout.ParameterAt.{ParameterAt}
 use Rattle.table.specs.declared.layout.CommandAt.{CommandAt}
 use Rattle.table.proofs.Accessibles.{in-some}
 use Rattle.table.proofs.Search.{parameter-there, parameter-named, command-there, command-named, parameter-home}
 use Rattle.report.specs.Judge.{tableNumber}
-use Rattle.search.specs.Found.{ParameterFound, CommandFound}
+use Rattle.search.specs.contracts.Found.{ParameterFound, CommandFound}
 use Rattle.sound.proofs.Lists.{each-at, there-low}
 use Rattle.sound.proofs.Accepted.{GoodParameter, GoodCommand, accepted, datainfos-in-table}
 

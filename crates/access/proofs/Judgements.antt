@@ -7,16 +7,16 @@ use lib.ListN.{drop}
 use Rattle.datainfo.specs.Layout.{datainfoAt}
 use Rattle.fit.specs.Fit as Fit
 use Rattle.fit.specs.Fit.{isFit, severity, storedForm}
-use Rattle.form.specs.Formed.{FitsAt}
+use Rattle.form.specs.contracts.Formed.{FitsAt}
 use Rattle.table.specs.declared.layout.ParameterAt.{ParameterAt}
 use Rattle.table.specs.Table.{Parameter}
 use Rattle.table.specs.Search.{Placed}
 use Rattle.message.specs.Error.{class}
-use Rattle.message.specs.Said.{classOf}
+use Rattle.message.specs.contracts.Said.{classOf}
 use Rattle.message.specs.declared.say.Class.{Class}
 use Rattle.plain.specs.Answer.{Outcome, refused, letIn}
-use Rattle.access.specs.Whole.{judgingWhole}
-use Rattle.access.specs.Judged.{Lets, JudgesChange}
+use Rattle.access.specs.contracts.Whole.{judgingWhole}
+use Rattle.access.specs.contracts.Judged.{Lets, JudgesChange}
 use Rattle.access.specs.declared.judge.Judged.{Judged}
 use Rattle.access.specs.declared.judge.Judged.the-variants as J
 use Rattle.access.proofs.Finding.{ParameterKnown}

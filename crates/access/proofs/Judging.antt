@@ -6,10 +6,10 @@ use mathlib.Core.List.{List}
 use mathlib.Core.Option.{Option}
 use Rattle.datainfo.specs.Datainfo.{Datainfo}
 use Rattle.fit.specs.Fit as Fit
-use Rattle.fit.specs.Verdict.{meaning, JudgesText}
+use Rattle.fit.specs.contracts.Verdict.{meaning, JudgesText}
 use Rattle.fit.specs.declared.Verdict.{Verdict}
 use Rattle.message.specs.declared.say.Class.the-variants as K
-use Rattle.access.specs.Judged.{Lets, JudgesChange}
+use Rattle.access.specs.contracts.Judged.{Lets, JudgesChange}
 use Rattle.access.specs.declared.judge.Judged.{Judged}
 use Rattle.access.specs.declared.judge.Judged.the-variants as J
 

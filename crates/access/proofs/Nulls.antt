@@ -8,7 +8,7 @@ use lib.Dec.{eqb}
 use lib.ListN.{length, drop}
 use borrow.Author.Tests.{eqb-true, ne-eqb, not-true, not-false}
 use Rattle.ascii.specs.Bytes.{_>>=_, isSome, head, tail, after}
-use Rattle.ascii.specs.Reader.{ByteAt, Left}
+use Rattle.ascii.specs.contracts.Reader.{ByteAt, Left}
 use Rattle.ascii.specs.Text.{bytes}
 use Rattle.decimal.specs.Token as Token
 use Rattle.json.specs.Json.{Json, null, number, array, object, Items, Members, no-items, no-members, skip, giving, stringEnd, scalar, spaced, items, arrayEnd, members, objectEnd, bare, value, text}

@@ -9,21 +9,21 @@ use lib.ListN.{length, take, drop, length-append}
 use borrow.Author.Tests.{not-true, not-false}
 use Rattle.ascii.specs.Text.{bytes}
 use Rattle.ascii.specs.Numbers.{twoBytes}
-use Rattle.ascii.specs.Writer.{Puts}
+use Rattle.ascii.specs.contracts.Writer.{Puts}
 use Rattle.datainfo.specs.Datainfo.{Datainfo}
 use Rattle.datainfo.specs.Layout.{datainfoIn}
 use Rattle.fit.specs.Fit.{isFit}
-use Rattle.form.specs.Formed.{FitsAt, PutsForm}
+use Rattle.form.specs.contracts.Formed.{FitsAt, PutsForm}
 use Rattle.form.proofs.Stored.{stored-short}
 use Rattle.table.specs.Layout.{argumentAt}
 use Rattle.message.specs.Reply.{valued, done}
-use Rattle.message.specs.Said.{reportOf}
+use Rattle.message.specs.contracts.Said.{reportOf}
 use Rattle.outbox.specs.Outbox.{Record, final, orderCommand, mark, body, encode, encodeAll}
-use Rattle.outbox.specs.Written.{RoomFor}
+use Rattle.outbox.specs.contracts.Written.{RoomFor}
 use Rattle.plain.specs.Answer.{argumentVerdict, argumentForm}
 use Rattle.sound.proofs.Records.{Fine, Written, says-done, written-one, written-append, written-final}
 use Rattle.sound.proofs.Room.{room-after, puts-after}
-use Rattle.access.specs.Argument.{Ordered, Reported, orderRecords, PutsOrder, IsOrdered}
+use Rattle.access.specs.contracts.Argument.{Ordered, Reported, orderRecords, PutsOrder, IsOrdered}
 use Rattle.access.proofs.Arguments.{none-declared, Declared, some-declared}
 use Rattle.access.proofs.Taken.{taken-within, taken-is, taken-length, taken-short}
 

@@ -9,17 +9,17 @@ use lib.ListN.{length, take, drop}
 use Rattle.ascii.specs.Text.{bytes}
 use Rattle.ascii.specs.Bytes.{all, head, isIn, isLetter}
 use Rattle.ascii.specs.Names.{isName, isNameByte}
-use Rattle.ascii.specs.Writer.{Puts}
+use Rattle.ascii.specs.contracts.Writer.{Puts}
 use Rattle.ascii.proofs.Puts.{puts-length, puts-both}
 use Rattle.datainfo.specs.Datainfo.{Datainfo}
 use Rattle.datainfo.specs.Layout.{datainfoIn}
 use Rattle.fit.specs.Fit.{storedForm}
-use Rattle.form.specs.Formed.{FitsAt, PutsForm}
+use Rattle.form.specs.contracts.Formed.{FitsAt, PutsForm}
 use Rattle.form.proofs.Stored.{stored-short}
 use Rattle.message.specs.Reply.{valued, Report, changed}
-use Rattle.message.specs.Said.{reportOf}
+use Rattle.message.specs.contracts.Said.{reportOf}
 use Rattle.outbox.specs.Outbox.{Record, final, orderChange, body, encode, encodeAll}
-use Rattle.outbox.specs.Written.{RoomFor}
+use Rattle.outbox.specs.contracts.Written.{RoomFor}
 use Rattle.plain.specs.Node.{clientNumbers, updatesTo}
 use Rattle.plain.specs.Answer.{busy}
 use Rattle.sound.proofs.Records.{Fine, Written, name-short, says-changed, written-none, written-one, written-append, written-within, written-final, written-to}
@@ -30,8 +30,8 @@ use Rattle.state.proofs.Forms.{stands}
 use Rattle.outcome.specs.declared.Status.{Status}
 use Rattle.outcome.specs.declared.Status.the-variants.{Stays, Busy}
 use Rattle.outcome.specs.declared.Outcome.the-variants.{Stored}
-use Rattle.access.specs.Busy.{FindsStatus, withStatus, statusUpdates}
-use Rattle.access.specs.Set.{setRecords, Settable, Accepts, Staged, IsSet, IsSetBy}
+use Rattle.access.specs.contracts.Busy.{FindsStatus, withStatus, statusUpdates}
+use Rattle.access.specs.contracts.Set.{setRecords, Settable, Accepts, Staged, IsSet, IsSetBy}
 use Rattle.access.proofs.Statuses.{status-length}
 
 -- ## The order, the updates and the reply, with a value of at most 256 bytes, after a status

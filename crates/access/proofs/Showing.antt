@@ -5,18 +5,18 @@ use mathlib.Core.Path.{_≡_, refl, sym, ap, subst, _∙_}
 use mathlib.Core.Bool.{false}
 use mathlib.Core.List.{List, []}
 use lib.ListN.{length, getD}
-use Rattle.ascii.specs.Writer.{Puts}
+use Rattle.ascii.specs.contracts.Writer.{Puts}
 use Rattle.ascii.proofs.Lists.{neither}
 use Rattle.form.proofs.Stored.{short-stored}
 use Rattle.message.specs.Error.{faultOf, fault}
 use Rattle.message.specs.Reply.{valued, heldAs, Report, reply}
-use Rattle.message.specs.Said.{sensorFault, heldBy, faultAs, reportOf}
+use Rattle.message.specs.contracts.Said.{sensorFault, heldBy, faultAs, reportOf}
 use Rattle.message.specs.declared.say.Fault.{Fault}
 use Rattle.message.specs.declared.say.Sensor.{Sensor}
 use Rattle.message.specs.declared.say.Sensor.the-variants.{Works, Fails}
 use Rattle.outbox.specs.Outbox.{Record, final, encode}
-use Rattle.outbox.specs.Written.{RoomFor}
-use Rattle.table.specs.At.{Inside}
+use Rattle.outbox.specs.contracts.Written.{RoomFor}
+use Rattle.table.specs.contracts.At.{Inside}
 use Rattle.table.specs.declared.layout.ParameterAt.{ParameterAt}
 use Rattle.table.specs.Layout.{tableOf}
 use Rattle.table.specs.Search.{parameters}
@@ -30,10 +30,10 @@ use Rattle.state.specs.View.{shown, shownBytes, valueAt, view}
 use Rattle.state.specs.Fit.{settingsUnfit, isUnfit}
 use Rattle.state.proofs.Settled.{each-fit, fit-parts}
 use Rattle.state.proofs.Stands.{value-held}
-use Rattle.outcome.specs.Ready.{Ready}
-use Rattle.outcome.specs.Outcome.{Refuses, Sends, OfParameter}
+use Rattle.outcome.specs.contracts.Ready.{Ready}
+use Rattle.outcome.specs.contracts.Outcome.{Refuses, Sends, OfParameter}
 use Rattle.outcome.specs.declared.Outcome.the-variants.{Unreadable, Sent}
-use Rattle.search.specs.Found.{ParameterFound}
+use Rattle.search.specs.contracts.Found.{ParameterFound}
 use Rattle.access.proofs.Finding.{ParameterKnown, parameter-known, the-parameter}
 
 module _ (s : List ℕ) (st : State) (values out : List ℕ) (c : ℕ) (g : Ready s st values out c) (m a : List ℕ) (k h : ℕ) (q : ParameterAt) (f : ParameterFound s m a k h q) where

@@ -9,21 +9,21 @@ use lib.ListN.{length, drop}
 use lib.Seq.{length-sets}
 use Rattle.ascii.specs.Text.{bytes}
 use Rattle.ascii.specs.Bytes.{same}
-use Rattle.ascii.specs.Writer.{Puts}
+use Rattle.ascii.specs.contracts.Writer.{Puts}
 use Rattle.datainfo.specs.Datainfo.{Datainfo}
 use Rattle.datainfo.specs.Layout.{datainfoAt, ReadableAt}
 use Rattle.fit.specs.Fit.{verdict, isFit}
-use Rattle.fit.specs.Verdict.{meaning, JudgesText}
+use Rattle.fit.specs.contracts.Verdict.{meaning, JudgesText}
 use Rattle.fit.specs.declared.Verdict.{Verdict}
 use Rattle.table.specs.Table.{Parameter}
 use Rattle.table.specs.Layout.{tableOf}
 use Rattle.table.specs.Search.{Placed, findParameter}
 use Rattle.table.specs.declared.layout.ParameterAt.{ParameterAt}
-use Rattle.search.specs.Found.{FindsParameter}
+use Rattle.search.specs.contracts.Found.{FindsParameter}
 use Rattle.search.specs.declared.find.FoundParameter as F
 use Rattle.report.specs.Judge.{tableNumber}
 use Rattle.message.specs.Reply.{valued}
-use Rattle.message.specs.Said.{reportOf}
+use Rattle.message.specs.contracts.Said.{reportOf}
 use Rattle.outbox.specs.Outbox.{Record, encodeAll}
 use Rattle.plain.specs.Node.{clientNumbers, updatesTo}
 use Rattle.plain.specs.Answer.{busy, admitting, statusOf, busySettings, busyUpdates}
@@ -32,10 +32,10 @@ use Rattle.sound.proofs.Accepted.{datainfos-in-table}
 use Rattle.sound.proofs.Room.{puts-none}
 use Rattle.state.specs.declared.Clients.{Clients}
 use Rattle.state.specs.View.{clientAt, withStored, withHeld, areaWith}
-use Rattle.outcome.specs.Outcome.{statusSettings, storedBy, StatusHolds}
+use Rattle.outcome.specs.contracts.Outcome.{statusSettings, storedBy, StatusHolds}
 use Rattle.outcome.specs.declared.Status.{Status}
 use Rattle.outcome.specs.declared.Status.the-variants.{Stays, Busy}
-use Rattle.access.specs.Busy.{StatusLow, Admits, StatusIs, FindsStatus, withStatus, statusUpdates}
+use Rattle.access.specs.contracts.Busy.{StatusLow, Admits, StatusIs, FindsStatus, withStatus, statusUpdates}
 use Rattle.access.proofs.Finding.{ParameterKnown, parameter-known, info-known}
 
 pub status-length : (values : List ℕ) (z : Status) (b : List ℕ) → length (withStatus values z b) ≡ length values

@@ -10,7 +10,7 @@ use Rattle.ascii.proofs.Puts.{puts-length}
 use Rattle.datainfo.specs.Datainfo.{Datainfo}
 use Rattle.datainfo.specs.Layout.{datainfoIn}
 use Rattle.fit.specs.Fit.{storedForm}
-use Rattle.form.specs.Formed.{FitsAt, PutsForm}
+use Rattle.form.specs.contracts.Formed.{FitsAt, PutsForm}
 use Rattle.form.proofs.Stored.{stored-short}
 use Rattle.state.proofs.Forms.{stands}
 

@@ -1,6 +1,1 @@
-pub mod Argument
-pub mod Busy
-pub mod Set
-pub mod Judged
-pub mod Told
-pub mod Whole
+pub mod contracts

@@ -3,16 +3,17 @@
 ghost use Prim.Native.Nat.{_+_, _≤_};
 ghost use mathlib.Core.Path.{_≡_};
 ghost use lib.ListN.{length, drop};
-ghost use Rattle.ascii.specs.Writer.{Puts};
+ghost use Rattle.ascii.specs.contracts.Writer.{Puts};
 ghost use Rattle.datainfo.specs.Layout.{datainfoAt, ReadableAt};
 ghost use Rattle.outbox.specs.Outbox.{encodeAll};
 ghost use Rattle.report.specs.Judge.{tableNumber};
 ghost use Rattle.plain.specs.Answer.{busy};
-ghost use Rattle.access.specs.Busy.{StatusLow, Admits, FindsStatus, withStatus, statusUpdates};
+ghost use Rattle.access.specs.contracts.Busy.{StatusLow, Admits, FindsStatus, withStatus, statusUpdates};
 use ascii::names::same;
 use ascii::write::put;
 use fit::fit::is_fit;
 use form::verdict;
+use limits::PLACE;
 use message::say::Sensor;
 use outcome::Status;
 use search::find::FoundParameter;
@@ -34,7 +35,7 @@ fn admitted(table: &[u8], k: usize, home: usize, q: ParameterAt, text: &[u8]) ->
 }
 
 // "a parameter named `target`, in a module with a parameter named `status`": what a change of the parameter of these names sets first
-pub fn status_of(table: &[u8], module: &[u8], name: &[u8], text: &[u8]) -> Status
+pub(crate) fn status_of(table: &[u8], module: &[u8], name: &[u8], text: &[u8]) -> Status
     requires { ⌜ (tableNumber (now table) ≡ 0) × (now text ≡ busy) ⌝ }
     ensures { λ r. ⌜ FindsStatus (now (table .entry)) (now («module» .entry)) (now (name .entry)) r ⌝ }
 {
@@ -48,20 +49,20 @@ pub fn status_of(table: &[u8], module: &[u8], name: &[u8], text: &[u8]) -> Statu
 }
 
 // "shall first store `[300,"target changed"]` there ..": at the front of its place in the values area
-pub fn store_status(values: &mut [u8], status: Status, text: &[u8])
+pub(crate) fn store_status(values: &mut [u8], status: Status, text: &[u8])
     requires { ⌜ StatusLow status × ((16384 ≤ length (now values)) × (length (now text) ≤ 256)) ⌝ }
     ensures { λ r. ⌜ now (values .exit) ≡ withStatus (now (values .entry)) status (now (text .entry)) ⌝ }
 {
     match status {
         Status::Stays => {}
         Status::Busy(k, _) => {
-            put(values, 256 * k, text);
+            put(values, PLACE * k, text);
         }
     }
 }
 
 // ".. with the same time, send its updates ..": to all clients that have its module active
-pub fn put_status(
+pub(crate) fn put_status(
     out: &mut [u8],
     at: usize,
     clients: Clients,

@@ -3,16 +3,17 @@ ghost use mathlib.Core.Path.{_≡_};
 ghost use mathlib.Core.Option.{none};
 ghost use lib.ListN.{drop};
 ghost use Rattle.table.specs.Layout.{argumentAt};
-ghost use Rattle.table.specs.At.{ArgumentReadable};
-ghost use Rattle.fit.specs.Verdict.{meaning};
+ghost use Rattle.table.specs.contracts.At.{ArgumentReadable};
+ghost use Rattle.fit.specs.contracts.Verdict.{meaning};
 ghost use Rattle.plain.specs.Answer.{argumentVerdict};
-ghost use Rattle.access.specs.Argument.{JudgesArgument, Ordered, Reported, PutsOrder, IsOrdered};
+ghost use Rattle.access.specs.contracts.Argument.{JudgesArgument, Ordered, Reported, PutsOrder, IsOrdered};
 use ascii::byte;
 use fit::Verdict;
 use form::put_form;
 use form::verdict;
 use json::read::is_text;
 use json::read::spaces_end;
+use limits::PLACE;
 use outbox::write::Told;
 use outbox::write::put_final_report;
 use outbox::write::put_order_command;
@@ -32,7 +33,7 @@ fn null_verdict(text: &[u8]) -> Verdict
 }
 
 // The verdict on a text by the argument that is declared at `info`, or by none.
-pub fn argument_verdict(table: &[u8], argument: bool, info: usize, text: &[u8]) -> Verdict
+pub(crate) fn argument_verdict(table: &[u8], argument: bool, info: usize, text: &[u8]) -> Verdict
     requires { ⌜ ArgumentReadable (now table) argument info ⌝ }
     ensures { λ r. ⌜ JudgesArgument (argumentAt argument (drop info (now (table .entry)))) (now (text .entry)) r ⌝ }
 {
@@ -58,13 +59,13 @@ fn put_order(
     if !argument {
         return put_order_command(out, 0, client, k as u8, b"");
     }
-    let mut form = [0u8; 256];
+    let mut form = [0u8; PLACE];
     let size = put_form(table, info, &mut form, 0, text);
     put_order_command(out, 0, client, k as u8, &form[..size])
 }
 
 // "the driver's order, then `done M:C [null,{"t":now}]`"
-pub fn order(
+pub(crate) fn order(
     table: &[u8],
     info: usize,
     out: &mut [u8],
@@ -77,7 +78,8 @@ pub fn order(
     text: &[u8],
 ) -> usize
     requires { ⌜ Ordered (now table) info (now out) k argument (now text) × Reported (now «module») (now name) time ⌝ }
-    ensures { λ r. ⌜ IsOrdered (argumentAt argument (drop info (now (table .entry)))) client k (now (text .entry)) (now («module» .entry)) (now (name .entry)) time (now (out .entry)) (now (out .exit)) r ⌝ }
+    ensures { λ r. ⌜ IsOrdered (argumentAt argument (drop info (now (table .entry)))) client k (now (text .entry)) (now («module» .entry)) (now (name .entry))
+        time (now (out .entry)) (now (out .exit)) r ⌝ }
 {
     let told = put_order(table, info, out, client, k, argument, text);
     put_final_report(out, told, client, Told::Done, module, name, b"null", time)

@@ -2,8 +2,8 @@
 ghost use mathlib.Core.Bool.{false};
 ghost use lib.ListN.{drop};
 ghost use Rattle.datainfo.specs.Layout.{datainfoAt, ReadableAt};
-ghost use Rattle.fit.specs.Verdict.{meaning};
-ghost use Rattle.access.specs.Judged.{Lets, JudgesChange};
+ghost use Rattle.fit.specs.contracts.Verdict.{meaning};
+ghost use Rattle.access.specs.contracts.Judged.{Lets, JudgesChange};
 use fit::Verdict;
 use form::verdict;
 use message::say::Class;
@@ -16,7 +16,7 @@ pub enum Judged {
 }
 
 // "BadJSON, WrongType, RangeError."
-pub fn let_in(verdict: Verdict) -> Judged
+pub(crate) fn let_in(verdict: Verdict) -> Judged
     ensures { λ r. ⌜ Lets false (meaning verdict) r ⌝ }
 {
     match verdict {
@@ -28,7 +28,7 @@ pub fn let_in(verdict: Verdict) -> Judged
 }
 
 // A value for a parameter. "Order: .., ReadOnly, BadJSON, WrongType, RangeError."
-pub fn judge_change(table: &[u8], q: ParameterAt, text: &[u8]) -> Judged
+pub(crate) fn judge_change(table: &[u8], q: ParameterAt, text: &[u8]) -> Judged
     requires { ⌜ ReadableAt (now table) (q .info) 4 ⌝ }
     ensures { λ r. ⌜ JudgesChange (datainfoAt (drop (q .info) (now (table .entry)))) (q .readonly) (now (text .entry)) r ⌝ }
 {

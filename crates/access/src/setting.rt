@@ -1,14 +1,15 @@
 // A parameter is set by a client, and before it the status of its module, if it is to be.
 ghost use Prim.Native.Nat.{_≤_};
 ghost use lib.ListN.{length, drop};
-ghost use Rattle.ascii.specs.Writer.{Puts};
+ghost use Rattle.ascii.specs.contracts.Writer.{Puts};
 ghost use Rattle.datainfo.specs.Layout.{datainfoIn};
 ghost use Rattle.outbox.specs.Outbox.{encodeAll};
-ghost use Rattle.access.specs.Set.{Settable, Accepts, Staged, IsSetBy, setRecords};
+ghost use Rattle.access.specs.contracts.Set.{Settable, Accepts, Staged, IsSetBy, setRecords};
 use crate::busy::put_status;
 use crate::busy::status_of;
 use crate::busy::store_status;
 use form::put_form;
+use limits::PLACE;
 use message::say::Sensor;
 use outbox::write::Told;
 use outbox::write::put_final_report;
@@ -53,7 +54,7 @@ fn put_set(
 }
 
 // "An accepted setting writes its stored form ..": to the front of the parameter's place in the values area, and then the records.
-pub fn set(
+pub(crate) fn set(
     table: &[u8],
     info: usize,
     values: &mut [u8],
@@ -74,7 +75,7 @@ pub fn set(
     let busy = b"[300,\"target changed\"]";
     let status = status_of(table, module, name, busy);
     store_status(values, status, busy);
-    let at = 256 * k;
+    let at = PLACE * k;
     let end = put_form(table, info, values, at, text);
     let value = &values[at..end];
     let written = put_set(

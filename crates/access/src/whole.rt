@@ -2,11 +2,11 @@
 ghost use Prim.Native.Nat.{ℕ, _≤_};
 ghost use mathlib.Core.List.{List};
 ghost use Rattle.ascii.specs.Numbers.{latest};
-ghost use Rattle.search.specs.Found.{ParameterFound};
+ghost use Rattle.search.specs.contracts.Found.{ParameterFound};
 ghost use Rattle.state.specs.declared.State.{State};
-ghost use Rattle.outcome.specs.Ready.{Lent, Ready};
-ghost use Rattle.outcome.specs.Outcome.{OfParameter};
-ghost use Rattle.access.specs.Whole.{changesWhole, checksWhole, Fillable, Fills};
+ghost use Rattle.outcome.specs.contracts.Ready.{Lent, Ready};
+ghost use Rattle.outcome.specs.contracts.Outcome.{OfParameter};
+ghost use Rattle.access.specs.contracts.Whole.{changesWhole, checksWhole, Fillable, Fills};
 use crate::judge::Judged;
 use crate::judge::judge_change;
 use crate::setting::set;
@@ -21,7 +21,7 @@ use table::layout::ParameterAt;
 
 // "they keep what is shown now, or, where the parameter is in error, such a change is WrongType": the text that comes of it is written to bytes of its
 // own, since what is shown may lie where the new value is stored. In error nothing is shown.
-pub fn fill<'a>(
+pub(crate) fn fill<'a>(
     table: &'a [u8],
     values: &'a [u8],
     state: State,
@@ -50,7 +50,7 @@ pub fn fill<'a>(
 }
 
 // A parameter's value is set; or an error, and outbox and values area are as they were.
-pub fn change_whole(
+pub(crate) fn change_whole(
     table: &[u8],
     values: &mut [u8],
     out: &mut [u8],
@@ -69,7 +69,7 @@ pub fn change_whole(
         (now (out .exit)) (now («module» .entry)) (now (name .entry)) (λ w n c t. changesWhole w n c t (now (text .entry))) ⌝ }
 {
     match judge_change(table, q, text) {
-        Judged::Refused(class) => Outcome::Refused(class),
+        Judged::Refused(fault) => Outcome::Refused(fault),
         Judged::LetIn => {
             let clients = state.clients;
             let info = q.info;
@@ -93,7 +93,7 @@ pub fn change_whole(
 
 // What a change would store is told, and nothing is stored; or the error that a change would be refused with, and the outbox is as it was. Neither
 // state nor values area is looked at.
-pub fn check_whole(
+pub(crate) fn check_whole(
     table: &[u8],
     out: &mut [u8],
     client: u8,

@@ -13,7 +13,7 @@ use borrow.Author.Tests.{eq-eqb, ne-eqb}
 use Rattle.ascii.specs.Bytes.{same, pairs, looked}
 use Rattle.ascii.proofs.Walk.{same-lengths, same-more, same-stop, same-end}
 use Rattle.ascii.specs.declared.names.Compared.{Compared}
-use Rattle.ascii.specs.Compared.{compared}
+use Rattle.ascii.specs.contracts.Compared.{compared}
 
 answer : {s t : Bool} {n m : ℕ} → s ≡ t → n ≡ m → _≡_ {A = Compared} (record { same = s; pairs = n }) (record { same = t; pairs = m })
 answer p q = ap₂ (λ (s : Bool) (n : ℕ). record { same = s; pairs = n }) p q

@@ -5,7 +5,7 @@ use mathlib.Core.List.{List}
 use mathlib.Core.Option.{Option, none, some}
 use mathlib.Core.Path.{_≡_, refl}
 use Rattle.ascii.specs.Bytes.{_>>=_}
-use Rattle.ascii.specs.Reader.{rest}
+use Rattle.ascii.specs.contracts.Reader.{rest}
 
 module _ {A B : Type 0} where
   -- two that agree on what the first gives

@@ -1,4 +1,4 @@
-// Runs the six calls of a node over a script from standard input and writes what each answers. `script::operation` says what a script is
+// Runs the calls of a node, but lists of readings, over a script from standard input and writes what each answers. `script::operation` says what a script is
 // made of, `script::say` what is written.
 use libc::STDIN_FILENO;
 use node::clients::jihfasul_close;
@@ -20,10 +20,12 @@ use script::say::write_note;
 use script::say::write_state;
 use state::State;
 
-// What is kept from operation to operation: the length of the table, and the state. `more` says whether the script may go on.
+// What is kept from operation to operation: the lengths of the table and of the index that calls are lent, and the state. `more` says whether the
+// script may go on.
 struct Kept {
     more: bool,
     table: usize,
+    index: usize,
     state: State,
 }
 
@@ -42,14 +44,15 @@ fn call(
     state: State,
     o: Operation,
     bytes: &[u8],
+    index: &[u8],
 ) -> Done {
     let code = o.code;
     match code {
         b'S' => jihfasul_start(table, values, o.time),
-        b'O' => jihfasul_open(table, values, state, o.number, o.time),
-        b'C' => jihfasul_close(table, values, state, o.number, o.time),
-        b'P' => jihfasul_piece(table, values, outbox, state, o.number, o.time, bytes),
-        b'R' => jihfasul_reading(table, values, outbox, state, o.number, o.time, bytes),
+        b'O' => jihfasul_open(table, values, state, o.number, o.time, index),
+        b'C' => jihfasul_close(table, values, state, o.number, o.time, index),
+        b'P' => jihfasul_piece(table, values, outbox, state, o.number, o.time, bytes, index),
+        b'R' => jihfasul_reading(table, values, outbox, state, o.number, o.time, bytes, index),
         _ => jihfasul_unreadable(
             table,
             values,
@@ -58,6 +61,7 @@ fn call(
             o.number,
             o.time,
             class_of(bytes),
+            index,
         ),
     }
 }
@@ -70,6 +74,7 @@ fn answered(
     state: State,
     o: Operation,
     bytes: &[u8],
+    index: &[u8],
 ) -> State {
     let most = o.values;
     let room = o.outbox;
@@ -86,6 +91,7 @@ fn answered(
         state,
         o,
         bytes,
+        index,
     );
     write_answer(values, outbox, state, o, done);
     fill(outbox);
@@ -100,10 +106,11 @@ fn carried_out(
     state: State,
     o: Operation,
     bytes: &[u8],
+    index: &[u8],
 ) -> State {
     let code = o.code;
     if is_call(code) {
-        return answered(table, values, outbox, state, o, bytes);
+        return answered(table, values, outbox, state, o, bytes, index);
     }
     match code {
         b'N' => {
@@ -139,24 +146,43 @@ fn with_table(table: &mut [u8], kept: Kept, size: usize) -> Kept {
     next
 }
 
+// The index that calls are lent from here on, put into a lent buffer.
+fn with_index(index: &mut [u8], kept: Kept, bytes: &[u8]) -> Kept {
+    if index.len() < bytes.len() {
+        return ended(kept);
+    }
+    put_within(index, 0, bytes);
+    let mut next = kept;
+    next.index = bytes.len();
+    next
+}
+
 // Another operation, its bytes read into a lent buffer.
 fn operate(
     table: &[u8],
     values: &mut [u8],
     outbox: &mut [u8],
+    index: &mut [u8],
     bytes: &mut [u8],
     kept: Kept,
     o: Operation,
 ) -> Kept {
     let size = o.size;
     let held = kept.table;
+    let lent = kept.index;
     if bytes.len() < size {
         return ended(kept);
     }
     if table.len() < held {
         return ended(kept);
     }
+    if index.len() < lent {
+        return ended(kept);
+    }
     io::read_full(STDIN_FILENO, &mut bytes[..size]);
+    if o.code == b'I' {
+        return with_index(index, kept, &bytes[..size]);
+    }
     let state = carried_out(
         &table[..held],
         values,
@@ -164,10 +190,12 @@ fn operate(
         kept.state,
         o,
         &bytes[..size],
+        &index[..lent],
     );
     Kept {
         more: true,
         table: held,
+        index: lent,
         state,
     }
 }
@@ -178,6 +206,7 @@ fn step(
     table: &mut [u8; 65536],
     values: &mut [u8; 20000],
     outbox: &mut [u8; 40000],
+    index: &mut [u8; 256],
     bytes: &mut [u8; 65536],
     kept: Kept,
 ) -> Kept {
@@ -186,7 +215,7 @@ fn step(
     match code {
         0 => ended(kept),
         b'T' => with_table(table, kept, o.size),
-        _ => operate(table, values, outbox, bytes, kept, o),
+        _ => operate(table, values, outbox, index, bytes, kept, o),
     }
 }
 
@@ -196,11 +225,13 @@ fn main() {
     let mut table = io::large_buffer();
     let mut values = [0u8; 20000];
     let mut outbox = [0u8; 40000];
+    let mut index = [0u8; 256];
     let mut bytes = io::large_buffer();
     fill(&mut outbox);
     let mut kept = Kept {
         more: true,
         table: 0,
+        index: 0,
         state: blank(),
     };
     let mut turns: u32 = 1000000;
@@ -210,6 +241,7 @@ fn main() {
             &mut table,
             &mut values,
             &mut outbox,
+            &mut index,
             &mut bytes,
             kept,
         );

@@ -10,7 +10,7 @@ use Rattle.ascii.specs.Numbers.{latest}
 use Rattle.table.specs.Layout.{tableOf}
 use Rattle.report.specs.Judge.{tableNumber}
 use Rattle.plain.specs.Node.{Node, begin, isOpen}
-use Rattle.plain.specs.Calls.{Event, Open, Close, Piece, Reading, Unreadable, Lent, Call, sends}
+use Rattle.plain.specs.Calls.{Event, Open, Close, Piece, Reading, Unreadable, Lent, Call, sends, isShort}
 use Rattle.plain.specs.History.{step, answers, AllAccepted, Item, byte, mark, feeds, opens, closes, reads, fails, consIf, own, marks, pieceItems, itemsOf, items, kept, taken, InTime, Roomy, AllRoomy, EmptiesOpen, IsSecond}
 use Rattle.second.proofs.Items.{inOrder}
 use Rattle.second.proofs.Calls.{readable, accepts, step-number}
@@ -75,13 +75,13 @@ single-items (mark (reads p bs t)) h = refl
 single-items (mark (fails p k t)) h = refl
 
 single-roomy : (i : Item) → Proper i → Roomy (single i)
-unfolding single sends
-single-roomy (byte c b) h = record { outbox = λ e. omega arith; area = omega arith; inTime = omega arith }
-single-roomy (mark (feeds c t)) h = record { outbox = λ e. omega arith; area = omega arith; inTime = h }
-single-roomy (mark (opens c t)) h = record { outbox = λ e. absurd (false≢true e); area = omega arith; inTime = h }
-single-roomy (mark (closes c t)) h = record { outbox = λ e. absurd (false≢true e); area = omega arith; inTime = h }
-single-roomy (mark (reads p bs t)) h = record { outbox = λ e. omega arith; area = omega arith; inTime = h }
-single-roomy (mark (fails p k t)) h = record { outbox = λ e. omega arith; area = omega arith; inTime = h }
+unfolding single sends isShort
+single-roomy (byte c b) h = record { outbox = λ e. omega arith; area = omega arith; index = refl; inTime = omega arith }
+single-roomy (mark (feeds c t)) h = record { outbox = λ e. omega arith; area = omega arith; index = refl; inTime = h }
+single-roomy (mark (opens c t)) h = record { outbox = λ e. absurd (false≢true e); area = omega arith; index = refl; inTime = h }
+single-roomy (mark (closes c t)) h = record { outbox = λ e. absurd (false≢true e); area = omega arith; index = refl; inTime = h }
+single-roomy (mark (reads p bs t)) h = record { outbox = λ e. omega arith; area = omega arith; index = refl; inTime = h }
+single-roomy (mark (fails p k t)) h = record { outbox = λ e. omega arith; area = omega arith; index = refl; inTime = h }
 
 -- no piece is empty
 single-full : (i : Item) (c t : ℕ) → single i .event ≡ Piece c [] t → ⊥

@@ -17,9 +17,11 @@ use Rattle.rule.specs.Records.{repliesFor}
 use Rattle.chatter.specs.Without.{Choice, without, lessLines, sentTo, orders, ordersLess}
 
 -- "any lines of other clients that are not accepted changes": none of the chosen lines is client c's, and none was answered by `changed`, as an
--- accepted change is, among the records rs that the history sent. Client d's reply of number i answers its line of that number.
+-- accepted change is, among the records rs that the history sent. Client d's reply of number i answers its line of that number. [H-12]
 pub record MayGo (c : ℕ) (f : Choice) (rs : List Record) : Type 0 where
+  -- [H-12]
   pub others : (i : ℕ) → f c i ≡ false
+  -- [H-12]
   pub unchanged : (d i : ℕ) (r : Report) → getElem? (repliesFor d rs) i ≡ some (changed r) → f d i ≡ false
 
 -- What the request says of client c, of the history h, from the node n on, and of k, which has the chosen lines no more.
@@ -40,7 +42,7 @@ pub record Unreached (table : List ℕ) (n : Node) (c : ℕ) (f : Choice) (h k :
   pub sameOrders : orders (sent (answers table n k)) ≡ ordersLess f (λ d. 0) (sent (answers table n h))
 
 -- After an accepted start, for every history, every client and every choice of lines that may go: of the history without them, in every cutting and
--- mingling that demand 3 lets a second history have.
+-- mingling that demand 3 lets a second history have. [H-12]
 abbrev pub ChatterDoesNotReach : Type 0
 ChatterDoesNotReach = (table : List ℕ) (area time : ℕ) → startNumber table area time ≡ 0 → (h k : List Call) (c : ℕ) (f : Choice)
     → let n = begin (tableOf table) time in

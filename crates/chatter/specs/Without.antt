@@ -20,7 +20,7 @@ oneMore k d = put k d (suc (k d))
 -- ## Items
 
 -- whether the line that a client is within before these items of its own is ended, by a line feed; an open, a close or the end leave it
--- unfinished
+-- unfinished [H-12]
 unfoldable pub isEnded : List Item → Bool
 isEnded [] = false
 isEnded (byte c b ∷ x) = isEnded x
@@ -31,7 +31,7 @@ isEnded (mark (reads p bs t) ∷ x) = isEnded x
 isEnded (mark (fails p k t) ∷ x) = isEnded x
 
 -- "Leave out, whole with their line feeds, any lines .., keeping all else and its times": each byte goes that stands in a line which is ended and
--- chosen, and that line's feed. Each client d had k d lines before.
+-- chosen, and that line's feed. Each client d had k d lines before. [H-12]
 unfoldable pub without : Choice → (ℕ → ℕ) → List Item → List Item
 without f k [] = []
 without f k (byte d b ∷ x) = consIf (not (isEnded (own d x) && f d (k d))) (byte d b) (without f k x)
@@ -43,7 +43,7 @@ without f k (mark (fails p j t) ∷ x) = mark (fails p j t) ∷ without f k x
 
 -- ## Histories
 
--- a call for one item, lent no more than is asked for
+-- a call for one item, lent no more than is asked for [H-12]
 unfoldable pub single : Item → Call
 single (byte c b) = withOutbox (Piece c (b ∷ []) 0) 16384 32768
 single (mark (feeds c t)) = withOutbox (Piece c (10 ∷ []) t) 16384 32768
@@ -53,13 +53,13 @@ single (mark (reads p bs t)) = withOutbox (Reading p bs t) 16384 32768
 single (mark (fails p k t)) = withOutbox (Unreadable p k t) 16384 32768
 
 -- "Take a history as in demand 3, refused calls and unused bytes left out": of the items that h took from the node n on, those that stay without the
--- chosen lines, as a history with a call for each
+-- chosen lines, as a history with a call for each [H-12]
 unfoldable pub lessLines : List ℕ → Node → Choice → List Call → List Call
 lessLines table n f h = map single (without f (λ d. 0) (taken table n h))
 
 -- ## Records
 
--- what client c is sent, in order: its final replies and its updates
+-- what client c is sent, in order: its final replies and its updates [H-12]
 unfoldable pub sentTo : ℕ → List Record → List Record
 sentTo c [] = []
 sentTo c (final d r ∷ rs) = cond (eqb c d) (final d r ∷ []) [] ++ sentTo c rs
@@ -67,7 +67,7 @@ sentTo c (update d r ∷ rs) = cond (eqb c d) (update d r ∷ []) [] ++ sentTo c
 sentTo c (orderChange d p v ∷ rs) = sentTo c rs
 sentTo c (orderCommand d p v ∷ rs) = sentTo c rs
 
--- the driver's orders, in order
+-- the driver's orders, in order [H-12]
 unfoldable pub orders : List Record → List Record
 orders [] = []
 orders (final d r ∷ rs) = orders rs
@@ -76,7 +76,7 @@ orders (orderChange d p v ∷ rs) = orderChange d p v ∷ orders rs
 orders (orderCommand d p v ∷ rs) = orderCommand d p v ∷ orders rs
 
 -- The same less the commands of the chosen lines. A line's order stands before its reply, and each line has one reply: so the order is of
--- its client's line that has the number of the replies to that client that stand before it. Each client d had k d replies before.
+-- its client's line that has the number of the replies to that client that stand before it. Each client d had k d replies before. [H-12]
 unfoldable pub ordersLess : Choice → (ℕ → ℕ) → List Record → List Record
 ordersLess f k [] = []
 ordersLess f k (final d r ∷ rs) = ordersLess f (oneMore k d) rs

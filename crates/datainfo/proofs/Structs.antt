@@ -12,12 +12,12 @@ use Rattle.ascii.specs.declared.Next.{Next}
 use Rattle.ascii.specs.declared.Next.the-variants.{At, Bad}
 use Rattle.ascii.specs.Bytes.{_>>=_, head, all}
 use Rattle.ascii.specs.Numbers.{unsigned}
-use Rattle.ascii.specs.Reader.{Ends, rest}
+use Rattle.ascii.specs.contracts.Reader.{Ends, rest}
 use Rattle.ascii.proofs.Lists.{both}
 use Rattle.datainfo.specs.Datainfo.{Datainfo, struct, partial, no-fields, Parts, fieldNames}
 use Rattle.datainfo.specs.Layout.{counted, flag, flagged, entry, joined, fields, structAt, partialAt, datainfoIn}
-use Rattle.datainfo.specs.Members.{afterField, membersAt}
-use Rattle.datainfo.specs.Kept.{nameIn}
+use Rattle.datainfo.specs.contracts.Members.{afterField, membersAt}
+use Rattle.datainfo.specs.contracts.Kept.{nameIn}
 use Rattle.datainfo.proofs.Ends.{one-byte, no-byte}
 
 nothing-read : {A S : Type 0} {a : A} → none ≡ some a → S

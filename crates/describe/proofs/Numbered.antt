@@ -12,11 +12,11 @@ use Rattle.ascii.specs.Bytes.{isSome}
 use Rattle.table.specs.Table.{Table}
 use Rattle.table.specs.Layout.{readTable, Readable, orEmpty, tableOf}
 use Rattle.table.specs.Rules.{faultsBelow6}
-use Rattle.table.specs.Judged.{numberBelow6}
+use Rattle.table.specs.contracts.Judged.{numberBelow6}
 use Rattle.report.specs.Report.{report}
 use Rattle.report.specs.Judge.{lowest, treeNumber, numberOf, tableNumber}
 use Rattle.report.proofs.Faults.{lowest-first, lowest-both}
-use Rattle.emit.specs.Emitted.{capped}
+use Rattle.emit.specs.contracts.Emitted.{capped}
 
 -- the numbers in their order: those below 6 come first
 tree-number : (t : Table) → treeNumber t ≡ lowest (numberBelow6 (some t) ∷ cond (ltb 32000 (length (report t))) 6 0 ∷ [])

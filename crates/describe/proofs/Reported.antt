@@ -10,14 +10,14 @@ use Rattle.ascii.specs.declared.Next.{Next}
 use Rattle.ascii.specs.declared.Next.the-variants.{At, Bad}
 use Rattle.ascii.specs.Text.{bytes}
 use Rattle.ascii.specs.Bytes.{_>>=_}
-use Rattle.ascii.specs.Reader.{Ends, rest}
-use Rattle.ascii.specs.Writer.{Puts}
+use Rattle.ascii.specs.contracts.Reader.{Ends, rest}
+use Rattle.ascii.specs.contracts.Writer.{Puts}
 use Rattle.json.specs.Json.{quoted, compact, compactItems, compactMembers, moreMembers}
 use Rattle.datainfo.specs.Datainfo.{Datainfo}
 use Rattle.datainfo.specs.Layout.{datainfoIn}
 use Rattle.table.specs.Table as Table
 use Rattle.table.specs.Layout.{begins, argumentAt, accessiblesAt, moduleAt, modulesAt, Readable, tableOf}
-use Rattle.table.specs.At.{bytesOf, Inside, accessibleBegins, accessibleAt, accessiblesFrom, modulesFrom, parameterOf, commandOf, moduleOf, AccessibleIs, HeadingIs, headingAt, HeadRead}
+use Rattle.table.specs.contracts.At.{bytesOf, Inside, accessibleBegins, accessibleAt, accessiblesFrom, modulesFrom, parameterOf, commandOf, moduleOf, AccessibleIs, HeadingIs, headingAt, HeadRead}
 use Rattle.table.specs.declared.layout.ParameterAt.{ParameterAt}
 use Rattle.table.specs.declared.layout.CommandAt.{CommandAt}
 use Rattle.table.specs.declared.layout.ModuleAt.{ModuleAt}
@@ -29,10 +29,10 @@ use Rattle.table.proofs.Enough.{before, accessibles-stop, accessibles-more, mod
 use Rattle.table.proofs.Modules.{withAccessibles, module-is}
 use Rattle.table.proofs.Whole.{opened, unread, readable-whole, members-headless}
 use Rattle.report.specs.Report.{argumentMember, accessibleMember, accessibleMembers, moduleMembers, reportValue, report}
-use Rattle.emit.specs.Emitted.{capped, Emits, comma, told, Says}
-use Rattle.describe.specs.Room.{RoomFor}
-use Rattle.infos.specs.Texts.{datainfoText, ownText}
-use Rattle.describe.specs.Texts.{readonlyText, argumentText, accessibleText, accessiblesText, moduleText, modulesText, textsText}
+use Rattle.emit.specs.contracts.Emitted.{capped, Emits, comma, told, Says}
+use Rattle.describe.specs.contracts.Room.{RoomFor}
+use Rattle.infos.specs.contracts.Texts.{datainfoText, ownText}
+use Rattle.describe.specs.contracts.Texts.{readonlyText, argumentText, accessibleText, accessiblesText, moduleText, modulesText, textsText}
 use Rattle.emit.proofs.Pieces.{both, after, nothing}
 use Rattle.emit.proofs.Says.{says-nothing, says-text, mapped, retold, told-same, rest-told, Leads, parts-none, parts-more}
 use Rattle.emit.proofs.Listed.{listed, listed-first, listed-member, list-step}

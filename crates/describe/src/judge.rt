@@ -1,5 +1,6 @@
 // The number that a table is answered with.
 use crate::structure::report_length;
+use limits::REPORT;
 use table::judge::number_below_6;
 ghost use mathlib.Core.Path.{_≡_};
 ghost use Rattle.report.specs.Judge.{tableNumber};
@@ -12,7 +13,7 @@ pub fn table_number(s: &[u8]) -> u8
     if n != 0 {
         return n;
     }
-    if 32000 < report_length(s) {
+    if REPORT < report_length(s) {
         return 6;
     }
     0

@@ -6,6 +6,7 @@ use emit::emit_key;
 use emit::emit_string;
 use infos::emit_datainfo;
 use infos::emit_own;
+use limits::DATAINFO_LEVELS;
 use table::layout::Accessible;
 use table::layout::CommandAt;
 use table::layout::Head;
@@ -24,16 +25,16 @@ ghost use mathlib.Core.List.{_++_};
 ghost use Prim.Native.Nat.{_≤_};
 ghost use lib.ListN.{length, drop};
 ghost use Rattle.ascii.specs.Text.{bytes};
-ghost use Rattle.ascii.specs.Writer.{Puts};
+ghost use Rattle.ascii.specs.contracts.Writer.{Puts};
 ghost use Rattle.json.specs.Json.{quoted};
 ghost use Rattle.datainfo.specs.Layout.{datainfoIn};
 ghost use Rattle.table.specs.Table.{parameter, command};
 ghost use Rattle.table.specs.Layout.{argumentAt, moduleAt, Readable, tableOf};
-ghost use Rattle.table.specs.At.{bytesOf, Inside, accessibleAt, accessiblesFrom, modulesFrom, parameterOf, commandOf};
+ghost use Rattle.table.specs.contracts.At.{bytesOf, Inside, accessibleAt, accessiblesFrom, modulesFrom, parameterOf, commandOf};
 ghost use Rattle.report.specs.Report.{report};
-ghost use Rattle.emit.specs.Emitted.{capped, Emits, told, Says};
-ghost use Rattle.describe.specs.Texts.{readonlyText, argumentText, accessibleText, accessiblesText, moduleText, modulesText, textsText};
-ghost use Rattle.describe.specs.Room.{RoomFor};
+ghost use Rattle.emit.specs.contracts.Emitted.{capped, Emits, told, Says};
+ghost use Rattle.describe.specs.contracts.Texts.{readonlyText, argumentText, accessibleText, accessiblesText, moduleText, modulesText, textsText};
+ghost use Rattle.describe.specs.contracts.Room.{RoomFor};
 
 // A part of the table as a key.
 fn emit_part_key(out: &mut [u8], at: usize, s: &[u8], p: Part) -> usize
@@ -74,7 +75,8 @@ fn emit_named(
     description: Part,
 ) -> usize
     requires { ⌜ Inside (now s) name × Inside (now s) description ⌝ }
-    ensures { λ r. ⌜ Emits (now (out .entry)) at (quoted (bytesOf (now (s .entry)) name) ++ bytes ":" ++ (now (label .entry) ++ quoted (bytesOf (now (s .entry)) description))) (now (out .exit)) r ⌝ }
+    ensures { λ r. ⌜ Emits (now (out .entry)) at (quoted (bytesOf (now (s .entry)) name) ++ bytes ":"
+        ++ (now (label .entry) ++ quoted (bytesOf (now (s .entry)) description))) (now (out .exit)) r ⌝ }
 {
     let a = emit_part_key(out, at, s, name);
     emit_text(out, a, label, s, description)
@@ -92,7 +94,8 @@ fn emit_readonly(out: &mut [u8], at: usize, readonly: bool) -> usize
 
 fn emit_parameter(out: &mut [u8], at: usize, s: &[u8], q: ParameterAt) -> usize
     requires { ⌜ (Inside (now s) (q .name) × Inside (now s) (q .description)) × (q .info ≤ length (now s)) ⌝ }
-    ensures { λ r. ⌜ Says (told (λ d. accessibleText (parameter (parameterOf (now (s .entry)) q d))) (datainfoIn 4 (drop (q .info) (now (s .entry))))) (now (out .entry)) at (now (out .exit)) r ⌝ }
+    ensures { λ r. ⌜ Says (told (λ d. accessibleText (parameter (parameterOf (now (s .entry)) q d))) (datainfoIn 4 (drop (q .info) (now (s .entry)))))
+        (now (out .entry)) at (now (out .exit)) r ⌝ }
 {
     let name = q.name;
     let description = q.description;
@@ -110,14 +113,15 @@ fn emit_argument(out: &mut [u8], at: usize, s: &[u8], i: usize, has: bool) -> us
 {
     if has {
         let a = emit(out, at, b",\"argument\":");
-        return emit_datainfo(out, a, s, i, 4);
+        return emit_datainfo(out, a, s, i, DATAINFO_LEVELS);
     }
     at
 }
 
 fn emit_command(out: &mut [u8], at: usize, s: &[u8], q: CommandAt) -> usize
     requires { ⌜ (Inside (now s) (q .name) × Inside (now s) (q .description)) × (q .info ≤ length (now s)) ⌝ }
-    ensures { λ r. ⌜ Says (told (λ a. accessibleText (command (commandOf (now (s .entry)) q a))) (argumentAt (q .argument) (drop (q .info) (now (s .entry))))) (now (out .entry)) at (now (out .exit)) r ⌝ }
+    ensures { λ r. ⌜ Says (told (λ a. accessibleText (command (commandOf (now (s .entry)) q a))) (argumentAt (q .argument) (drop (q .info) (now (s .entry)))))
+        (now (out .entry)) at (now (out .exit)) r ⌝ }
 {
     let name = q.name;
     let description = q.description;

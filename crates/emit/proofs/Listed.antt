@@ -7,7 +7,7 @@ use mathlib.Core.Option.{Option, none, some}
 use Rattle.ascii.specs.Text.{bytes}
 use Rattle.ascii.specs.Bytes.{_>>=_}
 use Rattle.json.specs.Json.{Json, Items, no-items, item, Members, no-members, member, quoted, compact, compactItems, moreItems, compactMembers, moreMembers}
-use Rattle.emit.specs.Emitted.{comma, told}
+use Rattle.emit.specs.contracts.Emitted.{comma, told}
 
 -- ## Members and items of JSON, with a comma before the first or not
 

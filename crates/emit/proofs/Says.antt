@@ -6,8 +6,8 @@ use mathlib.Core.Bool.{Bool}
 use mathlib.Core.List.{List, [], _++_}
 use mathlib.Core.Option.{Option, none, some}
 use Rattle.ascii.specs.Bytes.{_>>=_}
-use Rattle.ascii.specs.Reader.{rest}
-use Rattle.emit.specs.Emitted.{Emits, comma, told, Says}
+use Rattle.ascii.specs.contracts.Reader.{rest}
+use Rattle.emit.specs.contracts.Emitted.{Emits, comma, told, Says}
 use Rattle.emit.proofs.Pieces.{both}
 
 pub never : {A : Type 0} {t : A} → none ≡ some t → ⊥

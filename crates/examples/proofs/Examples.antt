@@ -1,8 +1,8 @@
 -- The examples, by computing. Assumes nothing.
 use mathlib.Core.Path.{_≡_, refl}
 use Rattle.report.specs.Notes.{noteMember, notedMembers, notedValue, notedReport}
-use Rattle.examples.specs.Demo.{demo, noted, stage, oneModule, reported, onOff, kelvin, initial, small, counted, valueAndTarget, ramp, staged, edited, around}
-use Rattle.examples.specs.Theorems.{examples, exchanges, changing, failing, talking, pieceCalls, repliesTo, lastWritten, ExamplesAreRight, FiveMilliseconds, WholeReport, NotedReport, TablesAreGood, OutboxExample, BrokenSensor, WhoTalks, ExchangesAreRight, ramping, Ramps, repliesOf, visiting, NextEdition}
+use Rattle.examples.specs.Demo.{demo, noted, stage, oneModule, reported, onOff, kelvin, initial, small, counted, valueAndTarget, ramp, staged, edited, around, percent, heated}
+use Rattle.examples.specs.Theorems.{examples, exchanges, changing, failing, talking, pieceCalls, repliesTo, lastWritten, ExamplesAreRight, FiveMilliseconds, WholeReport, NotedReport, TablesAreGood, OutboxExample, BrokenSensor, WhoTalks, ExchangesAreRight, ramping, Ramps, repliesOf, visiting, NextEdition, heating, PartOfAStruct}
 use Rattle.examples.proofs.Computed.{computed}
 
 pub examples-are-right : ExamplesAreRight
@@ -27,8 +27,8 @@ unfolding computed noteMember notedMembers notedValue notedReport noted around o
 noted-report = (refl, refl)
 
 pub tables-are-good : TablesAreGood
-unfolding computed demo noted stage staged ramp edited valueAndTarget around oneModule reported onOff kelvin initial small counted
-tables-are-good = (refl, refl, refl, refl, refl, refl)
+unfolding computed demo noted stage staged ramp edited valueAndTarget heated percent around oneModule reported onOff kelvin initial small counted
+tables-are-good = (refl, refl, refl, refl, refl, refl, refl)
 
 pub outbox-example : OutboxExample
 unfolding computed stage staged valueAndTarget around oneModule kelvin initial small counted changing lastWritten
@@ -49,3 +49,7 @@ next-edition = (refl, refl)
 pub who-talks : WhoTalks
 unfolding computed stage staged valueAndTarget around oneModule kelvin initial small counted talking lastWritten
 who-talks = refl
+
+pub part-of-a-struct : PartOfAStruct
+unfolding computed heated percent around onOff kelvin initial small counted heating lastWritten
+part-of-a-struct = refl

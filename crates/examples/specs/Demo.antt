@@ -105,3 +105,32 @@ ramp most =
 -- the table of the outbox example with an edition (M-107)
 unfoldable pub edited : List ℕ
 edited = around (bytes "ED" ++ counted "ISSE,SECoP,V2021-02-17,v2.0") staged
+
+-- int 0 to 100
+unfoldable pub percent : List ℕ
+percent = (2 ∷ []) ++ small 0 ++ small 100
+
+-- five settings of a heater (M-113), all optional but the mode, in a table with an edition
+unfoldable pub heated : List ℕ
+heated =
+    around (bytes "ED" ++ counted "ISSE,SECoP,x")
+    (bytes "PA"
+    ++ counted "heater"
+    ++ counted "settings"
+    ++ (0 ∷ 11 ∷ 5 ∷ [])
+    ++ (0 ∷ [])
+    ++ counted "mode"
+    ++ onOff
+    ++ (1 ∷ [])
+    ++ counted "p"
+    ++ percent
+    ++ (1 ∷ [])
+    ++ counted "i"
+    ++ percent
+    ++ (1 ∷ [])
+    ++ counted "limit"
+    ++ kelvin
+    ++ (1 ∷ [])
+    ++ counted "name"
+    ++ (5 ∷ 0 ∷ 0 ∷ 0 ∷ 8 ∷ [])
+    ++ initial "{\"mode\":0,\"p\":20,\"i\":3,\"limit\":300,\"name\":\"a b\"}")

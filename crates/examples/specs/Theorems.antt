@@ -17,7 +17,7 @@ use Rattle.plain.specs.Node.{begin}
 use Rattle.plain.specs.Calls.{Open, Piece, Reading, Unreadable, Call, withArea, withOutbox}
 use Rattle.plain.specs.History.{answers, sent, sentBytes}
 use Rattle.rule.specs.Records.{repliesFor}
-use Rattle.examples.specs.Demo.{demo, noted, stage, ramp, edited}
+use Rattle.examples.specs.Demo.{demo, noted, stage, ramp, edited, heated}
 use Rattle.examples.specs.Told.{AllAsDue}
 use Rattle.examples.specs.Histories.{histories}
 
@@ -35,6 +35,7 @@ to300 = double (record { whole = pos 0; power = pos 0 }) (record { whole = pos 3
 abbrev pub to2-50 : Datainfo
 to2-50 = double (record { whole = pos 0; power = pos 0 }) (record { whole = pos 250; power = negsuc 1 })
 
+-- [V-5, V-6, L-1, L-3, L-13, L-17]
 unfoldable pub examples : List Example
 examples =
     judged to300 (bytes "300") fits
@@ -94,6 +95,7 @@ abbrev pub TablesAreGood : Type 0
 TablesAreGood =
     (tableNumber demo ≡ 0) × (tableNumber noted ≡ 0) × (tableNumber stage ≡ 0) × (tableNumber (ramp 14) ≡ 0) × (tableNumber (ramp 13) ≡ 0)
     × (tableNumber edited ≡ 0)
+    × (tableNumber heated ≡ 0)
 
 -- ## The outbox example: "client 2 sends `change t1:target 12` at 1500"
 
@@ -227,6 +229,46 @@ WhoTalks = lastWritten stage talking
     ++ bytes "_counted . [[2,1,0,0],{\"t\":2.000}]\n"
     ++ (0x52 ∷ 0x50 ∷ 0x05 ∷ 0x00 ∷ 0x23 ∷ [])
     ++ bytes "_counted . [[2,0,3,1],{\"t\":2.500}]\n"
+
+-- ## Part of a struct (M-113): two settings are checked and then changed, and the others "keep what is shown now"; the mode is required; "where the
+-- parameter is in error, such a change is WrongType", and a change that leaves nothing out ends the error and is stored in table order
+
+unfoldable pub heating : List Call
+heating =
+    withArea (Open 2 0) 16384
+    ∷ withArea (Open 5 0) 16384
+    ∷ withOutbox (Piece 5 (bytes "activate t1\n") 0) 16384 32768
+    ∷ withOutbox (Piece 2 (bytes "ping\n") 0) 16384 32768
+    ∷ withOutbox (Piece 2 (bytes "check t1:heater {\"i\":6,\"mode\":\"on\"}\n") 1000) 16384 32768
+    ∷ withOutbox (Piece 2 (bytes "change t1:heater { \"i\" : 6, \"mode\" : \"on\" }\n") 1500) 16384 32768
+    ∷ withOutbox (Piece 2 (bytes "change t1:heater {\"i\":7}\n") 2000) 16384 32768
+    ∷ withOutbox (Unreadable 0 1 2500) 16384 32768
+    ∷ withOutbox (Piece 2 (bytes "change t1:heater {\"mode\":0}\n") 3000) 16384 32768
+    ∷ withOutbox (Piece 2 (bytes "change t1:heater {\"name\":\"\",\"limit\":1e1,\"i\":7,\"p\":0,\"mode\":0}\n") 3500) 16384 32768
+    ∷ []
+
+abbrev pub PartOfAStruct : Type 0
+PartOfAStruct = lastWritten heated heating
+    ≡ (0x52 ∷ 0x50 ∷ 0x02 ∷ 0x00 ∷ 0x51 ∷ [])
+    ++ bytes "checked t1:heater [{\"mode\":1,\"p\":20,\"i\":6,\"limit\":300,\"name\":\"a b\"},{\"t\":1.000}]\n"
+    ++ (0x44 ∷ 0x52 ∷ 0x02 ∷ 0x00 ∷ 0x31 ∷ 0x00 ∷ [])
+    ++ bytes "{\"mode\":1,\"p\":20,\"i\":6,\"limit\":300,\"name\":\"a b\"}"
+    ++ (0x55 ∷ 0x50 ∷ 0x05 ∷ 0x00 ∷ 0x50 ∷ [])
+    ++ bytes "update t1:heater [{\"mode\":1,\"p\":20,\"i\":6,\"limit\":300,\"name\":\"a b\"},{\"t\":1.500}]\n"
+    ++ (0x52 ∷ 0x50 ∷ 0x02 ∷ 0x00 ∷ 0x51 ∷ [])
+    ++ bytes "changed t1:heater [{\"mode\":1,\"p\":20,\"i\":6,\"limit\":300,\"name\":\"a b\"},{\"t\":1.500}]\n"
+    ++ (0x52 ∷ 0x50 ∷ 0x02 ∷ 0x00 ∷ 0x43 ∷ [])
+    ++ bytes "error_change t1:heater [\"WrongType\",\"value has the wrong type\",{}]\n"
+    ++ (0x55 ∷ 0x50 ∷ 0x05 ∷ 0x00 ∷ 0x45 ∷ [])
+    ++ bytes "error_update t1:heater [\"HardwareError\",\"HardwareError\",{\"t\":2.500}]\n"
+    ++ (0x52 ∷ 0x50 ∷ 0x02 ∷ 0x00 ∷ 0x43 ∷ [])
+    ++ bytes "error_change t1:heater [\"WrongType\",\"value has the wrong type\",{}]\n"
+    ++ (0x44 ∷ 0x52 ∷ 0x02 ∷ 0x00 ∷ 0x2D ∷ 0x00 ∷ [])
+    ++ bytes "{\"mode\":0,\"p\":0,\"i\":7,\"limit\":1e1,\"name\":\"\"}"
+    ++ (0x55 ∷ 0x50 ∷ 0x05 ∷ 0x00 ∷ 0x4C ∷ [])
+    ++ bytes "update t1:heater [{\"mode\":0,\"p\":0,\"i\":7,\"limit\":1e1,\"name\":\"\"},{\"t\":3.500}]\n"
+    ++ (0x52 ∷ 0x50 ∷ 0x02 ∷ 0x00 ∷ 0x4D ∷ [])
+    ++ bytes "changed t1:heater [{\"mode\":0,\"p\":0,\"i\":7,\"limit\":1e1,\"name\":\"\"},{\"t\":3.500}]\n"
 
 -- ## Exchanges of SECoP 1.0, with document 01's error texts and times
 

@@ -1,6 +1,8 @@
 ghost use mathlib.Core.Bool.{true};
 ghost use mathlib.Core.Path.{_≡_};
-ghost use Rattle.examples.specs.Theorems.{ExamplesAreRight, OutboxExample, BrokenSensor, WhoTalks, WholeReport, NotedReport, TablesAreGood, FiveMilliseconds, ExchangesAreRight, HistoriesAreAsDue, Ramps, NextEdition};
+ghost use Rattle.examples.specs.Theorems.{ExamplesAreRight, OutboxExample, BrokenSensor, WhoTalks, WholeReport, NotedReport, TablesAreGood};
+ghost use Rattle.examples.specs.Theorems.{FiveMilliseconds, ExchangesAreRight, HistoriesAreAsDue, Ramps, NextEdition};
+ghost use Rattle.examples.specs.Theorems.{PartOfAStruct};
 
 // Each function here promises a theorem about the definitions. Nothing is run.
 
@@ -70,6 +72,13 @@ pub fn five_milliseconds() -> bool
 // A table with an `ED` record and one without answer the same lines, each by its edition.
 pub fn next_edition() -> bool
     ensures { λ r. ⌜ (r ≡ true) × NextEdition ⌝ }
+{
+    true
+}
+
+// Two of five settings are checked and changed, one is required, and in error nothing may be left out, byte for byte.
+pub fn part_of_a_struct() -> bool
+    ensures { λ r. ⌜ (r ≡ true) × PartOfAStruct ⌝ }
 {
     true
 }

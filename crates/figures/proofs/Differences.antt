@@ -10,16 +10,9 @@ use lib.Signed.{leZ}
 use borrow.Author.Tests.{ltb-true, ltb-false, lt-ltb, le-ltb, le-leb, lt-leb, ne-eqb}
 use Rattle.ascii.specs.Bytes.{head}
 use Rattle.decimal.specs.Decimal.{numeralFrom, numeral}
+use Rattle.decimal.proofs.Integers.{sub-same}
 use Rattle.decimal.proofs.Naturals.{leb-same}
-use Rattle.figures.specs.Tally.{lowest, above, Small}
-
--- two differences that are the same
-sub-same : (a b c d : ℕ) → a + d ≡ c + b → subℕ a b ≡ subℕ c d
-sub-same a b c d e = go (ltb a b) refl
-  where
-    go : (t : Bool) → ltb a b ≡ t → subℕ a b ≡ subℕ c d
-    go true f = let h = ltb-true a b f in rw (f, lt-ltb c d (omega arith)) (ap negsuc (omega arith))
-    go false f = let h = ltb-false a b f in rw (f, le-ltb c d (omega arith)) (ap pos (omega arith))
+use Rattle.figures.specs.contracts.Tally.{belowZero, above, Small}
 
 -- a sum of differences is the difference of the sums
 pub sub-sum : (a b c d : ℕ) → subℕ (a + c) (b + d) ≡ subℕ a b +ℤ subℕ c d
@@ -69,34 +62,34 @@ sub-order a b c = go (ltb a c) (ltb b c) refl refl
 
 -- ## How far a number lies above the least
 
-above-pos : (n : ℕ) → subℕ (lowest + n) lowest ≡ pos n
-above-pos n = rw (le-ltb (lowest + n) lowest (omega arith)) (ap pos (omega arith))
+above-pos : (n : ℕ) → subℕ (belowZero + n) belowZero ≡ pos n
+above-pos n = rw (le-ltb (belowZero + n) belowZero (omega arith)) (ap pos (omega arith))
 
-above-negative : (n : ℕ) → n < lowest → subℕ (lowest - 1 - n) lowest ≡ negsuc n
-above-negative n h = rw (lt-ltb (lowest - 1 - n) lowest (omega arith)) (ap negsuc (omega arith))
+above-negative : (n : ℕ) → n < belowZero → subℕ (belowZero - 1 - n) belowZero ≡ negsuc n
+above-negative n h = rw (lt-ltb (belowZero - 1 - n) belowZero (omega arith)) (ap negsuc (omega arith))
 
-signed-back : (s : Bool) (n : ℕ) → n ≤ lowest → subℕ (above (cond s (negℤ (pos n)) (pos n))) lowest ≡ cond s (negℤ (pos n)) (pos n)
+signed-back : (s : Bool) (n : ℕ) → n ≤ belowZero → subℕ (above (cond s (negℤ (pos n)) (pos n))) belowZero ≡ cond s (negℤ (pos n)) (pos n)
 unfolding above
 signed-back false n h = above-pos n
 signed-back true zero h = above-pos 0
 signed-back true (suc n) h = above-negative n (omega arith)
 
-pub numeral-back : (v : List ℕ) → Small v → subℕ (above (numeral v)) lowest ≡ numeral v
+pub numeral-back : (v : List ℕ) → Small v → subℕ (above (numeral v)) belowZero ≡ numeral v
 unfolding numeral
 numeral-back v h = signed-back (eqb (head v) 45) (numeralFrom 0 v) h
 
-minus-above : (n : ℕ) → n ≤ lowest → lowest - n ≡ above (negℤ (pos n))
+minus-above : (n : ℕ) → n ≤ belowZero → belowZero - n ≡ above (negℤ (pos n))
 unfolding above
 minus-above zero h = omega arith
 minus-above (suc n) h = omega arith
 
 -- the code's two ways
-pub numeral-minus : (t : List ℕ) (n b : ℕ) → n ≡ numeralFrom 0 t → Small t → b ≡ head t → b ≡ 45 → lowest - n ≡ above (numeral t)
+pub numeral-minus : (t : List ℕ) (n b : ℕ) → n ≡ numeralFrom 0 t → Small t → b ≡ head t → b ≡ 45 → belowZero - n ≡ above (numeral t)
 unfolding numeral
 numeral-minus t n b e h f g =
     let z : head t ≡ 45 = sym f ∙ g in
     rw (e, z) (minus-above (numeralFrom 0 t) h)
 
-pub numeral-plus : (t : List ℕ) (n b : ℕ) → n ≡ numeralFrom 0 t → b ≡ head t → (b ≡ 45 → ⊥) → lowest + n ≡ above (numeral t)
+pub numeral-plus : (t : List ℕ) (n b : ℕ) → n ≡ numeralFrom 0 t → b ≡ head t → (b ≡ 45 → ⊥) → belowZero + n ≡ above (numeral t)
 unfolding numeral above
 numeral-plus t n b e f g = rw (e, ne-eqb (head t) 45 (λ z. g (f ∙ z))) refl

@@ -11,7 +11,7 @@ use borrow.Author.Tests.{lt-ltb, le-ltb, le-leb, lt-leb, ne-eqb, eqb-true, eqb-f
 use Rattle.figures.specs.declared.Tally.{Tally}
 use Rattle.figures.specs.declared.Figures.{Figures}
 use Rattle.figures.specs.Figures.{full}
-use Rattle.figures.specs.Tally.{noSettings, lower, higher, noted, tallyAt, Low, Bounded, observed, Observes}
+use Rattle.figures.specs.contracts.Tally.{noSettings, lower, higher, noted, tallyAt, Low, Bounded, observed, Observes}
 
 module _ (a b : ℕ) where
   pub lower-first : a ≤ b → a ≡ lower a b

@@ -21,18 +21,18 @@ use Rattle.ascii.specs.declared.Signed as S
 use Rattle.ascii.specs.declared.Signed.{Signed}
 use Rattle.ascii.specs.Bytes.{isDigit, head}
 use Rattle.ascii.specs.Numbers.{unsigned, signed}
-use Rattle.ascii.specs.Read.{ReadsUnsigned, ReadsSigned}
+use Rattle.ascii.specs.contracts.Read.{ReadsUnsigned, ReadsSigned}
 use Rattle.decimal.specs.Decimal.{Decimal, numeralFrom, numeral}
 use Rattle.datainfo.specs.Datainfo.{Datainfo}
 use Rattle.datainfo.specs.Datainfo as Datainfo
 use Rattle.datainfo.specs.Layout.{limit, doubleAt, intAt, enumAt, stringAt, arrayAt, tupleAt, structAt, scaledAt, blobAt, partialAt, variants, elements}
 use Rattle.datainfo.specs.Layout.{fields, typed, datainfoIn, datainfoAt}
-use Rattle.datainfo.specs.Kept.{ReadsLimit}
+use Rattle.datainfo.specs.contracts.Kept.{ReadsLimit}
 use Rattle.datainfo.specs.declared.rules.Limit as L
 use Rattle.datainfo.specs.declared.rules.Limit.{Limit}
 use Rattle.fit.proofs.Shapes.{nothing, just, either, steps}
 use Rattle.figures.specs.Figures.{isNarrow, isSummed}
-use Rattle.figures.specs.Tally.{lowest, Small, LimitsNarrow, ScaledNarrow, TellsSummed, SetTo, Marks, markOf, above}
+use Rattle.figures.specs.contracts.Tally.{belowZero, Small, LimitsNarrow, ScaledNarrow, TellsSummed, SetTo, Marks, markOf, above}
 use Rattle.figures.proofs.Stored.{stored-small}
 
 -- ## Digits

@@ -23,7 +23,7 @@ use Rattle.fit.specs.Fit.{Verdict, fits, wrongType, badJSON, severity, inRange,
 use Rattle.fit.specs.Fit.{asPartial, atTop, inOrder, stored, storedForm, valueVerdict, verdictOf, verdict, isStored}
 use Rattle.form.proofs.Verdicts.{worse-both, in-range, cond-fits, fit-is}
 use Rattle.figures.specs.Figures.{isNarrow, isSummed}
-use Rattle.figures.specs.Tally.{lowest, Small}
+use Rattle.figures.specs.contracts.Tally.{belowZero, Small}
 
 -- ## The value of a token without a dot and an 'e'
 
@@ -79,7 +79,7 @@ integers-order : (a b : ℤ) → atMost (fromInteger a) (fromInteger b) ≡ leZ 
 unfolding atMost inPower excess
 integers-order a b = ap₂ leZ (one-time a) (one-time b)
 
-narrow-number : (lo hi z : ℤ) → leZ (negsuc 2147483647) lo ≡ true → leZ hi (pos 2147483647) ≡ true → leZ lo z ≡ true → leZ z hi ≡ true → natAbs z ≤ lowest
+narrow-number : (lo hi z : ℤ) → leZ (negsuc 2147483647) lo ≡ true → leZ hi (pos 2147483647) ≡ true → leZ lo z ≡ true → leZ z hi ≡ true → natAbs z ≤ belowZero
 narrow-number lo (pos h) (pos n) a b c d = omega (arith, leb-true h 2147483647 b, leb-true n h d)
 narrow-number lo (negsuc h) (pos n) a b c d = absurd (false≢true d)
 narrow-number (pos l) hi (negsuc n) a b c d = absurd (false≢true c)

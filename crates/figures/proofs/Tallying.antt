@@ -17,8 +17,8 @@ use Rattle.datainfo.specs.Datainfo.{Datainfo}
 use Rattle.fit.specs.Fit.{isStored}
 use Rattle.figures.specs.declared.Tally.{Tally}
 use Rattle.figures.specs.Figures.{isSummed, least, greatest, total, numbersText, full, kept, figureLine}
-use Rattle.figures.specs.Tally.{lowest, above, markOf, Small, noSettings, lower, higher, noted, Sums, Tallies, tallyNumbers, fullText}
-use Rattle.figures.specs.Tally.{countText, tallyLine}
+use Rattle.figures.specs.contracts.Tally.{belowZero, above, markOf, Small, noSettings, lower, higher, noted, Sums, Tallies, tallyNumbers, fullText}
+use Rattle.figures.specs.contracts.Tally.{countText, tallyLine}
 use Rattle.figures.specs.Theorems.{FiguresAreExact}
 use Rattle.figures.proofs.Differences.{sub-sum, sub-order, numeral-back}
 use Rattle.figures.proofs.Keeping.{noted-over, noted-one, noted-some}
@@ -41,19 +41,19 @@ unfolding total
 total-more x [] y = refl
 total-more x (z ∷ ys) y = total-more (x +ℤ z) ys y
 
-lower-is : (a b : ℕ) (y z : ℤ) → subℕ a lowest ≡ y → subℕ b lowest ≡ z → subℕ (lower a b) lowest ≡ cond (leZ y z) y z
+lower-is : (a b : ℕ) (y z : ℤ) → subℕ a belowZero ≡ y → subℕ b belowZero ≡ z → subℕ (lower a b) belowZero ≡ cond (leZ y z) y z
 unfolding lower
-lower-is a b y z e f = rw (← e, ← f, sub-order a b lowest) (go (leb a b))
+lower-is a b y z e f = rw (← e, ← f, sub-order a b belowZero) (go (leb a b))
   where
-    go : (t : Bool) → subℕ (cond t a b) lowest ≡ cond t (subℕ a lowest) (subℕ b lowest)
+    go : (t : Bool) → subℕ (cond t a b) belowZero ≡ cond t (subℕ a belowZero) (subℕ b belowZero)
     go true = refl
     go false = refl
 
-higher-is : (a b : ℕ) (y z : ℤ) → subℕ a lowest ≡ y → subℕ b lowest ≡ z → subℕ (higher a b) lowest ≡ cond (leZ z y) y z
+higher-is : (a b : ℕ) (y z : ℤ) → subℕ a belowZero ≡ y → subℕ b belowZero ≡ z → subℕ (higher a b) belowZero ≡ cond (leZ z y) y z
 unfolding higher
-higher-is a b y z e f = rw (← e, ← f, sub-order b a lowest) (go (leb b a))
+higher-is a b y z e f = rw (← e, ← f, sub-order b a belowZero) (go (leb b a))
   where
-    go : (t : Bool) → subℕ (cond t a b) lowest ≡ cond t (subℕ a lowest) (subℕ b lowest)
+    go : (t : Bool) → subℕ (cond t a b) belowZero ≡ cond t (subℕ a belowZero) (subℕ b belowZero)
     go true = refl
     go false = refl
 
@@ -75,7 +75,7 @@ one-more : (vs : List (List ℕ)) (v : List ℕ) → length (vs ++ (v ∷ [])) �
 one-more vs v = length-append vs (v ∷ []) ∙ omega arith
 
 module _ (d : Datainfo) (v : List ℕ) (stored : isStored d v ≡ true) where
-  mark-is : isSummed d ≡ true → subℕ (markOf d v) lowest ≡ numeral v
+  mark-is : isSummed d ≡ true → subℕ (markOf d v) belowZero ≡ numeral v
   unfolding markOf
   mark-is s = rw s (numeral-back v (stored-small d v s stored))
 
@@ -96,8 +96,8 @@ module _ (d : Datainfo) (v : List ℕ) (stored : isStored d v ≡ true) where
       })
   sums-next s z zs t x =
       let m = mark-is s in
-      let sum : subℕ (t .sum + markOf d v) ((t .count + 1) * lowest) ≡ total z zs +ℤ numeral v =
-      ap (λ (n : ℕ). subℕ (t .sum + markOf d v) n) (omega arith) ∙ sub-sum (t .sum) (t .count * lowest) (markOf d v) lowest
+      let sum : subℕ (t .sum + markOf d v) ((t .count + 1) * belowZero) ≡ total z zs +ℤ numeral v =
+      ap (λ (n : ℕ). subℕ (t .sum + markOf d v) n) (omega arith) ∙ sub-sum (t .sum) (t .count * belowZero) (markOf d v) belowZero
       ∙ (λ i. x .2 i +ℤ m i) in (
         lower-is (t .least) (markOf d v) (least z zs) (numeral v) (x .0) m ∙ sym (least-more z zs (numeral v)),
         higher-is (t .greatest) (markOf d v) (greatest z zs) (numeral v) (x .1) m ∙ sym (greatest-more z zs (numeral v)),

@@ -11,11 +11,11 @@ use borrow.Author.Tests.{lt-ltb, le-ltb, ltb-true, ltb-false, ne-eqb}
 use Rattle.ascii.specs.Text.{bytes}
 use Rattle.ascii.specs.Numbers.{decimal, integer}
 use Rattle.ascii.proofs.Decimal.{decimal-low}
-use Rattle.emit.specs.Emitted.{Emits}
+use Rattle.emit.specs.contracts.Emitted.{Emits}
 use Rattle.emit.proofs.Pieces.{both, nothing}
 use Rattle.figures.specs.declared.Tally.{Tally}
 use Rattle.figures.specs.Figures.{full}
-use Rattle.figures.specs.Tally.{lowest, Low, tallyNumbers, fullText, countText, tallyLine}
+use Rattle.figures.specs.contracts.Tally.{belowZero, Low, tallyNumbers, fullText, countText, tallyLine}
 
 negative : (n base : ℕ) → n < base → integer (subℕ n base) ≡ bytes "-" ++ decimal (base - n)
 unfolding integer
@@ -37,9 +37,9 @@ module _ {d : List ℕ} {at : ℕ} {e : List ℕ} {r : ℕ} where
   numbers-none t z x = rw z x
 
   pub numbers-some : (t : Tally) → (t .count ≡ 0 → ⊥) → {f g : List ℕ} {p q : ℕ}
-      → Emits d at (bytes " least " ++ integer (subℕ (t .least) lowest)) f p
-      → Emits f p (bytes " greatest " ++ integer (subℕ (t .greatest) lowest)) g q
-      → Emits g q (bytes " sum " ++ integer (subℕ (t .sum) (t .count * lowest))) e r → Emits d at (tallyNumbers t) e r
+      → Emits d at (bytes " least " ++ integer (subℕ (t .least) belowZero)) f p
+      → Emits f p (bytes " greatest " ++ integer (subℕ (t .greatest) belowZero)) g q
+      → Emits g q (bytes " sum " ++ integer (subℕ (t .sum) (t .count * belowZero))) e r → Emits d at (tallyNumbers t) e r
   unfolding tallyNumbers
   numbers-some t n x y z = rw (ne-eqb (t .count) 0 n) (both (both x y) z)
 
@@ -90,15 +90,15 @@ module _ (t : Tally) (b : Low t) where
   numbers-short = go (eqb (t .count) 0)
     where
       go : (u : Bool) → length (cond u (bytes " none")
-          ((bytes " least " ++ integer (subℕ (t .least) lowest)) ++ (bytes " greatest " ++ integer (subℕ (t .greatest) lowest))
-          ++ (bytes " sum " ++ integer (subℕ (t .sum) (t .count * lowest))))) ≤ 85
+          ((bytes " least " ++ integer (subℕ (t .least) belowZero)) ++ (bytes " greatest " ++ integer (subℕ (t .greatest) belowZero))
+          ++ (bytes " sum " ++ integer (subℕ (t .sum) (t .count * belowZero))))) ≤ 85
       go true = omega arith
       go false =
           let c = b .count in
           let s = b .sum in
-          let x = difference-short (t .least) lowest (let l = b .least in omega arith) (omega arith) in
-          let y = difference-short (t .greatest) lowest (let l = b .greatest in omega arith) (omega arith) in
-          let z = difference-short (t .sum) (t .count * lowest) (omega arith) (omega arith) in
+          let x = difference-short (t .least) belowZero (let l = b .least in omega arith) (omega arith) in
+          let y = difference-short (t .greatest) belowZero (let l = b .greatest in omega arith) (omega arith) in
+          let z = difference-short (t .sum) (t .count * belowZero) (omega arith) (omega arith) in
           simp length-append (omega arith)
 
   pub line-short : (m p : List ℕ) (s : Bool) → length m ≤ 63 → length p ≤ 63 → length (tallyLine m p s t) ≤ 245

@@ -1,3 +1,3 @@
 pub mod Figures
-pub mod Tally
 pub mod Theorems
+pub mod contracts

@@ -6,7 +6,7 @@ use Prim.Native.Nat.{ℕ}
 use Rattle.datainfo.specs.Datainfo.{Datainfo}
 use Rattle.fit.specs.Fit.{isStored}
 use Rattle.figures.specs.Figures.{isSummed, figureLine}
-use Rattle.figures.specs.Tally.{noSettings, noted, markOf, Tallies, tallyLine}
+use Rattle.figures.specs.contracts.Tally.{noSettings, noted, markOf, Tallies, tallyLine}
 use Rattle.figures.specs.declared.Tally.{Tally}
 
 pub record FiguresAreExact : Type 0 where

@@ -11,6 +11,7 @@ use datainfo::rules::limit_at;
 use emit::emit;
 use emit::emit_decimal;
 use emit::emit_labelled_decimal;
+use limits::ACCESSIBLES;
 ghost use Prim.Native.Nat.{ℕ, _+_, _-_, _*_, _≤_, _<_};
 ghost use mathlib.Core.Bool.{true, cond};
 ghost use mathlib.Core.List.{[], _++_};
@@ -21,10 +22,10 @@ ghost use Rattle.ascii.specs.Text.{bytes};
 ghost use Rattle.ascii.specs.Numbers.{integer};
 ghost use Rattle.ascii.specs.Bytes.{isDigit};
 ghost use Rattle.decimal.specs.Decimal.{numeralFrom, numeral};
-ghost use Rattle.emit.specs.Emitted.{Emits};
+ghost use Rattle.emit.specs.contracts.Emitted.{Emits};
 ghost use Rattle.figures.specs.Figures.{isNarrow};
-ghost use Rattle.figures.specs.Tally.{Small, above, lower, higher, noted, noSettings, tallyAt, Low, Bounded, Observes, SetTo, Marks};
-ghost use Rattle.figures.specs.Tally.{TellsSummed, LimitsNarrow, ScaledNarrow, tallyNumbers, fullText, countText, tallyLine};
+ghost use Rattle.figures.specs.contracts.Tally.{Small, above, lower, higher, noted, noSettings, tallyAt, Low, Bounded, Observes, SetTo, Marks};
+ghost use Rattle.figures.specs.contracts.Tally.{TellsSummed, LimitsNarrow, ScaledNarrow, tallyNumbers, fullText, countText, tallyLine};
 ghost use Rattle.figures.specs.Theorems.{FiguresAreExact};
 
 // The least number that is kept is its negative, 0 in what is kept.
@@ -43,7 +44,7 @@ pub struct Tally {
 
 // Of each parameter, by its number.
 pub struct Figures {
-    pub tallies: [Tally; 64],
+    pub tallies: [Tally; ACCESSIBLES],
 }
 
 // The number n with the digit that a byte is behind it; n where it is none.
@@ -190,7 +191,7 @@ pub fn no_figures() -> Figures
         least: 0,
         greatest: 0,
         sum: 0,
-    }; 64];
+    }; ACCESSIBLES];
     Figures { tallies }
 }
 

@@ -15,17 +15,17 @@ use Rattle.ascii.specs.declared.Unsigned as U
 use Rattle.ascii.specs.declared.Unsigned.{Unsigned}
 use Rattle.ascii.specs.Bytes.{isSome, same}
 use Rattle.ascii.specs.Numbers.{unsigned, signed}
-use Rattle.ascii.specs.Read.{ReadsUnsigned, ReadsSigned}
-use Rattle.ascii.specs.Reader.{ByteAt, Ends, rest}
+use Rattle.ascii.specs.contracts.Read.{ReadsUnsigned, ReadsSigned}
+use Rattle.ascii.specs.contracts.Reader.{ByteAt, Ends, rest}
 use Rattle.decimal.specs.Token as Token
 use Rattle.json.specs.Json as Json
 use Rattle.json.specs.Json.{Json, null, boolean, bare}
 use Rattle.datainfo.specs.Datainfo.{Datainfo, Variant, enum}
-use Rattle.datainfo.specs.Kept.{nameOf}
+use Rattle.datainfo.specs.contracts.Kept.{nameOf}
 use Rattle.datainfo.specs.Layout.{counted, variants, enumAt}
 use Rattle.fit.specs.Fit.{inRange, expect, expectOr, asNumber, asString, memberNumber, fit}
-use Rattle.fit.specs.Verdict.{Judges}
-use Rattle.fit.specs.Walk.{Quoted, NumberOf}
+use Rattle.fit.specs.contracts.Verdict.{Judges}
+use Rattle.fit.specs.contracts.Walk.{Quoted, NumberOf}
 use Rattle.fit.specs.declared.Verdict.{Verdict}
 use Rattle.fit.specs.declared.Verdict.the-variants.{Fits, RangeError, WrongType}
 use Rattle.fit.proofs.Judged.{judges-of, same-read, same-left}

@@ -21,22 +21,24 @@ use Rattle.ascii.specs.declared.Signed as S
 use Rattle.ascii.specs.declared.Signed.{Signed}
 use Rattle.ascii.specs.Bytes.{isSome, any}
 use Rattle.ascii.specs.Numbers.{unsigned, signed}
-use Rattle.ascii.specs.Reader.{Ends, rest}
-use Rattle.ascii.specs.Read.{ReadsUnsigned, ReadsSigned}
+use Rattle.ascii.specs.contracts.Reader.{Ends, rest}
+use Rattle.ascii.specs.contracts.Read.{ReadsUnsigned, ReadsSigned}
 use Rattle.decimal.specs.Token.{isWhole}
 use Rattle.decimal.specs.Token as Token
 use Rattle.decimal.specs.Decimal.{Decimal, between, exactly, isWithinLimits}
-use Rattle.decimal.specs.Exact.{decimal}
+use Rattle.decimal.specs.declared.compare.TokenValue.{TokenValue}
+use Rattle.decimal.specs.contracts.Exact.{decimal, ValueOf, liesBetween}
+use Rattle.decimal.proofs.Values.{lies}
 use Rattle.json.specs.Json.{Json, null, boolean, bare, upTo}
 use Rattle.json.specs.Json as Json
 use Rattle.json.proofs.ReadAgain.{of-some, number-takes}
 use Rattle.datainfo.specs.Datainfo.{Datainfo, Variant, double, int, enum, bool, scaled}
 use Rattle.datainfo.specs.Layout.{limit, doubleAt, intAt, counted, variants, enumAt, stringAt, scaledAt, blobAt}
-use Rattle.datainfo.specs.Kept.{ReadsLimit}
+use Rattle.datainfo.specs.contracts.Kept.{ReadsLimit}
 use Rattle.datainfo.specs.declared.rules.Limit as L
 use Rattle.datainfo.specs.declared.rules.Limit.{Limit}
 use Rattle.fit.specs.Fit.{fits, rangeError, wrongType, inRange, expect, expectOr, asNumber, asString, doubleFit, wholeFit, betweenIntegers, isVariant, fit}
-use Rattle.fit.specs.Verdict.{meaning, Judges, numeric, plain}
+use Rattle.fit.specs.contracts.Verdict.{meaning, Judges, numeric, plain}
 use Rattle.fit.specs.declared.Verdict.{Verdict}
 use Rattle.fit.specs.declared.Verdict.the-variants.{Fits, RangeError, WrongType}
 use Rattle.fit.proofs.Judged.{judges-none, judges-is, judges-of, same-read, same-left}
@@ -201,12 +203,12 @@ module _ (s : List ℕ) (at : ℕ) (t : List ℕ) (i n : ℕ) (m : Members s at 
       members-cut f r w = judges-of refl λ d x g. variants-some n (drop i s) h (m .from w g .reads) λ k' r' v y ws b c o z.
           absurd (nothing (sym (rw f at l) ∙ (rw (past b) at c)))
 
-      module _ (v : ℤ) (b : ℕ) (f : u ≡ S.the-variants.Read v b) (i1 : SFits w64 v) (c : Bool)
-          (g : c ≡ (isWithinLimits t && between (decimal (back w64 v) (pos 0)) (decimal (back w64 v) (pos 0)) (exactly t))) where
+      module _ (v : ℤ) (b : ℕ) (f : u ≡ S.the-variants.Read v b) (i1 : SFits w64 v) (c : Bool) (sent : TokenValue) (is : ValueOf t sent)
+          (g : c ≡ liesBetween (decimal (back w64 v) (pos 0)) (decimal (back w64 v) (pos 0)) sent) where
         -- whether t is the first member's value
         is-first : {y : ℤ} {r ws : List ℕ} {k' : List ℕ} → counted (drop i s) ≡ some (k', r) → signed 4 r ≡ some (y, ws)
             → c ≡ (isWithinLimits t && between (decimal y (pos 0)) (decimal y (pos 0)) (exactly t))
-        is-first {y} a' b' = let z : v ≡ y = same-read ((rw f at l) .0) (rw (past a') at b') in rw (toZ-ofZ i1, z) at g
+        is-first {y} a' b' = let z : v ≡ y = same-read ((rw f at l) .0) (rw (past a') at b') in rw (toZ-ofZ i1, z) at (g ∙ lies t (decimal (back w64 v) (pos 0)) (decimal (back w64 v) (pos 0)) sent is)
 
         pub members-found : c ≡ true → isWhole t ≡ true → Judges (enumAt (drop at s)) (some (Json.number t, [])) Fits
         unfolding inRange isVariant betweenIntegers any

@@ -17,8 +17,8 @@ use Rattle.ascii.specs.declared.Unsigned as U
 use Rattle.ascii.specs.declared.Unsigned.{Unsigned}
 use Rattle.ascii.specs.Bytes.{head, part}
 use Rattle.ascii.specs.Numbers.{unsigned}
-use Rattle.ascii.specs.Reader.{ByteAt, Left, Ends, rest}
-use Rattle.ascii.specs.Read.{ReadsUnsigned}
+use Rattle.ascii.specs.contracts.Reader.{ByteAt, Left, Ends, rest}
+use Rattle.ascii.specs.contracts.Read.{ReadsUnsigned}
 use Rattle.ascii.proofs.Bytes.{tail-drop}
 use Rattle.json.specs.Json.{Json, Items, no-items, item, skip, bare}
 use Rattle.datainfo.specs.Datainfo.{Datainfo, array, tuple, Elements, no-elements, element}
@@ -26,8 +26,8 @@ use Rattle.datainfo.specs.Layout.{arrayAt, elements, tupleAt, datainfoIn}
 use Rattle.datainfo.specs.Rules.{isBetween}
 use Rattle.fit.specs.Fit.{fits, wrongType, inRange, expect, worse, itemCount, worstItem, elementsFit, fit}
 use Rattle.fit.specs.Fit as Fit
-use Rattle.fit.specs.Verdict.{meaning, Judges, Limits}
-use Rattle.fit.specs.Walk.{first, afterItem}
+use Rattle.fit.specs.contracts.Verdict.{meaning, Judges, Limits}
+use Rattle.fit.specs.contracts.Walk.{first, afterItem}
 use Rattle.fit.specs.declared.Verdict.{Verdict}
 use Rattle.fit.specs.declared.Verdict.the-variants.{Fits, WrongType}
 use Rattle.fit.proofs.Judged.{worse-fits, fits-worse, worse-worse, same-read, same-left}

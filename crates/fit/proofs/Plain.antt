@@ -11,21 +11,21 @@ use Rattle.ascii.specs.declared.Unsigned as U
 use Rattle.ascii.specs.declared.Unsigned.{Unsigned}
 use Rattle.ascii.specs.Bytes.{_>>=_, all, head}
 use Rattle.ascii.specs.Numbers.{unsigned}
-use Rattle.ascii.specs.Reader.{ByteAt}
-use Rattle.ascii.specs.Read.{ReadsUnsigned}
+use Rattle.ascii.specs.contracts.Reader.{ByteAt}
+use Rattle.ascii.specs.contracts.Read.{ReadsUnsigned}
 use Rattle.json.specs.Json.{Json, bare}
 use Rattle.json.specs.Json as Json
 use Rattle.json.specs.Characters.{characters}
 use Rattle.base64.specs.Base64.{blobSize}
-use Rattle.base64.specs.Answer as Answer
+use Rattle.base64.specs.contracts.Answer as Answer
 use Rattle.base64.specs.declared.Size.{Size}
 use Rattle.base64.specs.declared.Size.the-variants.{Of, Bad}
 use Rattle.datainfo.specs.Datainfo.{Datainfo, bool, string, blob}
 use Rattle.datainfo.specs.Layout.{stringAt, blobAt}
 use Rattle.datainfo.specs.Rules.{isBetween}
 use Rattle.fit.specs.Fit.{inRange, expect, asString, stringFit, blobFit, fit}
-use Rattle.fit.specs.Verdict.{meaning, Judges, Limits}
-use Rattle.fit.specs.Walk.{Quoted}
+use Rattle.fit.specs.contracts.Verdict.{meaning, Judges, Limits}
+use Rattle.fit.specs.contracts.Walk.{Quoted}
 use Rattle.fit.specs.declared.Verdict.{Verdict}
 use Rattle.fit.specs.declared.Verdict.the-variants.{Fits, RangeError, WrongType}
 use Rattle.fit.proofs.Judged.{judges-of, same-read, same-left}

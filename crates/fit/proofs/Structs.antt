@@ -14,20 +14,20 @@ use Rattle.ascii.specs.declared.Unsigned as U
 use Rattle.ascii.specs.declared.Unsigned.{Unsigned}
 use Rattle.ascii.specs.Bytes.{head, all, count, same}
 use Rattle.ascii.specs.Numbers.{unsigned}
-use Rattle.ascii.specs.Reader.{ByteAt, Ends, rest}
-use Rattle.ascii.specs.Read.{ReadsUnsigned}
+use Rattle.ascii.specs.contracts.Reader.{ByteAt, Ends, rest}
+use Rattle.ascii.specs.contracts.Read.{ReadsUnsigned}
 use Rattle.ascii.proofs.Bytes.{tail-drop}
 use Rattle.ascii.proofs.Lists.{both}
 use Rattle.json.specs.Json.{object, Members, bare, value, objectEnd}
 use Rattle.datainfo.specs.Datainfo.{Datainfo, Fields, no-fields, field, Parts, fieldNames}
 use Rattle.datainfo.specs.Layout.{entry, joined, fields, datainfoIn}
-use Rattle.datainfo.specs.Members.{membersAt}
-use Rattle.datainfo.specs.Kept.{nameIn}
+use Rattle.datainfo.specs.contracts.Members.{membersAt}
+use Rattle.datainfo.specs.contracts.Kept.{nameIn}
 use Rattle.datainfo.proofs.Structs.{fields-none, fields-some, name-read}
 use Rattle.fit.specs.Fit.{expect, worse, keys, eachOnce, valueAt, fit, fieldsFit}
 use Rattle.fit.specs.Fit as Fit
-use Rattle.fit.specs.Verdict.{meaning, Judges, JudgesStruct, JudgesFields}
-use Rattle.fit.specs.Walk.{OfBoth, Finds}
+use Rattle.fit.specs.contracts.Verdict.{meaning, Judges, JudgesStruct, JudgesFields}
+use Rattle.fit.specs.contracts.Walk.{OfBoth, Finds}
 use Rattle.fit.specs.declared.Verdict.{Verdict}
 use Rattle.fit.specs.declared.Verdict.the-variants.{Fits, WrongType}
 use Rattle.fit.proofs.Judged.{worse-fits, fits-worse, worse-worse}

@@ -11,14 +11,14 @@ use borrow.Author.Tests.{eqb-true, ne-eqb}
 use Rattle.ascii.specs.declared.Unsigned as U
 use Rattle.ascii.specs.declared.Unsigned.{Unsigned}
 use Rattle.ascii.specs.Numbers.{unsigned}
-use Rattle.ascii.specs.Read.{ReadsUnsigned}
+use Rattle.ascii.specs.contracts.Read.{ReadsUnsigned}
 use Rattle.json.specs.Json.{Json}
 use Rattle.datainfo.specs.Datainfo.{Datainfo}
 use Rattle.datainfo.specs.Layout.{arrayAt, tupleAt, typed, datainfoIn}
-use Rattle.datainfo.specs.Members.{membersAt}
+use Rattle.datainfo.specs.contracts.Members.{membersAt}
 use Rattle.datainfo.proofs.Structs.{struct-members, partial-members}
 use Rattle.fit.specs.Fit.{fit}
-use Rattle.fit.specs.Verdict.{Judges, JudgesStruct, numeric, plain}
+use Rattle.fit.specs.contracts.Verdict.{Judges, JudgesStruct, numeric, plain}
 use Rattle.fit.specs.declared.Verdict.{Verdict}
 use Rattle.fit.proofs.Judged.{judges-none, judges-like}
 

@@ -12,11 +12,11 @@ ghost use Rattle.json.specs.Json as Json;
 ghost use Rattle.json.specs.Json.{bare, value, objectEnd};
 ghost use Rattle.datainfo.specs.Datainfo as Datainfo;
 ghost use Rattle.datainfo.specs.Layout.{doubleAt, intAt, enumAt, stringAt, arrayAt, tupleAt, scaledAt, blobAt, datainfoIn};
-ghost use Rattle.datainfo.specs.Members.{membersAt};
+ghost use Rattle.datainfo.specs.contracts.Members.{membersAt};
 ghost use Rattle.datainfo.specs.Rules.{isBetween};
 ghost use Rattle.fit.specs.Fit as Fit;
 ghost use Rattle.fit.specs.Fit.{isFit, inRange, wholeFit, betweenIntegers};
-ghost use Rattle.fit.specs.Verdict.{meaning, Judges, JudgesStruct, JudgesFields, Limits, numeric, plain};
+ghost use Rattle.fit.specs.contracts.Verdict.{meaning, Judges, JudgesStruct, JudgesFields, Limits, numeric, plain};
 use super::Verdict;
 use super::member::number_of;
 use super::object::each_once;
@@ -41,6 +41,8 @@ use datainfo::rules::limit_at;
 use datainfo::rules::named_at;
 use decimal::compare::is_between;
 use decimal::compare::is_whole;
+use decimal::compare::lies_between;
+use decimal::compare::value_of;
 use decimal::token::number_end;
 use json::characters::all_low;
 use json::characters::count;
@@ -104,7 +106,7 @@ pub fn range_fit(passes: bool) -> Verdict
     Verdict::RangeError
 }
 
-// A number token, of which any is of the kind. `is_between` is the exact comparison, here and for int, scaled and enum.
+// A number token, of which any is of the kind. `is_between` is the exact comparison, here and for int and scaled; an enum's is the one that it does.
 fn double_fit(s: &[u8], at: usize, t: &[u8]) -> Verdict
     requires { ⌜ at ≤ length (now s) ⌝ }
     ensures { λ r. ⌜ Judges (doubleAt (drop at (now (s .entry)))) (some (Json.number (now (t .entry)), [])) r ⌝ }
@@ -152,7 +154,7 @@ fn scaled_fit(s: &[u8], at: usize, t: &[u8]) -> Verdict
     int_fit(s, limits, t)
 }
 
-// Whether the token t is the value of a member of an enum; of tokens with a dot or an 'e' nothing is said.
+// Whether the token t, which is read once, is the value of a member of an enum; of tokens with a dot or an 'e' nothing is said.
 fn member_fit(s: &[u8], at: usize, t: &[u8]) -> Verdict
     requires { ⌜ at ≤ length (now s) ⌝ }
     ensures { λ r. ⌜ (isWhole (now (t .entry)) ≡ true → Judges (enumAt (drop at (now (s .entry)))) (some (Json.number (now (t .entry)), [])) r) ⌝ }
@@ -160,6 +162,7 @@ fn member_fit(s: &[u8], at: usize, t: &[u8]) -> Verdict
     let Unsigned::Read(members, from) = unsigned(s, at, 1) else {
         return Verdict::WrongType;
     };
+    let sent = value_of(t);
     let mut i = from;
     let mut left = members;
     while 0 < left {
@@ -169,7 +172,7 @@ fn member_fit(s: &[u8], at: usize, t: &[u8]) -> Verdict
         let Signed::Read(value, e) = signed(s, n, 4) else {
             return Verdict::WrongType;
         };
-        if is_between(value, 0, value, 0, t) {
+        if lies_between(value, 0, value, 0, sent) {
             return Verdict::Fits;
         }
         i = e;

@@ -2,7 +2,7 @@
 ghost use Prim.Native.Nat.{_≤_};
 ghost use lib.ListN.{length, drop};
 ghost use Rattle.datainfo.specs.Layout.{enumAt};
-ghost use Rattle.fit.specs.Walk.{NumberOf};
+ghost use Rattle.fit.specs.contracts.Walk.{NumberOf};
 use ascii::Next;
 use ascii::Signed;
 use ascii::Unsigned;

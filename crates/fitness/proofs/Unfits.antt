@@ -12,14 +12,14 @@ use Rattle.ascii.specs.Bytes.{any}
 use Rattle.ascii.specs.Numbers.{latest}
 use Rattle.datainfo.specs.Datainfo.{Datainfo}
 use Rattle.datainfo.specs.Layout.{datainfoAt, ReadableAt}
-use Rattle.fit.specs.Verdict.{TellsStored}
+use Rattle.fit.specs.contracts.Verdict.{TellsStored}
 use Rattle.table.specs.Layout.{tableOf}
 use Rattle.table.specs.Search.{parametersOf, parameters}
-use Rattle.table.specs.At.{parameterOf}
+use Rattle.table.specs.contracts.At.{parameterOf}
 use Rattle.table.specs.declared.layout.ParameterAt.{ParameterAt}
 use Rattle.search.specs.declared.cursor.Cursor.{Cursor}
 use Rattle.search.specs.declared.cursor.NextParameter as P
-use Rattle.search.specs.Left.{OnWay, FirstCursor, NextParameterIs}
+use Rattle.search.specs.contracts.Left.{OnWay, FirstCursor, NextParameterIs}
 use Rattle.search.proofs.Finds.{Counted, counted-parameters, number-end, number-is, number-on}
 use Rattle.report.specs.Judge.{tableNumber}
 use Rattle.plain.specs.Node.{clientNumbers}
@@ -28,7 +28,7 @@ use Rattle.state.specs.declared.Settings.{Settings}
 use Rattle.state.specs.declared.State.{State}
 use Rattle.state.specs.View.{storedText}
 use Rattle.state.specs.Fit.{settingUnfit, settingsUnfit, clientUnfit, isUnfit}
-use Rattle.fitness.specs.Unfit.{TellsUnfit}
+use Rattle.fitness.specs.contracts.Unfit.{TellsUnfit}
 use Rattle.fitness.proofs.Whole.{drop-there, past-64}
 
 -- ## One setting

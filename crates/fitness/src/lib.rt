@@ -7,8 +7,11 @@ ghost use Rattle.table.specs.Layout.{tableOf};
 ghost use Rattle.table.specs.Search.{parameters};
 ghost use Rattle.report.specs.Judge.{tableNumber};
 ghost use Rattle.state.specs.Fit.{isUnfit, settingsUnfit};
-ghost use Rattle.fitness.specs.Unfit.{TellsUnfit};
+ghost use Rattle.fitness.specs.contracts.Unfit.{TellsUnfit};
 use form::is_stored;
+use limits::ACCESSIBLES;
+use limits::LATEST;
+use limits::PLACE;
 use search::cursor::NextParameter;
 use search::cursor::first_cursor;
 use search::cursor::next_parameter;
@@ -26,10 +29,10 @@ fn setting_unfit(table: &[u8], values: &[u8], settings: Settings, k: usize, info
     let times = settings.time;
     let errors = settings.error;
     let size = lengths[k] as usize;
-    if size > 256 {
+    if size > PLACE {
         return true;
     }
-    if times[k] > 9999999999999 {
+    if times[k] > LATEST {
         return true;
     }
     if errors[k] > 4 {
@@ -38,7 +41,7 @@ fn setting_unfit(table: &[u8], values: &[u8], settings: Settings, k: usize, info
     if size == 0 {
         return false;
     }
-    let at = 256 * k;
+    let at = PLACE * k;
     let end = at + size;
     !is_stored(table, info, &values[at..end])
 }
@@ -50,7 +53,7 @@ fn settings_unfit(table: &[u8], values: &[u8], settings: Settings) -> bool
 {
     let mut k = 0;
     let mut cursor = first_cursor(table);
-    while k < 64 {
+    while k < ACCESSIBLES {
         let NextParameter::At(p, next) = next_parameter(table, cursor) else {
             return false;
         };
@@ -69,10 +72,9 @@ pub fn is_unfit(table: &[u8], values: &[u8], state: State) -> bool
     requires { ⌜ (tableNumber (now table) ≡ 0) × (16384 ≤ length (now values)) ⌝ }
     ensures { λ r. ⌜ r ≡ isUnfit (tableOf (now (table .entry))) state (now (values .entry)) ⌝ }
 {
-    let clients = state.clients;
     let settings = state.settings;
     if settings_unfit(table, values, settings) {
         return true;
     }
-    clients_unfit(clients, module_count(table))
+    clients_unfit(state.clients, module_count(table))
 }

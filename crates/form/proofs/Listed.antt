@@ -15,29 +15,29 @@ use Rattle.ascii.specs.declared.Unsigned.{Unsigned}
 use Rattle.ascii.specs.Text.{bytes}
 use Rattle.ascii.specs.Bytes.{any, same, head}
 use Rattle.ascii.specs.Numbers.{unsigned}
-use Rattle.ascii.specs.Read.{ReadsUnsigned}
-use Rattle.ascii.specs.Reader.{Left, Ends}
+use Rattle.ascii.specs.contracts.Read.{ReadsUnsigned}
+use Rattle.ascii.specs.contracts.Reader.{Left, Ends}
 use Rattle.ascii.proofs.Bytes.{tail-drop}
 use Rattle.ascii.proofs.Lists.{same-is}
 use Rattle.json.specs.Json as Json
 use Rattle.json.specs.Json.{Json, null, boolean, Members, no-members, member, skip, bare, value, text, objectEnd, quoted, compact, compactMembers}
 use Rattle.datainfo.specs.Datainfo as Datainfo
-use Rattle.datainfo.specs.Datainfo.{Datainfo, Fields, no-fields, field, Parts, fieldNames}
+use Rattle.datainfo.specs.Datainfo.{Datainfo, Fields, no-fields, field, Parts, fieldNames, fieldOf}
 use Rattle.datainfo.specs.Layout.{joined, fields, typed, datainfoIn}
-use Rattle.datainfo.specs.Kept.{nameIn}
-use Rattle.datainfo.specs.Members.{afterField, membersAt}
+use Rattle.datainfo.specs.contracts.Kept.{nameIn}
+use Rattle.datainfo.specs.contracts.Members.{afterField, membersAt}
 use Rattle.datainfo.proofs.Own.{when-cond, when-double, when-int, when-enum, when-string, when-scaled, when-blob, when-array, when-tuple}
 use Rattle.datainfo.proofs.Structs.{struct-members, partial-members, fields-none, fields-some, past-field, name-read}
-use Rattle.emit.specs.Emitted.{Emits, comma}
+use Rattle.emit.specs.contracts.Emitted.{Emits, comma}
 use Rattle.emit.proofs.Pieces.{both}
 use Rattle.emit.proofs.Pieces.{nothing as nothing-written}
 use Rattle.fit.specs.Fit.{fits, expect, asObject, keys, eachOnce, valueAt, fit, fieldsFit, within, mapMembers, numbered, numberedAt, asPartial, ordered, formOf, storedForm}
 use Rattle.fit.specs.Fit as Fit
-use Rattle.fit.specs.Walk.{Found, Finds}
+use Rattle.fit.specs.contracts.Walk.{Found, Finds}
 use Rattle.fit.proofs.Shapes.{nothing, just, steps, shape, as-object, group-object}
 use Rattle.fit.proofs.Items.{unspaced}
 use Rattle.fit.proofs.Objects.{struct-short, struct-first}
-use Rattle.form.specs.Formed.{fieldOf, FieldFound, FieldIn, Forms, FormsField, FormsFields, FormsOrdered, FormsText}
+use Rattle.form.specs.contracts.Formed.{FieldFound, FieldIn, Forms, FormsField, FormsFields, FormsOrdered, FormsText}
 use Rattle.form.proofs.Verdicts.{cond-fits}
 use Rattle.form.proofs.Trees.{map-value}
 use Rattle.form.proofs.Exchange.{at-null}

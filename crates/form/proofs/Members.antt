@@ -13,23 +13,23 @@ use Rattle.ascii.specs.declared.Next.{Next}
 use Rattle.ascii.specs.declared.Next.the-variants.{At, Bad}
 use Rattle.ascii.specs.Text.{bytes}
 use Rattle.ascii.specs.Bytes.{_>>=_, all, any, count, same, head, tail}
-use Rattle.ascii.specs.Reader.{Left, Ends, rest}
+use Rattle.ascii.specs.contracts.Reader.{Left, Ends, rest}
 use Rattle.ascii.proofs.Bytes.{tail-drop}
 use Rattle.ascii.proofs.Lists.{neither, same-self, same-is, same-other}
 use Rattle.ascii.proofs.Lists as Lists
 use Rattle.json.specs.Json as Json
 use Rattle.json.specs.Json.{Json, null, boolean, Members, no-members, member, skip, key, objectEnd, bare, value, quoted, compact, compactMembers, moreMembers}
-use Rattle.datainfo.specs.Datainfo.{Datainfo, Fields, no-fields, field, Parts, fieldNames}
+use Rattle.datainfo.specs.Datainfo.{Datainfo, Fields, no-fields, field, Parts, fieldNames, fieldOf}
 use Rattle.datainfo.specs.Layout.{datainfoIn}
-use Rattle.datainfo.specs.Members.{membersAt}
-use Rattle.emit.specs.Emitted.{Emits, comma}
+use Rattle.datainfo.specs.contracts.Members.{membersAt}
+use Rattle.emit.specs.contracts.Emitted.{Emits, comma}
 use Rattle.emit.proofs.Pieces.{both}
 use Rattle.emit.proofs.Pieces.{nothing as nothing-written}
 use Rattle.fit.specs.Fit.{Verdict, fits, wrongType, worse, expect, asObject, keys, eachOnce, valueAt, fit, fieldsFit, within, mapMembers, numbered, numberedAt}
-use Rattle.fit.specs.Walk.{first, afterMember, memberValue, Reads}
+use Rattle.fit.specs.contracts.Walk.{first, afterMember, memberValue, Reads}
 use Rattle.fit.proofs.Shapes.{nothing, just, shape, as-object, object-group, group-object}
 use Rattle.fit.proofs.Items.{MembersAt, members-first, members-next, members-none, members-over, members-some, ends-some, unspaced}
-use Rattle.form.specs.Formed.{fieldOf, FieldFound, FieldIn, Forms, FormsMember, FormsMembers, FormsStruct}
+use Rattle.form.specs.contracts.Formed.{FieldFound, FieldIn, Forms, FormsMember, FormsMembers, FormsStruct}
 use Rattle.form.proofs.Verdicts.{worse-both, cond-fits}
 use Rattle.form.proofs.Rows.{has}
 
@@ -94,12 +94,12 @@ none-counted k (j ∷ ks) e = go (same k j) e (none-counted k ks)
     go true e h = absurd (omega arith)
     go false e h = h (rw zero-add at e)
 
-once-alone : (k : List ℕ) (ks : List (List ℕ)) → eqb (count (same k) (k ∷ ks)) 1 ≡ true → any (same k) ks ≡ false
+pub once-alone : (k : List ℕ) (ks : List (List ℕ)) → eqb (count (same k) (k ∷ ks)) 1 ≡ true → any (same k) ks ≡ false
 unfolding count
 once-alone k ks e = none-counted k ks (let z = eqb-true (count (same k) (k ∷ ks)) 1 e in let w : 1 + count (same k) ks ≡ 1 = rw (same-self k) at z in omega arith)
 
 -- the others are counted as before
-count-less : (k : List ℕ) (ks js : List (List ℕ)) → any (same k) js ≡ false → all (λ n. eqb (count (same n) (k ∷ ks)) 1) js ≡ true
+pub count-less : (k : List ℕ) (ks js : List (List ℕ)) → any (same k) js ≡ false → all (λ n. eqb (count (same n) (k ∷ ks)) 1) js ≡ true
     → all (λ n. eqb (count (same n) ks) 1) js ≡ true
 unfolding any count all
 count-less k ks [] e h = refl
@@ -124,7 +124,7 @@ own-all (member k v ms) e =
     (rw (same-self k), own-later k v ms ms a (own-all ms (count-less k (keys ms) (keys ms) a (p .1))))
 
 -- what holds of all names holds of a key that is one
-any-all : (p : List ℕ → Bool) (k : List ℕ) (names : List (List ℕ)) → any (same k) names ≡ true → all p names ≡ true → p k ≡ true
+pub any-all : (p : List ℕ → Bool) (k : List ℕ) (names : List (List ℕ)) → any (same k) names ≡ true → all p names ≡ true → p k ≡ true
 unfolding any all
 any-all p k [] e h = let n : _≡_ {A = ℕ} 0 1 = cc in absurd (omega arith)
 any-all p k (j ∷ names) e h =

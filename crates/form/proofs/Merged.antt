@@ -17,8 +17,8 @@ use Rattle.ascii.specs.declared.Unsigned.{Unsigned}
 use Rattle.ascii.specs.Text.{bytes}
 use Rattle.ascii.specs.Bytes.{_>>=_, isSome, all, any, count, same, head, tail, dropWhile, isSpace}
 use Rattle.ascii.specs.Numbers.{unsigned}
-use Rattle.ascii.specs.Read.{ReadsUnsigned}
-use Rattle.ascii.specs.Reader.{ByteAt, Left, Ends}
+use Rattle.ascii.specs.contracts.Read.{ReadsUnsigned}
+use Rattle.ascii.specs.contracts.Reader.{ByteAt, Left, Ends}
 use Rattle.ascii.proofs.Lists as Lists
 use Rattle.json.specs.Json as Json
 use Rattle.json.specs.Json.{Json, null, boolean, Members, no-members, member, skip, key, members, bare, value, spaced, objectEnd, text, quoted, compact, compactMembers, moreMembers}
@@ -26,20 +26,20 @@ use Rattle.json.specs.Readable.{Readable, ReadableMembers}
 use Rattle.json.proofs.ReadAgain.{Stop, stop-comma, stop-brace, stays}
 use Rattle.json.proofs.ReadBack.{readable-trees, key-again, value-again, members-end, members-text}
 use Rattle.json.proofs.Enough.{members-enough}
-use Rattle.datainfo.specs.Datainfo.{Datainfo, partial, Fields, no-fields, field, Parts, fieldNames}
+use Rattle.datainfo.specs.Datainfo.{Datainfo, partial, Fields, no-fields, field, Parts, fieldNames, fieldOf}
 use Rattle.datainfo.specs.Layout.{joined, fields, datainfoIn}
-use Rattle.datainfo.specs.Kept.{nameIn}
-use Rattle.datainfo.specs.Members.{afterField, membersAt}
+use Rattle.datainfo.specs.contracts.Kept.{nameIn}
+use Rattle.datainfo.specs.contracts.Members.{afterField, membersAt}
 use Rattle.datainfo.proofs.Structs.{fields-none, fields-some, past-field, name-read}
-use Rattle.emit.specs.Emitted.{Emits, comma}
+use Rattle.emit.specs.contracts.Emitted.{Emits, comma}
 use Rattle.emit.proofs.Pieces.{both}
 use Rattle.emit.proofs.Pieces.{nothing as nothing-written}
 use Rattle.fit.specs.Fit.{fits, keys, eachOnce, valueAt, fit, fieldsFit, mapMembers, numbered, numberedAt, ordered, keepMembers, joinMembers, isLeftOut}
-use Rattle.fit.specs.Walk.{OfObject, OfStruct, first}
+use Rattle.fit.specs.contracts.Walk.{OfObject, OfStruct, first}
 use Rattle.fit.proofs.Shapes.{nothing, just}
 use Rattle.fit.proofs.Objects.{struct-short, struct-first}
-use Rattle.form.specs.Formed.{fieldOf, FormsField}
-use Rattle.form.specs.Merged.{TellsLeftOut, StaysFirst, KeepsOne, KeepsAll, isNone, mergedBytes, Merges}
+use Rattle.form.specs.contracts.Formed.{FormsField}
+use Rattle.form.specs.contracts.Merged.{TellsLeftOut, StaysFirst, KeepsOne, KeepsAll, isNone, mergedBytes, Merges}
 use Rattle.form.proofs.Ordered.{Among, among-self, once-among}
 use Rattle.form.proofs.Members.{listed, listed-first, listed-step, listed-end, none-counted, FitsField, field-fits}
 use Rattle.form.proofs.Listed.{exchanged, among-any, stored-at}

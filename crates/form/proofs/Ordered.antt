@@ -59,7 +59,7 @@ once-among fs ks e =
 
 -- ## Names that differ are each once among themselves
 
-count-none : (k : List ℕ) (ks : List (List ℕ)) → any (same k) ks ≡ false → count (same k) ks ≡ 0
+pub count-none : (k : List ℕ) (ks : List (List ℕ)) → any (same k) ks ≡ false → count (same k) ks ≡ 0
 unfolding any count
 count-none k [] e = refl
 count-none k (j ∷ ks) e = let p = neither (same k j) (any (same k) ks) e in rw (p .0, count-none k ks (p .1))
@@ -100,7 +100,7 @@ ordered-keys no-fields ms = refl
 ordered-keys (field k d fs) ms = ap (_∷_ k) (ordered-keys fs ms)
 
 -- each member keeps its value
-ordered-value : (fs : Fields) (ms : Members) (k : List ℕ) → any (same k) (fieldNames fs) ≡ true → valueAt k (ordered fs ms) ≡ valueAt k ms
+pub ordered-value : (fs : Fields) (ms : Members) (k : List ℕ) → any (same k) (fieldNames fs) ≡ true → valueAt k (ordered fs ms) ≡ valueAt k ms
 unfolding ordered valueAt fieldNames any
 ordered-value no-fields ms k e = let n : _≡_ {A = ℕ} 0 1 = cc in absurd (omega arith)
 ordered-value (field j d fs) ms k e = go (same k j) refl e (ordered-value fs ms k)

@@ -14,23 +14,23 @@ use Rattle.ascii.specs.declared.Unsigned.{Unsigned}
 use Rattle.ascii.specs.Text.{bytes}
 use Rattle.ascii.specs.Bytes.{head, tail, part}
 use Rattle.ascii.specs.Numbers.{unsigned}
-use Rattle.ascii.specs.Read.{ReadsUnsigned}
-use Rattle.ascii.specs.Reader.{Left, Ends, rest}
+use Rattle.ascii.specs.contracts.Read.{ReadsUnsigned}
+use Rattle.ascii.specs.contracts.Reader.{Left, Ends, rest}
 use Rattle.ascii.proofs.Bytes.{tail-drop}
 use Rattle.json.specs.Json as Json
 use Rattle.json.specs.Json.{Json, null, boolean, Items, no-items, item, Members, skip, items, arrayEnd, bare, value, compact, compactItems, moreItems}
 use Rattle.datainfo.specs.Datainfo.{Datainfo, array, tuple, Elements, no-elements, element}
 use Rattle.datainfo.specs.Layout.{arrayAt, elements, tupleAt, datainfoIn}
 use Rattle.datainfo.specs.Rules.{isBetween}
-use Rattle.emit.specs.Emitted.{Emits, comma}
+use Rattle.emit.specs.contracts.Emitted.{Emits, comma}
 use Rattle.emit.proofs.Pieces.{both}
 use Rattle.emit.proofs.Pieces.{nothing as nothing-written}
 use Rattle.fit.specs.Fit.{Verdict, fits, wrongType, worse, inRange, expect, asArray, itemCount, worstItem, fit, elementsFit, within, mapItems, numbered, numberedElements}
-use Rattle.fit.specs.Walk.{first, afterItem}
+use Rattle.fit.specs.contracts.Walk.{first, afterItem}
 use Rattle.fit.proofs.Judged.{same-read, same-left}
 use Rattle.fit.proofs.Shapes.{nothing, just, either, steps, Row, empty, full, shape, Tells, yes, no, as-array}
 use Rattle.fit.proofs.Items.{ItemsAt, items-first, items-next, items-none, items-some, items-turns, unspaced}
-use Rattle.form.specs.Formed.{Forms, FormsItem, FormsItems, FormsElements}
+use Rattle.form.specs.contracts.Formed.{Forms, FormsItem, FormsItems, FormsElements}
 use Rattle.form.proofs.Verdicts.{worse-both}
 use Rattle.fit.proofs.Nested.{limits-part, array-some, elements-some, elements-none, tuple-some}
 

@@ -20,7 +20,7 @@ use Rattle.ascii.specs.declared.Signed.{Signed}
 use Rattle.ascii.specs.Text.{bytes}
 use Rattle.ascii.specs.Bytes.{isSome, head, tail, after}
 use Rattle.ascii.specs.Numbers.{integer}
-use Rattle.ascii.specs.Reader.{ByteAt, Ends, rest}
+use Rattle.ascii.specs.contracts.Reader.{ByteAt, Ends, rest}
 use Rattle.decimal.specs.Token as Token
 use Rattle.json.specs.Json as Json
 use Rattle.json.specs.Json.{Json, null, boolean, upTo, inside, stringEnd, giving, scalar, bare, quoted, compact}
@@ -28,13 +28,13 @@ use Rattle.json.proofs.ReadAgain.{Of, failed, gave, of-some, takes-keeps, numbe
 use Rattle.json.proofs.ReadBack.{of-giving}
 use Rattle.datainfo.specs.Datainfo.{Variant}
 use Rattle.datainfo.specs.Layout.{enumAt}
-use Rattle.emit.specs.Emitted.{Emits}
+use Rattle.emit.specs.contracts.Emitted.{Emits}
 use Rattle.fit.specs.Fit.{Verdict, fits, rangeError, inRange, expectOr, expect, asString, asNumber, asArray, asObject, wholeFit, isVariant, memberNumber, fit, within, exchanged, numbered}
-use Rattle.fit.specs.Walk.{Quoted, NumberOf}
+use Rattle.fit.specs.contracts.Walk.{Quoted, NumberOf}
 use Rattle.fit.proofs.Figures.{enum-some}
 use Rattle.fit.proofs.Shapes as Shapes
 use Rattle.fit.proofs.Shapes.{nothing, just, shape, tells-yes, tells-no, as-string, as-array, as-object}
-use Rattle.form.specs.Formed.{Copies, PutsNumber, Forms}
+use Rattle.form.specs.contracts.Formed.{Copies, PutsNumber, Forms}
 
 -- ## A scalar's bytes are its compact text
 

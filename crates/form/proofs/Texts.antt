@@ -11,21 +11,21 @@ use lib.Seq.{sets, sets-eq, take-at}
 use lib.Dec.{leb}
 use borrow.Author.Tests.{le-leb, lt-leb, leb-true, leb-false}
 use Rattle.ascii.specs.Bytes.{isSome, same}
-use Rattle.ascii.specs.Reader.{Left}
-use Rattle.ascii.specs.Writer.{Puts}
+use Rattle.ascii.specs.contracts.Reader.{Left}
+use Rattle.ascii.specs.contracts.Writer.{Puts}
 use Rattle.json.specs.Json.{Json, skip, bare, value, text}
 use Rattle.datainfo.specs.Datainfo.{Datainfo}
 use Rattle.datainfo.specs.Layout.{datainfoIn, ReadableAt}
-use Rattle.emit.specs.Emitted.{capped, Emits}
+use Rattle.emit.specs.contracts.Emitted.{capped, Emits}
 use Rattle.fit.specs.Fit as Fit
 use Rattle.fit.specs.Fit.{fits, rangeError, wrongType, badJSON, severity, worse, inRange, fit, formOf, storedForm, valueVerdict, verdictOf, verdict, isFit, isStored}
-use Rattle.fit.specs.Verdict.{meaning, Judges, JudgesText, TellsStored}
+use Rattle.fit.specs.contracts.Verdict.{meaning, Judges, JudgesText, TellsStored}
 use Rattle.fit.specs.declared.Verdict.{Verdict}
 use Rattle.fit.specs.declared.Verdict.the-variants.{BadJson}
 use Rattle.fit.proofs.Judged.{worse-fits, same-read}
 use Rattle.fit.proofs.Shapes.{nothing, just}
 use Rattle.fit.proofs.Items.{unspaced}
-use Rattle.form.specs.Formed.{FormsText, FormIsLong, FitsAt, PutsForm, TellsOwn}
+use Rattle.form.specs.contracts.Formed.{FormsText, FormIsLong, FitsAt, PutsForm, TellsOwn}
 use Rattle.form.proofs.Verdicts.{fit-is}
 use Rattle.form.proofs.Stored.{stored-short, fits-value}
 use Rattle.form.proofs.Typed.{text-value}

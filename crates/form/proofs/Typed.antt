@@ -13,17 +13,17 @@ use borrow.Author.Tests.{eqb-true, eq-eqb, ne-eqb}
 use Rattle.ascii.specs.declared.Unsigned as U
 use Rattle.ascii.specs.declared.Unsigned.{Unsigned}
 use Rattle.ascii.specs.Numbers.{unsigned, signed}
-use Rattle.ascii.specs.Read.{ReadsUnsigned}
+use Rattle.ascii.specs.contracts.Read.{ReadsUnsigned}
 use Rattle.json.specs.Json as Json
 use Rattle.json.specs.Json.{Json, null, boolean, skip, scalar, bare, value, text, compact}
 use Rattle.datainfo.specs.Datainfo.{Datainfo, double, int, bool, string, scaled, blob}
 use Rattle.datainfo.specs.Layout.{limit, doubleAt, intAt, stringAt, enumAt, arrayAt, tupleAt, scaledAt, blobAt, typed, datainfoIn}
-use Rattle.datainfo.specs.Members.{membersAt}
+use Rattle.datainfo.specs.contracts.Members.{membersAt}
 use Rattle.datainfo.proofs.Structs.{struct-members, partial-members}
-use Rattle.emit.specs.Emitted.{Emits}
+use Rattle.emit.specs.contracts.Emitted.{Emits}
 use Rattle.fit.specs.Fit.{Verdict, fits, expect, asNumber, asBoolean, asString, asArray, asObject, doubleFit, wholeFit, betweenIntegers, stringFit, blobFit, fit, numbered, storedForm}
 use Rattle.fit.proofs.Shapes.{nothing, just, steps, either}
-use Rattle.form.specs.Formed.{Copies, Forms, FormsStruct, FormsText, FormIsLong}
+use Rattle.form.specs.contracts.Formed.{Copies, Forms, FormsStruct, FormsText, FormIsLong}
 use Rattle.form.proofs.Scalars.{Single, number-single, bare-scalar}
 
 -- ## Types that hold no values and no names

@@ -15,8 +15,8 @@ use Rattle.ascii.specs.Text.{bytes}
 use Rattle.ascii.specs.Bytes.{_>>=_, isSome, head, tail, dropWhile, isSpace, isIn}
 use Rattle.decimal.specs.Token as Token
 use Rattle.ascii.specs.Numbers.{unsigned}
-use Rattle.ascii.specs.Read.{ReadsUnsigned}
-use Rattle.ascii.specs.Reader.{ByteAt, Left}
+use Rattle.ascii.specs.contracts.Read.{ReadsUnsigned}
+use Rattle.ascii.specs.contracts.Reader.{ByteAt, Left}
 use Rattle.ascii.proofs.Bytes.{tail-drop}
 use Rattle.ascii.proofs.Lists.{both}
 use Rattle.json.specs.Json as Json
@@ -27,16 +27,16 @@ use Rattle.json.proofs.ReadBack.{readable-trees, key-again, value-again, member
 use Rattle.json.proofs.Enough.{members-enough}
 use Rattle.datainfo.specs.Datainfo.{Datainfo, partial, Fields, Parts, fieldNames}
 use Rattle.datainfo.specs.Layout.{typed, partialAt, datainfoIn}
-use Rattle.datainfo.specs.Members.{membersAt}
+use Rattle.datainfo.specs.contracts.Members.{membersAt}
 use Rattle.datainfo.proofs.Structs.{partial-members}
-use Rattle.emit.specs.Emitted.{Emits, comma}
+use Rattle.emit.specs.contracts.Emitted.{Emits, comma}
 use Rattle.fit.specs.Fit as Fit
 use Rattle.fit.specs.Fit.{Verdict, fits, expect, asObject, keys, eachOnce, fit, fieldsFit, within, onMembers, mapMembers, numberedAt, ordered, keepMembers, joinMembers, isLeftOut}
 use Rattle.fit.specs.Fit.{asPartial, atTop, orNone, membersOf, completed, completedOf, isFit, verdict, isStored}
 use Rattle.fit.proofs.Judged.{same-read}
 use Rattle.fit.proofs.Shapes.{nothing, just, steps, shape, tells-yes, tells-no, as-object, group-object}
-use Rattle.form.specs.Merged.{isNone, mergedBytes, Merges, ShownBy, stored, ShownAt, Completes}
-use Rattle.form.specs.Merged as Merged
+use Rattle.form.specs.contracts.Merged.{isNone, mergedBytes, Merges, ShownBy, stored, ShownAt, Completes}
+use Rattle.form.specs.contracts.Merged as Merged
 use Rattle.form.proofs.Verdicts.{cond-fits}
 use Rattle.form.proofs.Stored.{stored-part, fits-value, fits-text, stored-fits, own-value, own-compact, kept-readable}
 use Rattle.form.proofs.Members.{membersFit}
@@ -78,7 +78,7 @@ unfolding joinMembers
 join-none no-members = refl
 join-none (member k v ks) = ap (member k v) (join-none ks)
 
-same-members : {a b : Members} → Json.object a ≡ Json.object b → a ≡ b
+pub same-members : {a b : Members} → Json.object a ≡ Json.object b → a ≡ b
 same-members e = cc
 
 -- past the '{'
@@ -208,7 +208,7 @@ no-shown d xs (stored e) h = go (text xs) refl
     go (some (Json.object ms)) q = none-there ms q
 
 module _ (shown : Option Json) where
-  same-other : (d : Datainfo) → asPartial d ≡ none → (o : Option Json) → o ≡ completedOf shown d o
+  pub same-other : (d : Datainfo) → asPartial d ≡ none → (o : Option Json) → o ≡ completedOf shown d o
   unfolding completedOf completed atTop
   same-other d e none = refl
   same-other d e (some j) = rw e
@@ -226,7 +226,7 @@ module _ (shown : Option Json) where
       go (some m) (Json.array is) = refl
       go (some m) (Json.object ms) = refl
 
-  same-scalar : (d : Datainfo) (j : Json) → asObject j ≡ none → completed shown d j ≡ j
+  pub same-scalar : (d : Datainfo) (j : Json) → asObject j ≡ none → completed shown d j ≡ j
   unfolding completed atTop within
   same-scalar d j e = go (asPartial d)
     where

@@ -5,7 +5,8 @@ use mathlib.Core.List.{List}
 use mathlib.Core.Option.{Option, none, some}
 use Rattle.ascii.specs.Bytes.{isSome}
 use Rattle.json.specs.Json.{Json, Items, no-items, item, Members}
-use Rattle.datainfo.specs.Datainfo.{Datainfo, double, int, bool, enum, string, array, tuple, struct, scaled, blob, partial, Elements, no-elements, element, Fields, no-fields, field}
+use Rattle.datainfo.specs.Datainfo.{Datainfo, double, int, bool, enum, string, array, tuple, struct, scaled, blob, partial, Elements, no-elements, element}
+use Rattle.datainfo.specs.Datainfo.{Fields, no-fields, field}
 use Rattle.fit.specs.Fit.{asNumber, asArray, asObject, valueAt}
 
 -- a test of what a value of one kind holds; any other value passes

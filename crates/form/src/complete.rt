@@ -8,8 +8,8 @@ ghost use lib.ListN.{length, drop};
 ghost use Rattle.ascii.specs.Bytes.{isSome, head};
 ghost use Rattle.json.specs.Json.{value, objectEnd, text};
 ghost use Rattle.datainfo.specs.Layout.{datainfoIn};
-ghost use Rattle.datainfo.specs.Members.{membersAt};
-ghost use Rattle.form.specs.Merged.{TellsLeftOut, StaysFirst, KeepsOne, KeepsAll, Merges, ShownAt, Completes};
+ghost use Rattle.datainfo.specs.contracts.Members.{membersAt};
+ghost use Rattle.form.specs.contracts.Merged.{TellsLeftOut, StaysFirst, KeepsOne, KeepsAll, Merges, ShownAt, Completes};
 use crate::write::put_field;
 use ascii::Next;
 use ascii::Unsigned;
@@ -28,7 +28,8 @@ use json::read::spaces_end;
 // Whether a member of a name is optional and left out of the object past the '{' at p.
 fn is_left_out(s: &[u8], i: usize, v: &[u8], p: usize, name: &[u8]) -> bool
     requires { ⌜ (i ≤ length (now s)) × (p < length (now v)) ⌝ }
-    ensures { λ r. ⌜ TellsLeftOut (membersAt (datainfoIn 3) 11 (drop i (now (s .entry)))) (objectEnd (value 7) (drop (p + 1) (now (v .entry)))) (now (name .entry)) r ⌝ }
+    ensures { λ r. ⌜ TellsLeftOut (membersAt (datainfoIn 3) 11 (drop i (now (s .entry)))) (objectEnd (value 7) (drop (p + 1) (now (v .entry))))
+        (now (name .entry)) r ⌝ }
 {
     if is_optional(s, i, 3, name) {
         return count_key(v, p + 1, 7, name) == 0;
@@ -39,7 +40,8 @@ fn is_left_out(s: &[u8], i: usize, v: &[u8], p: usize, name: &[u8]) -> bool
 // Whether the next that is written would be the first.
 fn stays_first(s: &[u8], i: usize, v: &[u8], p: usize, name: &[u8], start: bool) -> bool
     requires { ⌜ (i ≤ length (now s)) × (p < length (now v)) ⌝ }
-    ensures { λ r. ⌜ StaysFirst (membersAt (datainfoIn 3) 11 (drop i (now (s .entry)))) (objectEnd (value 7) (drop (p + 1) (now (v .entry)))) (now (name .entry)) start r ⌝ }
+    ensures { λ r. ⌜ StaysFirst (membersAt (datainfoIn 3) 11 (drop i (now (s .entry)))) (objectEnd (value 7) (drop (p + 1) (now (v .entry))))
+        (now (name .entry)) start r ⌝ }
 {
     if is_left_out(s, i, v, p, name) {
         return false;
@@ -60,7 +62,8 @@ fn put_one(
     start: bool,
 ) -> usize
     requires { ⌜ (i ≤ length (now s)) × ((0 < length (now shown)) × (p < length (now v))) ⌝ }
-    ensures { λ r. ⌜ KeepsOne (membersAt (datainfoIn 3) 11 (drop i (now (s .entry)))) (objectEnd (value 7) (drop (p + 1) (now (v .entry)))) (objectEnd (value 7) (drop 1 (now (shown .entry)))) (now (name .entry)) start (now (out .entry)) at (now (out .exit)) r ⌝ }
+    ensures { λ r. ⌜ KeepsOne (membersAt (datainfoIn 3) 11 (drop i (now (s .entry)))) (objectEnd (value 7) (drop (p + 1) (now (v .entry))))
+        (objectEnd (value 7) (drop 1 (now (shown .entry)))) (now (name .entry)) start (now (out .entry)) at (now (out .exit)) r ⌝ }
 {
     if is_left_out(s, i, v, p, name) {
         let a = emit_comma(out, at, start);
@@ -80,7 +83,8 @@ fn put_left_out(
     p: usize,
 ) -> usize
     requires { ⌜ (i ≤ length (now s)) × ((0 < length (now shown)) × (p < length (now v))) ⌝ }
-    ensures { λ r. ⌜ KeepsAll (membersAt (datainfoIn 3) 11 (drop i (now (s .entry)))) (objectEnd (value 7) (drop (p + 1) (now (v .entry)))) (objectEnd (value 7) (drop 1 (now (shown .entry)))) (now (out .entry)) at (now (out .exit)) r ⌝ }
+    ensures { λ r. ⌜ KeepsAll (membersAt (datainfoIn 3) 11 (drop i (now (s .entry)))) (objectEnd (value 7) (drop (p + 1) (now (v .entry))))
+        (objectEnd (value 7) (drop 1 (now (shown .entry)))) (now (out .entry)) at (now (out .exit)) r ⌝ }
 {
     let Unsigned::Read(count, from) = unsigned(s, i, 1) else {
         return at;
@@ -105,7 +109,8 @@ fn put_left_out(
 // The object at p of v, with what it leaves out in front of its own members.
 fn put_merged(out: &mut [u8], s: &[u8], i: usize, shown: &[u8], v: &[u8], p: usize) -> usize
     requires { ⌜ (i ≤ length (now s)) × ((0 < length (now shown)) × (p < length (now v))) ⌝ }
-    ensures { λ r. ⌜ Merges (membersAt (datainfoIn 3) 11 (drop i (now (s .entry)))) (drop (p + 1) (now (v .entry))) (objectEnd (value 7) (drop 1 (now (shown .entry)))) (now (out .entry)) (now (out .exit)) r ⌝ }
+    ensures { λ r. ⌜ Merges (membersAt (datainfoIn 3) 11 (drop i (now (s .entry)))) (drop (p + 1) (now (v .entry)))
+        (objectEnd (value 7) (drop 1 (now (shown .entry)))) (now (out .entry)) (now (out .exit)) r ⌝ }
 {
     let a = emit(out, 0, b"{");
     let b = put_left_out(out, a, s, i, shown, v, p);

@@ -5,8 +5,8 @@ ghost use mathlib.Core.Path.{_≡_};
 ghost use mathlib.Core.Bool.{true};
 ghost use lib.ListN.{length, drop};
 ghost use Rattle.datainfo.specs.Layout.{datainfoIn, ReadableAt};
-ghost use Rattle.fit.specs.Verdict.{JudgesText, TellsStored};
-ghost use Rattle.form.specs.Formed.{FitsAt, PutsForm, TellsOwn};
+ghost use Rattle.fit.specs.contracts.Verdict.{JudgesText, TellsStored};
+ghost use Rattle.form.specs.contracts.Formed.{FitsAt, PutsForm, TellsOwn};
 ghost use Rattle.form.specs.Theorems.{StoredForms};
 ghost use Rattle.json.specs.Json.{text};
 ghost use Rattle.ascii.specs.Bytes.{isSome};
@@ -21,6 +21,9 @@ use fit::fit::is_fit;
 use fit::fit::range_fit;
 use json::read::is_text;
 use json::read::spaces_end;
+use limits::DATAINFO_LEVELS;
+use limits::JSON_LEVELS;
+use limits::PLACE;
 use write::form_length;
 use write::put_text;
 
@@ -38,9 +41,9 @@ fn value_verdict(s: &[u8], at: usize, v: &[u8]) -> Verdict
     requires { ⌜ ReadableAt (now s) at 4 × (isSome (text (now v)) ≡ true) ⌝ }
     ensures { λ r. ⌜ JudgesText (datainfoIn 4 (drop at (now (s .entry)))) (now (v .entry)) r ⌝ }
 {
-    let judged = fit(s, at, 4, v, spaces_end(v, 0), 8);
+    let judged = fit(s, at, DATAINFO_LEVELS, v, spaces_end(v, 0), JSON_LEVELS);
     if is_fit(judged) {
-        return range_fit(form_length(s, at, v) <= 256);
+        return range_fit(form_length(s, at, v) <= PLACE);
     }
     judged
 }
@@ -61,7 +64,7 @@ fn is_own_form(s: &[u8], at: usize, v: &[u8]) -> bool
     requires { ⌜ FitsAt (now s) at (now v) ⌝ }
     ensures { λ r. ⌜ TellsOwn (datainfoIn 4 (drop at (now (s .entry)))) (now (v .entry)) r ⌝ }
 {
-    let mut form = [0; 256];
+    let mut form = [0; PLACE];
     let n = put_form(s, at, &mut form, 0, v);
     same(&form[..n], v)
 }

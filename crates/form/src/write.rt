@@ -6,8 +6,10 @@ ghost use Prim.Native.Nat.{ℕ, _+_, _≤_, _<_};
 ghost use lib.ListN.{length, drop};
 ghost use Rattle.json.specs.Json.{scalar, bare, value, arrayEnd, objectEnd};
 ghost use Rattle.datainfo.specs.Layout.{enumAt, arrayAt, tupleAt, datainfoIn};
-ghost use Rattle.datainfo.specs.Members.{membersAt};
-ghost use Rattle.form.specs.Formed.{Copies, PutsNumber, Forms, FormsItem, FormsItems, FormsElements, FieldIn, FormsMember, FormsMembers, FormsStruct, FormsField, FormsFields, FormsOrdered, FormsText, FormIsLong};
+ghost use Rattle.datainfo.specs.contracts.Members.{membersAt};
+ghost use Rattle.form.specs.contracts.Formed.{Copies, PutsNumber, Forms, FormsItem, FormsItems, FormsElements, FieldIn, FormsMember, FormsMembers};
+ghost use Rattle.form.specs.contracts.Formed.{FormsStruct};
+ghost use Rattle.form.specs.contracts.Formed.{FormsField, FormsFields, FormsOrdered, FormsText, FormIsLong};
 use ascii::Next;
 use ascii::Signed;
 use ascii::Unsigned;
@@ -33,6 +35,8 @@ use fit::walk::next_member;
 use fit::walk::quoted;
 use json::read::scalar_end;
 use json::read::spaces_end;
+use limits::DATAINFO_LEVELS;
+use limits::JSON_LEVELS;
 
 // A value that holds no values: its bytes as they stand.
 fn put_scalar(out: &mut [u8], at: usize, v: &[u8], p: usize) -> usize
@@ -59,7 +63,8 @@ fn put_named(out: &mut [u8], at: usize, s: &[u8], i: usize, name: &[u8]) -> usiz
 // A member of an enum, by its name or by its number.
 fn put_choice(out: &mut [u8], at: usize, s: &[u8], i: usize, v: &[u8], p: usize) -> usize
     requires { ⌜ (i ≤ length (now s)) × (p ≤ length (now v)) ⌝ }
-    ensures { λ r. ⌜ ((depth : ℕ) → Forms (enumAt (drop i (now (s .entry)))) (bare depth (drop p (now (v .entry)))) (now (out .entry)) at (now (out .exit)) r) ⌝ }
+    ensures { λ r. ⌜ ((depth : ℕ) → Forms (enumAt (drop i (now (s .entry)))) (bare depth (drop p (now (v .entry))))
+        (now (out .entry)) at (now (out .exit)) r) ⌝ }
 {
     if byte(v, p) == b'"' {
         return put_named(out, at, s, i, quoted(v, p));
@@ -106,7 +111,8 @@ fn put_item(
     start: bool,
 ) -> usize
     requires { ⌜ (i ≤ length (now s)) × (j ≤ length (now v)) ⌝ }
-    ensures { λ r. ⌜ FormsItem (datainfoIn levels (drop i (now (s .entry)))) (value depth (drop j (now (v .entry)))) start (now (out .entry)) at (now (out .exit)) r ⌝ }
+    ensures { λ r. ⌜ FormsItem (datainfoIn levels (drop i (now (s .entry)))) (value depth (drop j (now (v .entry)))) start
+        (now (out .entry)) at (now (out .exit)) r ⌝ }
 {
     let a = emit_comma(out, at, start);
     put_value(out, a, s, i, levels, v, spaces_end(v, j), depth)
@@ -124,7 +130,8 @@ fn put_items(
     depth: usize,
 ) -> usize
     requires { ⌜ (i ≤ length (now s)) × (p < length (now v)) ⌝ }
-    ensures { λ r. ⌜ FormsItems (datainfoIn levels (drop i (now (s .entry)))) (arrayEnd (value depth) (drop (p + 1) (now (v .entry)))) (now (out .entry)) at (now (out .exit)) r ⌝ }
+    ensures { λ r. ⌜ FormsItems (datainfoIn levels (drop i (now (s .entry)))) (arrayEnd (value depth) (drop (p + 1) (now (v .entry))))
+        (now (out .entry)) at (now (out .exit)) r ⌝ }
 {
     let mut a = at;
     let mut item = first(v, p + 1, b']');
@@ -153,7 +160,8 @@ fn put_array(
     depth: usize,
 ) -> usize
     requires { ⌜ (i ≤ length (now s)) × (p ≤ length (now v)) ⌝ }
-    ensures { λ r. ⌜ Forms (arrayAt (datainfoIn levels) (drop i (now (s .entry)))) (bare depth (drop p (now (v .entry)))) (now (out .entry)) at (now (out .exit)) r ⌝ }
+    ensures { λ r. ⌜ Forms (arrayAt (datainfoIn levels) (drop i (now (s .entry)))) (bare depth (drop p (now (v .entry))))
+        (now (out .entry)) at (now (out .exit)) r ⌝ }
 {
     if depth == 0 {
         return at;
@@ -181,7 +189,8 @@ fn put_elements(
     depth: usize,
 ) -> usize
     requires { ⌜ (i ≤ length (now s)) × (p < length (now v)) ⌝ }
-    ensures { λ r. ⌜ FormsElements (tupleAt (datainfoIn levels) (drop i (now (s .entry)))) (arrayEnd (value depth) (drop (p + 1) (now (v .entry)))) (now (out .entry)) at (now (out .exit)) r ⌝ }
+    ensures { λ r. ⌜ FormsElements (tupleAt (datainfoIn levels) (drop i (now (s .entry)))) (arrayEnd (value depth) (drop (p + 1) (now (v .entry))))
+        (now (out .entry)) at (now (out .exit)) r ⌝ }
 {
     let Unsigned::Read(count, from) = unsigned(s, i, 1) else {
         return at;
@@ -218,7 +227,8 @@ fn put_tuple(
     depth: usize,
 ) -> usize
     requires { ⌜ (i ≤ length (now s)) × (p ≤ length (now v)) ⌝ }
-    ensures { λ r. ⌜ Forms (tupleAt (datainfoIn levels) (drop i (now (s .entry)))) (bare depth (drop p (now (v .entry)))) (now (out .entry)) at (now (out .exit)) r ⌝ }
+    ensures { λ r. ⌜ Forms (tupleAt (datainfoIn levels) (drop i (now (s .entry)))) (bare depth (drop p (now (v .entry))))
+        (now (out .entry)) at (now (out .exit)) r ⌝ }
 {
     if depth == 0 {
         return at;
@@ -244,7 +254,8 @@ fn put_member(
     depth: usize,
 ) -> usize
     requires { ⌜ (i ≤ length (now s)) × (j ≤ length (now v)) ⌝ }
-    ensures { λ r. ⌜ FormsMember (membersAt (datainfoIn levels) k (drop i (now (s .entry)))) depth (drop j (now (v .entry))) (now (out .entry)) at (now (out .exit)) r ⌝ }
+    ensures { λ r. ⌜ FormsMember (membersAt (datainfoIn levels) k (drop i (now (s .entry)))) depth (drop j (now (v .entry)))
+        (now (out .entry)) at (now (out .exit)) r ⌝ }
 {
     let name = key_at(v, j);
     let Next::At(inner) = field_at(s, i, levels, k, name) else {
@@ -270,7 +281,8 @@ fn put_members(
     depth: usize,
 ) -> usize
     requires { ⌜ (i ≤ length (now s)) × (p < length (now v)) ⌝ }
-    ensures { λ r. ⌜ FormsMembers (membersAt (datainfoIn levels) k (drop i (now (s .entry)))) (objectEnd (value depth) (drop (p + 1) (now (v .entry)))) (now (out .entry)) at (now (out .exit)) r ⌝ }
+    ensures { λ r. ⌜ FormsMembers (membersAt (datainfoIn levels) k (drop i (now (s .entry)))) (objectEnd (value depth) (drop (p + 1) (now (v .entry))))
+        (now (out .entry)) at (now (out .exit)) r ⌝ }
 {
     let mut a = at;
     let mut member = first(v, p + 1, b'}');
@@ -301,7 +313,8 @@ fn put_struct(
     depth: usize,
 ) -> usize
     requires { ⌜ (i ≤ length (now s)) × (p ≤ length (now v)) ⌝ }
-    ensures { λ r. ⌜ FormsStruct (membersAt (datainfoIn levels) k (drop i (now (s .entry)))) (bare depth (drop p (now (v .entry)))) (now (out .entry)) at (now (out .exit)) r ⌝ }
+    ensures { λ r. ⌜ FormsStruct (membersAt (datainfoIn levels) k (drop i (now (s .entry)))) (bare depth (drop p (now (v .entry))))
+        (now (out .entry)) at (now (out .exit)) r ⌝ }
 {
     if depth == 0 {
         return at;
@@ -365,7 +378,8 @@ pub(crate) fn put_field(
     name: &[u8],
 ) -> usize
     requires { ⌜ (i ≤ length (now s)) × (p < length (now v)) ⌝ }
-    ensures { λ r. ⌜ FormsField (membersAt (datainfoIn levels) 11 (drop i (now (s .entry)))) (objectEnd (value depth) (drop (p + 1) (now (v .entry)))) (now (name .entry)) (now (out .entry)) at (now (out .exit)) r ⌝ }
+    ensures { λ r. ⌜ FormsField (membersAt (datainfoIn levels) 11 (drop i (now (s .entry)))) (objectEnd (value depth) (drop (p + 1) (now (v .entry))))
+        (now (name .entry)) (now (out .entry)) at (now (out .exit)) r ⌝ }
 {
     let Next::At(inner) = field_at(s, i, levels, 11, name) else {
         return at;
@@ -389,7 +403,8 @@ fn put_fields(
     depth: usize,
 ) -> usize
     requires { ⌜ (i ≤ length (now s)) × (p < length (now v)) ⌝ }
-    ensures { λ r. ⌜ FormsFields (membersAt (datainfoIn levels) 11 (drop i (now (s .entry)))) (objectEnd (value depth) (drop (p + 1) (now (v .entry)))) (now (out .entry)) at (now (out .exit)) r ⌝ }
+    ensures { λ r. ⌜ FormsFields (membersAt (datainfoIn levels) 11 (drop i (now (s .entry)))) (objectEnd (value depth) (drop (p + 1) (now (v .entry))))
+        (now (out .entry)) at (now (out .exit)) r ⌝ }
 {
     let Unsigned::Read(count, from) = unsigned(s, i, 1) else {
         return at;
@@ -414,7 +429,8 @@ fn put_fields(
 // A value at the top level of type 11, past its type byte: its members in table order.
 fn put_ordered(out: &mut [u8], at: usize, s: &[u8], i: usize, v: &[u8], p: usize) -> usize
     requires { ⌜ (i ≤ length (now s)) × (p ≤ length (now v)) ⌝ }
-    ensures { λ r. ⌜ FormsOrdered (membersAt (datainfoIn 3) 11 (drop i (now (s .entry)))) (bare 8 (drop p (now (v .entry)))) (now (out .entry)) at (now (out .exit)) r ⌝ }
+    ensures { λ r. ⌜ FormsOrdered (membersAt (datainfoIn 3) 11 (drop i (now (s .entry)))) (bare 8 (drop p (now (v .entry))))
+        (now (out .entry)) at (now (out .exit)) r ⌝ }
 {
     if v.len() <= p {
         return at;
@@ -436,7 +452,7 @@ pub fn put_text(s: &[u8], i: usize, out: &mut [u8], at: usize, v: &[u8]) -> usiz
     if k == 11 {
         return put_ordered(out, at, s, inner, v, p);
     }
-    put_value(out, at, s, i, 4, v, p, 8)
+    put_value(out, at, s, i, DATAINFO_LEVELS, v, p, JSON_LEVELS)
 }
 
 // How long the stored form is: it is written nowhere.

@@ -8,10 +8,11 @@ use Rattle.ascii.specs.Bytes.{all, isPrintable}
 use Rattle.table.specs.Layout.{tableOf}
 use Rattle.outbox.specs.Outbox.{Record, final, update, orderChange, orderCommand, body}
 use Rattle.plain.specs.Node.{begin}
-use Rattle.plain.specs.Calls.{Call, startNumber}
-use Rattle.plain.specs.History.{answers, sent}
+use Rattle.plain.specs.Calls.{startNumber}
+use Rattle.plain.specs.History.{sent}
+use Rattle.lists.specs.Histories.{Act, results, answersOf}
 
--- "a line with its line feed": bytes 32 to 126, and then a line feed, which so is the only one
+-- "a line with its line feed": bytes 32 to 126, and then a line feed, which so is the only one [C-21]
 pub record OneLine (bs : List ℕ) : Type 0 where
   pub line : List ℕ
   pub is : bs ≡ line ++ bytes "\n"
@@ -24,7 +25,7 @@ Lined (update c r) = OneLine (body (update c r))
 Lined (orderChange c p v) = Unit {0}
 Lined (orderCommand c p v) = Unit {0}
 
--- After an accepted start, each final reply and each update that any call sends is one line.
+-- After an accepted start, each final reply and each update that any call or list sends is one line.
 abbrev pub LinesAreSent : Type 0
-LinesAreSent = (table : List ℕ) (area time : ℕ) → startNumber table area time ≡ 0 → (h : List Call) (x : Record)
-    → List·Memᴰ x (sent (answers table (begin (tableOf table) time) h)) → Lined x
+LinesAreSent = (table : List ℕ) (area time : ℕ) → startNumber table area time ≡ 0 → (h : List Act) (x : Record)
+    → List·Memᴰ x (sent (answersOf (results table (begin (tableOf table) time) h))) → Lined x

@@ -13,7 +13,7 @@ use Rattle.table.specs.Search.{Placed, placedFrom, first, findModule}
 use Rattle.index.specs.Index.{filled}
 use Rattle.index.specs.Search.{Sought, walked, searched}
 
--- "from 0 over parameters and commands together": the number of one is its place in the list
+-- "from 0 over parameters and commands together": the number of one is its place in the list [I-2]
 unfoldable pub accessibles : Table → List (Placed Accessible)
 accessibles t = placedFrom (λ xs. xs) 0 (t .modules)
 
@@ -24,22 +24,22 @@ isNamed m a x = same m (x .moduleName) && same a (accessibleName (x .it))
 unfoldable pub findAccessible : Table → List ℕ → List ℕ → Option (ℕ × Placed Accessible)
 findAccessible t m a = first (isNamed m a) (accessibles t)
 
--- where the place of an accessible in an index starts
+-- where the place of an accessible in an index starts [I-4]
 abbrev pub startOf : Placed Accessible → ℕ
 startOf x = startPlace (x .moduleName) (accessibleName (x .it))
 
--- "128 bytes of index, filled once from it": the index of a table
+-- "128 bytes of index, filled once from it": the index of a table [I-4]
 unfoldable pub indexOf : Table → List ℕ
 indexOf t = filled (map startOf (accessibles t))
 
 -- The accessible of two names, sought with what is lent: the first 128 bytes of it are the index. Where it has fewer there is none, and the search is
--- the walk alone.
+-- the walk alone. [I-1, I-5]
 unfoldable pub sought : Table → List ℕ → List ℕ → List ℕ → Sought (Placed Accessible)
 sought t lent m a =
     cond (ltb (length lent) 128) (walked (isNamed m a) (accessibles t))
     (searched (isNamed m a) (startPlace m a) (take 128 lent) (accessibles t))
 
--- "0 where no accessible is sought (only a line's `M:P` or `M:C`, its module found)"
+-- "0 where no accessible is sought (only a line's `M:P` or `M:C`, its module found)" [I-6]
 unfoldable pub seekSteps : Table → List ℕ → List ℕ → List ℕ → ℕ
 seekSteps t lent m a = cond (isSome (findModule t m)) (sought t lent m a .steps) 0
 

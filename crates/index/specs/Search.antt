@@ -7,7 +7,7 @@ use lib.ListN.{getElem?}
 use Rattle.ascii.specs.Bytes.{_>>=_, isSome}
 use Rattle.index.specs.Index.{isFree, around}
 
--- what is found, with its number, and how many bytes or accessibles were looked at
+-- what is found, with its number, and how many bytes or accessibles were looked at [I-6]
 pub record Sought (A : Type 0) : Type 0 where
   pub found : Option (ℕ × A)
   pub steps : ℕ
@@ -34,16 +34,16 @@ module _ {A : Type 0} where
   orElse r w = cond (isSome (r .found)) r (later (r .steps) w)
 
 module _ {A : Type 0} (p : A → Bool) where
-  -- the accessible of number b, if it is there and passes
+  -- the accessible of number b, if it is there and passes [I-5]
   unfoldable pub offered : List A → ℕ → Option (ℕ × A)
   offered l b = getElem? l b >>= λ x. cond (p x) (some (b, x)) none
 
-  -- "byte by byte, until the offered accessible's names match the table, a 255 is met or all 128 were seen"
+  -- "byte by byte, until the offered accessible's names match the table, a 255 is met or all 128 were seen" [I-5]
   unfoldable pub looked : List A → List ℕ → Sought A
   looked l [] = nothing
   looked l (b ∷ bs) = cond (isFree b) (ended none) (orLater (offered l b) (looked l bs))
 
-  -- "walks the table's accessibles in order, up to the match or the end"; the first has the number n
+  -- "walks the table's accessibles in order, up to the match or the end"; the first has the number n [I-5]
   unfoldable pub walkedFrom : ℕ → List A → Sought A
   walkedFrom n [] = nothing
   walkedFrom n (x ∷ xs) = cond (p x) (ended (some (n, x))) (later 1 (walkedFrom (suc n) xs))
@@ -51,6 +51,6 @@ module _ {A : Type 0} (p : A → Bool) where
   unfoldable pub walked : List A → Sought A
   walked l = walkedFrom 0 l
 
-  -- "A search looks from the same place": from the place `start` of an index on
+  -- "A search looks from the same place": from the place `start` of an index on [I-5]
   unfoldable pub searched : ℕ → List ℕ → List A → Sought A
   searched start index l = orElse (looked l (around start index)) (walked l)

@@ -1,4 +1,6 @@
 // Filling an index of 128 bytes.
+use limits::FREE;
+use limits::INDEX;
 ghost use mathlib.Core.Path.{_≡_};
 ghost use Prim.Native.Nat.{_<_};
 ghost use lib.ListN.{length};
@@ -9,8 +11,8 @@ pub fn clear(index: &mut [u8])
     ensures { λ r. ⌜ now (index .exit) ≡ empty ⌝ }
 {
     let mut i = 0;
-    while i < 128 {
-        index[i] = 255;
+    while i < INDEX {
+        index[i] = FREE;
         i += 1;
     }
 }
@@ -22,12 +24,12 @@ fn place_from(index: &[u8], start: usize) -> usize
 {
     let mut n: usize = 0;
     let mut p = start;
-    while n < 128 {
-        if index[p] == 255 {
+    while n < INDEX {
+        if index[p] == FREE {
             return p;
         }
         n += 1;
-        p = (p + 1) % 128;
+        p = (p + 1) % INDEX;
     }
     p
 }

@@ -12,20 +12,20 @@ use native.Mathlib.Omega.{arith}
 use borrow.Author.Tests.{ne-eqb}
 use Rattle.ascii.specs.Text.{bytes}
 use Rattle.ascii.specs.Numbers.{decimal, integer, unsigned, signed}
-use Rattle.ascii.specs.Read.{ReadsUnsigned, ReadsSigned}
+use Rattle.ascii.specs.contracts.Read.{ReadsUnsigned, ReadsSigned}
 use Rattle.ascii.specs.declared.Unsigned as U
 use Rattle.ascii.specs.declared.Signed as S
 use Rattle.decimal.specs.Decimal.{Decimal}
-use Rattle.decimal.specs.Exact.{decimal as decimalOf}
+use Rattle.decimal.specs.contracts.Exact.{decimal as decimalOf}
 use Rattle.json.specs.Json.{quoted, compact, compactMembers, moreMembers}
 use Rattle.datainfo.specs.declared.rules.Limit as L
-use Rattle.datainfo.specs.Kept.{ReadsLimit}
+use Rattle.datainfo.specs.contracts.Kept.{ReadsLimit}
 use Rattle.datainfo.specs.Datainfo as Datainfo
 use Rattle.datainfo.specs.Datainfo.{Datainfo}
 use Rattle.datainfo.specs.Layout.{limit, doubleAt, intAt, stringAt, arrayAt, scaledAt, blobAt, datainfoIn}
 use Rattle.report.specs.Report.{decimalText, datainfoValue}
-use Rattle.emit.specs.Emitted.{Emits, told, Says}
-use Rattle.infos.specs.Texts.{datainfoText, arrayLimits, opening, closing}
+use Rattle.emit.specs.contracts.Emitted.{Emits, told, Says}
+use Rattle.infos.specs.contracts.Texts.{datainfoText, arrayLimits, opening, closing}
 use Rattle.emit.proofs.Pieces.{both, after, handed}
 use Rattle.emit.proofs.Says.{says-nothing, says-text, mapped}
 

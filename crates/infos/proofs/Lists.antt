@@ -9,16 +9,16 @@ use lib.IntN.{ℤ}
 use Rattle.ascii.specs.Text.{bytes}
 use Rattle.ascii.specs.Bytes.{_>>=_, part}
 use Rattle.ascii.specs.Numbers.{integer, unsigned, signed}
-use Rattle.ascii.specs.Reader.{rest}
+use Rattle.ascii.specs.contracts.Reader.{rest}
 use Rattle.json.specs.Json.{Json, Items, no-items, item, Members, no-members, member, quoted, compact, compactItems, moreItems, compactMembers, moreMembers}
 use Rattle.datainfo.specs.Datainfo as Datainfo
 use Rattle.datainfo.specs.Datainfo.{Datainfo, Variant, Elements, Fields, Parts}
 use Rattle.datainfo.specs.Layout.{counted, flagged, entry, joined, variants, enumAt, elements, tupleAt, fields, structAt, partialAt}
-use Rattle.datainfo.specs.Members.{afterHeld, afterMember, membersAt}
+use Rattle.datainfo.specs.contracts.Members.{afterHeld, afterMember, membersAt}
 use Rattle.datainfo.proofs.Ends.{signed-rest}
 use Rattle.report.specs.Report.{variantValues, elementValues, fieldValues, datainfoValue}
-use Rattle.emit.specs.Emitted.{comma, told}
-use Rattle.infos.specs.Texts.{datainfoText, opening, closing, heldText, memberText, membersText, countText, listText}
+use Rattle.emit.specs.contracts.Emitted.{comma, told}
+use Rattle.infos.specs.contracts.Texts.{datainfoText, opening, closing, heldText, memberText, membersText, countText, listText}
 use Rattle.emit.proofs.Says.{rest-told}
 use Rattle.emit.proofs.Listed.{listed, listed-first, listed-more, listedItems, items-first, items-more, list-step, told-told}
 

@@ -13,17 +13,17 @@ use Rattle.ascii.specs.declared.Next.the-variants.{At, Bad}
 use Rattle.ascii.specs.Text.{bytes}
 use Rattle.ascii.specs.Bytes.{_>>=_}
 use Rattle.ascii.specs.Numbers.{integer, signed}
-use Rattle.ascii.specs.Reader.{Ends, rest}
+use Rattle.ascii.specs.contracts.Reader.{Ends, rest}
 use Rattle.json.specs.Json.{quoted, compact, compactMembers, moreMembers}
 use Rattle.datainfo.specs.Datainfo as Datainfo
 use Rattle.datainfo.specs.Datainfo.{Datainfo}
 use Rattle.datainfo.specs.Layout.{entry, doubleAt, intAt, stringAt, arrayAt, scaledAt, blobAt, typed, datainfoIn}
-use Rattle.datainfo.specs.Members.{afterMember}
-use Rattle.datainfo.specs.Kept.{nameIn}
+use Rattle.datainfo.specs.contracts.Members.{afterMember}
+use Rattle.datainfo.specs.contracts.Kept.{nameIn}
 use Rattle.datainfo.proofs.Ends.{no-byte, one-byte, datainfo-cut, datainfo-typed}
 use Rattle.report.specs.Report.{datainfoValue}
-use Rattle.emit.specs.Emitted.{Emits, comma, told, Says}
-use Rattle.infos.specs.Texts.{NameEnds, datainfoText, opening, closing, heldText, memberText, membersText, countText, listText}
+use Rattle.emit.specs.contracts.Emitted.{Emits, comma, told, Says}
+use Rattle.infos.specs.contracts.Texts.{NameEnds, datainfoText, opening, closing, heldText, memberText, membersText, countText, listText}
 use Rattle.emit.proofs.Pieces.{both, nothing}
 use Rattle.emit.proofs.Says.{never, says-nothing, says-text, Leads, parts-none, parts-more}
 use Rattle.infos.proofs.Lists.{enum-list, tuple-list, struct-list, partial-list, member-rest}

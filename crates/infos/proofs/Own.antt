@@ -15,23 +15,23 @@ use Rattle.ascii.specs.declared.Unsigned.{Unsigned}
 use Rattle.ascii.specs.Text.{bytes}
 use Rattle.ascii.specs.Bytes.{_>>=_, head}
 use Rattle.ascii.specs.Numbers.{unsigned}
-use Rattle.ascii.specs.Read.{ReadsUnsigned}
-use Rattle.ascii.specs.Reader.{ByteAt, Ends}
+use Rattle.ascii.specs.contracts.Read.{ReadsUnsigned}
+use Rattle.ascii.specs.contracts.Reader.{ByteAt, Ends}
 use Rattle.ascii.proofs.Follows.{then-then}
 use Rattle.json.specs.Json.{no-items, quoted, compact, compactItems, moreItems, compactMembers, moreMembers}
 use Rattle.datainfo.specs.Datainfo as Datainfo
 use Rattle.datainfo.specs.Datainfo.{Datainfo, partial, no-fields, Fields, Parts}
-use Rattle.datainfo.specs.Kept.{nameIn}
+use Rattle.datainfo.specs.contracts.Kept.{nameIn}
 use Rattle.datainfo.specs.Layout.{entry, joined, fields, structAt, partialAt, typed, datainfoIn}
-use Rattle.datainfo.specs.Members.{afterField, membersAt}
+use Rattle.datainfo.specs.contracts.Members.{afterField, membersAt}
 use Rattle.datainfo.proofs.Own.{when-cond, when-double, when-int, when-enum, when-string, when-scaled, when-blob, when-array, when-tuple}
 use Rattle.datainfo.proofs.Structs.{struct-members, fields-none, fields-some, past-field, name-read, entry-flag}
 use Rattle.report.specs.Report.{nameItems, fieldValues, datainfoValue}
-use Rattle.emit.specs.Emitted.{Emits, comma, told, Says}
+use Rattle.emit.specs.contracts.Emitted.{Emits, comma, told, Says}
 use Rattle.emit.proofs.Pieces.{both, nothing}
 use Rattle.emit.proofs.Says.{never, says-nothing, says-text}
 use Rattle.emit.proofs.Listed.{listed, listed-first, listedItems, items-first, items-more}
-use Rattle.infos.specs.Texts.{NamesOptional, StaysFirst, datainfoText, ownText, namesText, opening, countText}
+use Rattle.infos.specs.contracts.Texts.{NamesOptional, StaysFirst, datainfoText, ownText, namesText, opening, countText}
 use Rattle.infos.proofs.Lists.{count-members}
 
 -- ## One member

@@ -21,20 +21,23 @@ use emit::emit_key;
 use emit::emit_labelled_decimal;
 use emit::emit_labelled_integer;
 use emit::emit_string;
+use limits::DATAINFO_LEVELS;
 ghost use mathlib.Core.List.{_++_};
 ghost use Prim.Native.Nat.{_≤_};
 ghost use lib.ListN.{length, drop};
 ghost use Rattle.ascii.specs.Text.{bytes};
 ghost use Rattle.ascii.specs.Numbers.{integer, signed};
 ghost use Rattle.json.specs.Json.{quoted};
-ghost use Rattle.decimal.specs.Exact.{decimal};
+ghost use Rattle.decimal.specs.contracts.Exact.{decimal};
 ghost use Rattle.datainfo.specs.Datainfo as Datainfo;
-ghost use Rattle.datainfo.specs.Kept.{nameIn};
-ghost use Rattle.datainfo.specs.Members.{membersAt};
+ghost use Rattle.datainfo.specs.contracts.Kept.{nameIn};
+ghost use Rattle.datainfo.specs.contracts.Members.{membersAt};
 ghost use Rattle.datainfo.specs.Layout.{doubleAt, intAt, stringAt, entry, arrayAt, partialAt, scaledAt, blobAt, typed, datainfoIn};
 ghost use Rattle.report.specs.Report.{decimalText};
-ghost use Rattle.emit.specs.Emitted.{Emits, told, Says};
-ghost use Rattle.infos.specs.Texts.{NameEnds, NamesOptional, StaysFirst, datainfoText, ownText, namesText, arrayLimits, opening, closing, memberText, countText, listText};
+ghost use Rattle.emit.specs.contracts.Emitted.{Emits, told, Says};
+ghost use Rattle.infos.specs.contracts.Texts.{NameEnds, NamesOptional, StaysFirst, datainfoText, ownText, namesText, arrayLimits, opening, closing};
+ghost use Rattle.infos.specs.contracts.Texts.{memberText};
+ghost use Rattle.infos.specs.contracts.Texts.{countText, listText};
 
 // A decimal, "mantissa, then `e` and the power unless 0", with what stands before it.
 fn emit_limit(out: &mut [u8], at: usize, label: &[u8], m: i64, p: i8) -> usize
@@ -369,5 +372,5 @@ pub fn emit_own(out: &mut [u8], at: usize, s: &[u8], i: usize) -> usize
     if k == 11 {
         return emit_partial(out, at, s, inner);
     }
-    emit_datainfo(out, at, s, i, 4)
+    emit_datainfo(out, at, s, i, DATAINFO_LEVELS)
 }

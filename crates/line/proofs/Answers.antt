@@ -8,14 +8,14 @@ use mathlib.Core.Option.{Option, none, some}
 use lib.ListN.{length}
 use Rattle.ascii.specs.Numbers.{latest}
 use Rattle.ascii.specs.Bytes.{any, takeWhile, dropWhile, tail, same}
-use Rattle.ascii.specs.Writer.{Puts}
+use Rattle.ascii.specs.contracts.Writer.{Puts}
 use Rattle.ascii.specs.Text.{bytes}
 use Rattle.counter.specs.declared.Counts.{Counts}
 use Rattle.message.specs.Line.{Parts, whole, content, beforeSpace, afterSpace, partsOf}
 use Rattle.message.specs.Request.{request}
-use Rattle.message.specs.Parsed.{part, Parted, meaning, Asks}
+use Rattle.message.specs.contracts.Parsed.{part, Parted, Parses, meaning, Asks}
 use Rattle.message.specs.Error.{Denial, class, fault}
-use Rattle.message.specs.Said.{classOf, faultAs}
+use Rattle.message.specs.contracts.Said.{classOf, faultAs}
 use Rattle.message.specs.Reply.{valued, error}
 use Rattle.message.specs.declared.say.Class.the-variants.{ProtocolError}
 use Rattle.message.specs.declared.line.Part.{Part}
@@ -27,7 +27,7 @@ use Rattle.table.specs.Search.{parameters}
 use Rattle.outbox.specs.Outbox.{Record, final, encode, encodeAll}
 use Rattle.plain.specs.Node.{Node, Setting, clientNumbers}
 use Rattle.plain.specs.Answer as Plain
-use Rattle.plain.specs.Answer.{refused, carried, settingsOf, outcome, conclude, answerParts, partsSet}
+use Rattle.plain.specs.Answer.{refused, carried, settingsOf, outcome, conclude, answerParts, partsSet, requestSteps}
 use Rattle.sound.proofs.Accepted.{accepted}
 use Rattle.form.proofs.Stored.{short-stored}
 use Rattle.state.specs.declared.Clients.{Clients}
@@ -44,14 +44,20 @@ use Rattle.state.proofs.Settled as Settled
 use Rattle.state.proofs.Sets.{Settable, AllSettable, all-set}
 use Rattle.sound.proofs.Lists.{there-low}
 use Rattle.state.proofs.Views.{client-view}
-use Rattle.outcome.specs.Outcome.{statusSettings, storedBy, Holds, StatusHolds, Carries, Refuses, Sends, Activates, Stores, OutcomeIs, Comes, Answers}
-use Rattle.outcome.specs.Ready.{Ready}
+use Rattle.outcome.specs.contracts.Outcome.{statusSettings, storedBy, Holds, StatusHolds, Carries, Refuses, Sends, Activates, Stores, OutcomeIs, Comes, Answers}
+use Rattle.outcome.specs.contracts.Ready.{Ready}
 use Rattle.outcome.specs.declared.Status.{Status}
 use Rattle.outcome.specs.declared.Status.the-variants.{Stays, Busy}
 use Rattle.outcome.specs.declared.Outcome.{Outcome}
 use Rattle.outcome.specs.declared.Outcome.the-variants.{Refused, Unreadable, Sent, Active, Stored}
 use Rattle.outcome.specs.declared.Answered.{Answered}
-use Rattle.line.specs.Concluded.{StatusNumbered, Concludable, Denies, Keeps, Passes, Switches, Sets, Concludes}
+use Rattle.line.specs.contracts.Asked.{Carriable}
+use Rattle.line.specs.contracts.Answered.{AnswersLine, RepliesLine}
+use Rattle.line.specs.contracts.Names.{SoughtFor}
+use Rattle.line.proofs.Seeks.{line-steps}
+use Rattle.seek.specs.declared.locate.Placed.{Placed}
+use Rattle.message.specs.declared.line.Parsed as P
+use Rattle.line.specs.contracts.Concluded.{StatusNumbered, Concludable, Denies, Keeps, Passes, Switches, Sets, Concludes}
 use Rattle.line.proofs.Carried.{part-short}
 
 -- one record, written at the front
@@ -221,6 +227,15 @@ module _ (table : List ℕ) (s : State) (values before : List ℕ) (c t : ℕ) (
         let y = x .holds in
         (status-numbered f (x .status), (holds-low y, rw (x .long) (short-stored (y .parameter .it .datainfo) (x .text) (y .fits))))
 
+    pub carriable : (asked : Request) → Asks xs a p asked → Carriable xs p d asked
+    carriable asked k = record { short = short; specifier-in = h .specifier-in; payload-in = h .payload-in; inside = k .inside }
+
+    -- as the code has its action and its specifier
+    pub parts-concludable :
+        (action specifier : List ℕ) → action ≡ part xs a → specifier ≡ part xs p → (mid stored : List ℕ) (asked : Request) (came : Outcome)
+        → Comes table s values before c t came stored mid (meaning xs (part xs p) (part xs d) asked) → Concludable mid action specifier came
+    parts-concludable action specifier e f mid stored asked came x = rw (e, f) (concludable mid stored _ came x)
+
     pub line-answered :
         (asked : Request) → Asks xs a p asked → Sized (s .clients) → Settled.Sized (s .settings) → t ≤ latest
         → (mid stored after : List ℕ) (came : Outcome) (r : Answered)
@@ -233,3 +248,20 @@ module _ (table : List ℕ) (s : State) (values before : List ℕ) (c t : ℕ) (
         answered (partsOf (content (whole xs))) mid stored (outcome w n c t (request (partsOf (content (whole xs))))) after r i z l came
         (rw (requested xs a p d asked h k) at x)
         (rw (h .action-is, h .specifier-is) at y)
+
+    -- with its search
+    pub parts-replied :
+        (index : List ℕ) (asked : Request) → Asks xs a p asked → (found : Placed) → SoughtFor table index xs asked found
+        → (r : Answered) (stored after : List ℕ) → AnswersLine table s values before c t xs r stored after
+        → RepliesLine table s values before c t index xs (record { answered = r; steps = found .steps }) stored after
+    parts-replied index asked k found x r stored after y = record { answers = y; steps = line-steps table index xs a p d h asked k found x }
+
+  -- a line without content seeks nothing
+  pub bad-replied :
+      (index xs : List ℕ) (w : P.Parsed) → Parses xs w → w ≡ P.the-variants.Bad → (after : List ℕ) (written : ℕ)
+      → Puts before 0 (encode (final c (error [] [] (class (classOf ProtocolError))))) after written
+      → RepliesLine table s values before c t index xs (record { answered = record { state = s; written = written }; steps = 0 }) values after
+  unfolding requestSteps partsOf beforeSpace afterSpace takeWhile dropWhile tail request same bytes
+  bad-replied index xs w h z after written puts =
+      let e : content (whole xs) ≡ [] = rw z at h in
+      record { answers = bad-answered xs e after (record { state = s; written = written }) refl puts; steps = rw e }

@@ -10,24 +10,24 @@ use Rattle.ascii.specs.Numbers.{twoBytes, latest}
 use Rattle.ascii.specs.Text.{bytes}
 use Rattle.ascii.specs.Bytes.{all, count, isSpace}
 use Rattle.counter.specs.declared.Counts.{Counts}
-use Rattle.ascii.specs.Writer.{Puts}
+use Rattle.ascii.specs.contracts.Writer.{Puts}
 use Rattle.ascii.proofs.Decimal.{seconds-low, seconds-latest}
 use Rattle.message.specs.Error.{Class, Fault, Denial, class, fault}
 use Rattle.message.specs.Reply.{Reply, identification, pong, counted, error, errorReport, replyLine, identity}
 use Rattle.message.specs.Request as R
 use Rattle.message.specs.Request.{orNull}
-use Rattle.message.specs.Parsed.{part, Within}
+use Rattle.message.specs.contracts.Parsed.{part, Within}
 use Rattle.message.specs.declared.line.Part.{Part}
 use Rattle.message.proofs.Said.{data-length, pong-length, error-length, class-short, fault-short}
 use Rattle.table.specs.Table.{Table}
 use Rattle.table.specs.Layout.{tableOf}
-use Rattle.table.specs.At.{bytesOf, Inside, EditionIs}
+use Rattle.table.specs.contracts.At.{bytesOf, Inside, EditionIs}
 use Rattle.table.specs.declared.edition.Edition as E
 use Rattle.table.specs.declared.layout.Part as TablePart
 use Rattle.report.specs.Judge.{tableNumber}
 use Rattle.sound.proofs.Accepted.{GoodEdition, accepted}
 use Rattle.outbox.specs.Outbox.{final, mark, client, body, encode}
-use Rattle.outbox.specs.Written.{RoomFor}
+use Rattle.outbox.specs.contracts.Written.{RoomFor}
 use Rattle.plain.specs.Node.{Node, below}
 use Rattle.plain.specs.Answer as Plain
 use Rattle.plain.specs.Answer.{carried, outcome}
@@ -43,8 +43,8 @@ use Rattle.ascii.proofs.Lists.{neither}
 use Rattle.state.proofs.Kept.{each-fit}
 use Rattle.state.proofs.Cells.{fit-at}
 use Rattle.state.proofs.Ones.{active-ones}
-use Rattle.outcome.specs.Outcome.{Sends, Comes, ComesAtAny}
-use Rattle.outcome.specs.Ready.{Ready}
+use Rattle.outcome.specs.contracts.Outcome.{Sends, Comes, ComesAtAny}
+use Rattle.outcome.specs.contracts.Ready.{Ready}
 use Rattle.outcome.specs.declared.Outcome.the-variants.{Sent}
 
 -- ## Where the text of an edition lies

@@ -4,20 +4,20 @@ use mathlib.Core.Path.{_≡_, sym, subst, _∙_}
 use mathlib.Core.List.{List}
 use Rattle.ascii.specs.Text.{bytes}
 use Rattle.message.specs.Error.{class, fault}
-use Rattle.message.specs.Said.{classOf, faultAs}
+use Rattle.message.specs.contracts.Said.{classOf, faultAs}
 use Rattle.message.specs.declared.say.Class.{Class}
 use Rattle.message.specs.declared.say.Fault.{Fault}
 use Rattle.plain.specs.Answer.{busy}
 use Rattle.state.specs.declared.Settings.{Settings}
 use Rattle.state.specs.declared.State.{State}
 use Rattle.state.specs.View.{withLength, withSetting, settingsWith}
-use Rattle.outcome.specs.Outcome.{statusSettings}
+use Rattle.outcome.specs.contracts.Outcome.{statusSettings}
 use Rattle.outcome.specs.declared.Status.{Status}
 use Rattle.outcome.specs.declared.Status.the-variants.{Stays, Busy}
 use Rattle.outcome.specs.declared.Outcome.{Outcome}
 use Rattle.outcome.specs.declared.Outcome.the-variants.{Refused, Unreadable, Sent, Active, Stored}
 use Rattle.outcome.specs.declared.Answered.{Answered}
-use Rattle.line.specs.Concluded.{Deniable, StatusNumbered, Concludable, Denies, Passes, Switches, Sets, Concludes}
+use Rattle.line.specs.contracts.Concluded.{Deniable, StatusNumbered, Concludable, Denies, Passes, Switches, Sets, Concludes}
 
 module _ (out action specifier : List ℕ) (came : Outcome) where
   pub may-deny : (e : Class) → came ≡ Refused e → Concludable out action specifier came → Deniable out action specifier

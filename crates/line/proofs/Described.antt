@@ -6,21 +6,21 @@ use mathlib.Core.List.{List, [], _∷_, _++_}
 use lib.ListN.{length, length-append}
 use Rattle.ascii.specs.Text.{bytes}
 use Rattle.ascii.specs.Numbers.{twoBytes}
-use Rattle.ascii.specs.Writer.{Puts}
+use Rattle.ascii.specs.contracts.Writer.{Puts}
 use Rattle.ascii.proofs.Puts.{puts-length, puts-both}
 use Rattle.table.specs.Layout.{tableOf}
 use Rattle.report.specs.Report.{report}
 use Rattle.report.proofs.Faults.{accepted-readable}
-use Rattle.emit.specs.Emitted.{capped}
-use Rattle.describe.specs.Room.{RoomFor}
+use Rattle.emit.specs.contracts.Emitted.{capped}
+use Rattle.describe.specs.contracts.Room.{RoomFor}
 use Rattle.message.specs.Reply.{describing}
 use Rattle.message.specs.Request as R
-use Rattle.outbox.specs.Written.{describingStart}
+use Rattle.outbox.specs.contracts.Written.{describingStart}
 use Rattle.outbox.proofs.Written.{describing-encoded}
 use Rattle.plain.specs.Answer.{outcome}
 use Rattle.sound.proofs.Accepted.{accepted}
-use Rattle.outcome.specs.Outcome.{ComesAtAny}
-use Rattle.outcome.specs.Ready.{Lent}
+use Rattle.outcome.specs.contracts.Outcome.{ComesAtAny}
+use Rattle.outcome.specs.contracts.Ready.{Lent}
 use Rattle.outcome.specs.declared.Outcome.the-variants.{Sent}
 use Rattle.line.proofs.Carried.{sends}
 

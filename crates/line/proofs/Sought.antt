@@ -12,18 +12,19 @@ use Rattle.ascii.specs.Names.{isName}
 use Rattle.table.specs.Table.{Parameter, Command, Table}
 use Rattle.table.specs.Layout.{tableOf}
 use Rattle.table.specs.Search.{Placed, findModule, findParameter, findCommand}
-use Rattle.table.specs.At.{EditionIs}
+use Rattle.table.specs.contracts.At.{EditionIs}
 use Rattle.table.specs.declared.edition.Edition as E
 use Rattle.table.specs.declared.layout.Part.{Part}
 use Rattle.table.specs.declared.layout.ParameterAt.{ParameterAt}
 use Rattle.table.specs.declared.layout.CommandAt.{CommandAt}
 use Rattle.report.specs.Judge.{tableNumber}
-use Rattle.search.specs.Found.{FindsModule, ParameterLocated, CommandLocated, NothingLocated}
+use Rattle.search.specs.contracts.Found.{FindsModule, ParameterLocated, CommandLocated, NothingLocated, Locates}
+use Rattle.search.specs.declared.locate.Located as L
 use Rattle.search.specs.declared.find.FoundModule as F
 use Rattle.table.proofs.Search.{module-there, module-named}
 use Rattle.message.specs.Error as Error
-use Rattle.message.specs.Parsed.{switchRequest, verbRequest}
-use Rattle.message.specs.Said.{classOf}
+use Rattle.message.specs.contracts.Parsed.{switchRequest, verbRequest}
+use Rattle.message.specs.contracts.Said.{classOf}
 use Rattle.message.specs.declared.say.Class.{Class}
 use Rattle.message.specs.declared.say.Class.the-variants as K
 use Rattle.message.specs.declared.line.Verb.{Verb}
@@ -36,11 +37,11 @@ use Rattle.sound.proofs.Lists.{each-at, there-low}
 use Rattle.sound.proofs.Accepted.{GoodModule, accepted}
 use Rattle.state.specs.declared.State.{State}
 use Rattle.state.specs.View.{view}
-use Rattle.outcome.specs.Outcome.{Refuses, OutcomeIs, ComesTo, Comes, OfParameter, OfCommand}
+use Rattle.outcome.specs.contracts.Outcome.{Refuses, OutcomeIs, ComesTo, Comes, OfParameter, OfCommand}
 use Rattle.outcome.specs.declared.Outcome as Code
-use Rattle.switch.specs.Scoped.{Scoped}
+use Rattle.switch.specs.contracts.Scoped.{Scoped}
 use Rattle.switch.proofs.Switches.{few}
-use Rattle.line.specs.Asked.{missingOf, isBuilt}
+use Rattle.line.specs.contracts.Asked.{missingOf, isBuilt}
 
 -- ## Names
 
@@ -157,6 +158,26 @@ module _ (w : Table) (v : Verb) where
 
   pub built : (r : Bool) → r ≡ isBuilt w v → not r ≡ false → isBuilt w v ≡ true
   built r e z = sym e ∙ not-false r z
+
+-- what is located where the edition has the verb
+pub located-built : (s m a : List ℕ) (l : L.Located) (v : Verb) → (isBuilt (tableOf s) v ≡ true → Locates s m a l)
+    → (r : Bool) → r ≡ isBuilt (tableOf s) v → not r ≡ false → Locates s m a l
+located-built s m a l v h r e z = h (built (tableOf s) v r e z)
+
+-- what is located, by its kind
+module _ (s m a : List ℕ) (l : L.Located) (h : Locates s m a l) where
+  pub located-parameter : (k i : ℕ) (q : ParameterAt) → l ≡ L.the-variants.Parameter k i q → ParameterLocated s m a k i q
+  located-parameter k i q z = subst (Locates s m a) z h
+
+  pub located-command : (k i : ℕ) (q : CommandAt) → l ≡ L.the-variants.Command k i q → CommandLocated s m a k i q
+  located-command k i q z = subst (Locates s m a) z h
+
+  module _ (v : Verb) (b : isBuilt (tableOf s) v ≡ true) (xs : List ℕ) (n : Node) (c t : ℕ) (before values : List ℕ) where
+    pub located-nowhere : l ≡ L.the-variants.NoModule → RefusedWith s m a v xs n c t before values K.NoSuchModule
+    located-nowhere z = homeless s m a v xs n c t before values b (subst (Locates s m a) z h)
+
+    pub located-nothing : l ≡ L.the-variants.Nothing → (e : Class) → e ≡ missingOf v → RefusedWith s m a v xs n c t before values e
+    located-nothing z e y = rw y (nothing s m a v xs n c t before values b (subst (Locates s m a) z h))
 
 -- ## Modules
 

@@ -1,3 +1,1 @@
-pub mod Concluded
-pub mod Asked
-pub mod Answered
+pub mod contracts

@@ -1,10 +1,10 @@
 // What follows from an outcome: an error is answered, and what was carried out changes the state.
 ghost use Prim.Native.Nat.{_<_};
 ghost use mathlib.Core.Path.{_≡_};
-ghost use Rattle.message.specs.Parsed.{part, Within};
+ghost use Rattle.message.specs.contracts.Parsed.{part, Within};
 ghost use Rattle.state.specs.View.{settingsWith};
-ghost use Rattle.outcome.specs.Outcome.{statusSettings};
-ghost use Rattle.line.specs.Concluded.{StatusNumbered, Concludable, Concludes};
+ghost use Rattle.outcome.specs.contracts.Outcome.{statusSettings};
+ghost use Rattle.line.specs.contracts.Concluded.{StatusNumbered, Concludable, Concludes};
 use message::line::Part;
 use message::say::Denial;
 use outbox::write::put_final_error;

@@ -1,8 +1,8 @@
 // `describe`: the structure report, written after the start of its record.
 ghost use Prim.Native.Nat.{ℕ};
 ghost use Rattle.message.specs.Request as R;
-ghost use Rattle.outcome.specs.Ready.{Lent};
-ghost use Rattle.outcome.specs.Outcome.{ComesAtAny};
+ghost use Rattle.outcome.specs.contracts.Ready.{Lent};
+ghost use Rattle.outcome.specs.contracts.Outcome.{ComesAtAny};
 use ascii::write::put_byte;
 use describe::structure::put_report;
 use describe::structure::report_length;

@@ -1,16 +1,16 @@
-// `read`, `change`, `do` and `check`: the accessible of two names is located, and what the verb does with it is carried out.
+// `read`, `change`, `do` and `check`: what the verb does with the accessible that is located is carried out.
 ghost use Prim.Native.Nat.{_≤_};
 ghost use mathlib.Core.Path.{_≡_};
 ghost use mathlib.Core.Bool.{true};
 ghost use lib.ListN.{length};
 ghost use Rattle.ascii.specs.Bytes.{isSome};
 ghost use Rattle.ascii.specs.Numbers.{latest};
-ghost use Rattle.search.specs.Found.{ParameterLocated, CommandLocated};
-ghost use Rattle.message.specs.Parsed.{verbRequest};
-ghost use Rattle.outcome.specs.Ready.{Lent, Ready};
-ghost use Rattle.outcome.specs.Outcome.{Comes, ComesAtAny};
+ghost use Rattle.search.specs.contracts.Found.{ParameterLocated, CommandLocated, Locates};
+ghost use Rattle.message.specs.contracts.Parsed.{verbRequest};
+ghost use Rattle.outcome.specs.contracts.Ready.{Lent, Ready};
+ghost use Rattle.outcome.specs.contracts.Outcome.{Comes, ComesAtAny};
 ghost use Rattle.table.specs.Layout.{Readable, tableOf};
-ghost use Rattle.line.specs.Asked.{missingOf, isBuilt};
+ghost use Rattle.line.specs.contracts.Asked.{missingOf, isBuilt};
 use access::change;
 use access::check;
 use access::execute;
@@ -19,7 +19,6 @@ use message::line::Verb;
 use message::say::Class;
 use outcome::Outcome;
 use search::locate::Located;
-use search::locate::locate;
 use state::State;
 use table::edition::Edition;
 use table::edition::edition_of;
@@ -50,7 +49,7 @@ fn is_edited(table: &[u8]) -> bool
 }
 
 // Whether the table's edition has a verb: `check` came with the next one.
-fn is_built(table: &[u8], verb: Verb) -> bool
+pub fn is_built(table: &[u8], verb: Verb) -> bool
     requires { ⌜ Readable (now table) ⌝ }
     ensures { λ r. ⌜ r ≡ isBuilt (tableOf (now (table .entry))) verb ⌝ }
 {
@@ -153,16 +152,17 @@ fn located(
     client: u8,
     time: u64,
     verb: Verb,
+    located: Located,
     module: &[u8],
     name: &[u8],
     text: &[u8],
 ) -> Outcome
     requires { ⌜ Ready (now table) state (now values) (now out) client × ((time ≤ latest) × ((isBuilt (tableOf (now table)) verb ≡ true)
-        × (length (now text) ≤ 1024))) ⌝ }
+        × ((length (now text) ≤ 1024) × Locates (now table) (now «module») (now name) located))) ⌝ }
     ensures { λ r. ⌜ Comes (now (table .entry)) state (now (values .entry)) (now (out .entry)) client time r (now (values .exit)) (now (out .exit))
         (verbRequest verb (now (text .entry)) (now («module» .entry)) (now (name .entry))) ⌝ }
 {
-    match locate(table, module, name) {
+    match located {
         Located::NoModule => Outcome::Refused(Class::NoSuchModule),
         Located::Nothing => Outcome::Refused(missing(verb)),
         Located::Parameter(k, home, q) => at_parameter(
@@ -195,11 +195,13 @@ pub fn named(
     client: u8,
     time: u64,
     verb: Verb,
+    found: Located,
     module: &[u8],
     name: &[u8],
     text: &[u8],
 ) -> Outcome
-    requires { ⌜ Ready (now table) state (now values) (now out) client × ((time ≤ latest) × (length (now text) ≤ 1024)) ⌝ }
+    requires { ⌜ Ready (now table) state (now values) (now out) client × ((time ≤ latest) × ((length (now text) ≤ 1024)
+        × ((isBuilt (tableOf (now table)) verb ≡ true) → Locates (now table) (now «module») (now name) found))) ⌝ }
     ensures { λ r. ⌜ Comes (now (table .entry)) state (now (values .entry)) (now (out .entry)) client time r (now (values .exit)) (now (out .exit))
         (verbRequest verb (now (text .entry)) (now («module» .entry)) (now (name .entry))) ⌝ }
 {
@@ -214,6 +216,7 @@ pub fn named(
         client,
         time,
         verb,
+        found,
         module,
         name,
         text,

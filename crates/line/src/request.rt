@@ -7,10 +7,11 @@ ghost use Rattle.ascii.specs.Numbers.{latest};
 ghost use Rattle.ascii.specs.Text.{bytes};
 ghost use Rattle.message.specs.Request as R;
 ghost use Rattle.message.specs.Request.{orNull};
-ghost use Rattle.message.specs.Parsed.{part, Within, meaning};
-ghost use Rattle.outcome.specs.Ready.{Lent, Ready};
-ghost use Rattle.outcome.specs.Outcome.{Comes, ComesAtAny};
-ghost use Rattle.line.specs.Asked.{Carriable};
+ghost use Rattle.message.specs.contracts.Parsed.{part, Within, meaning};
+ghost use Rattle.outcome.specs.contracts.Ready.{Lent, Ready};
+ghost use Rattle.outcome.specs.contracts.Outcome.{Comes, ComesAtAny};
+ghost use Rattle.line.specs.contracts.Asked.{Carriable};
+ghost use Rattle.line.specs.contracts.Names.{namesOf, LocatedAt};
 use crate::conclude::bytes_of;
 use crate::describing::describe;
 use crate::named::named;
@@ -25,6 +26,7 @@ use outbox::write::put_final_edition;
 use outbox::write::put_final_identification;
 use outbox::write::put_final_pong;
 use outcome::Outcome;
+use search::locate::Located;
 use state::State;
 use state::bits::bit_count;
 use state::count::counts_of;
@@ -90,8 +92,10 @@ pub fn outcome(
     specifier: Part,
     payload: Part,
     asked: Request,
+    located: Located,
 ) -> Outcome
-    requires { ⌜ Ready (now table) state (now values) (now out) client × ((time ≤ latest) × (Carriable (now line) specifier payload asked)) ⌝ }
+    requires { ⌜ Ready (now table) state (now values) (now out) client × ((time ≤ latest) × ((Carriable (now line) specifier payload asked)
+        × LocatedAt (now table) (now line) (namesOf asked) located)) ⌝ }
     ensures { λ r. ⌜ Comes (now (table .entry)) state (now (values .entry)) (now (out .entry)) client time r (now (values .exit)) (now (out .exit))
         (meaning (now (line .entry)) (part (now (line .entry)) specifier) (part (now (line .entry)) payload) asked) ⌝ }
 {
@@ -115,6 +119,7 @@ pub fn outcome(
                 client,
                 time,
                 verb,
+                located,
                 module,
                 name,
                 text,

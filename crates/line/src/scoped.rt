@@ -1,9 +1,9 @@
 // `activate` and `deactivate`, of all modules and of one.
 ghost use mathlib.Core.Option.{none, some};
 ghost use Prim.Native.Nat.{ℕ};
-ghost use Rattle.message.specs.Parsed.{switchRequest};
-ghost use Rattle.outcome.specs.Ready.{Ready};
-ghost use Rattle.outcome.specs.Outcome.{Comes};
+ghost use Rattle.message.specs.contracts.Parsed.{switchRequest};
+ghost use Rattle.outcome.specs.contracts.Ready.{Ready};
+ghost use Rattle.outcome.specs.contracts.Outcome.{Comes};
 use message::line::Switch;
 use message::say::Class;
 use outcome::Outcome;

@@ -10,7 +10,7 @@ use lib.Seq.{take-suc, take-all}
 use lib.Dec.{eqb}
 use Rattle.ascii.specs.Bytes.{all, isPrintable}
 use Rattle.message.specs.Line.{withoutReturn, printable, content, whole}
-use Rattle.message.specs.Parsed.{Ends}
+use Rattle.message.specs.contracts.Parsed.{UpTo}
 
 without-last : (xs : List ℕ) (b : ℕ) → withoutReturn (xs ++ (b ∷ [])) ≡ cond (eqb b 13) xs (xs ++ (b ∷ []))
 unfolding withoutReturn
@@ -26,7 +26,7 @@ without-last (x ∷ y ∷ ys) b = ap (λ (l : List ℕ). x ∷ l) (without-last 
     go true = refl
     go false = refl
 
-pub no-line : (xs : List ℕ) → length xs ≡ 0 → Ends xs 0 (withoutReturn xs)
+pub no-line : (xs : List ℕ) → length xs ≡ 0 → UpTo xs 0 (withoutReturn xs)
 unfolding withoutReturn
 no-line [] h = record { is = refl; within = omega arith }
 no-line (x ∷ xs) h = absurd (omega arith)
@@ -44,17 +44,17 @@ module _ (xs : List ℕ) (some : length xs ≡ 0 → ⊥) where
       ∙ without-last (take (length xs - 1) xs) (getD xs (length xs - 1) 0)
       ∙ ap (cond (eqb (getD xs (length xs - 1) 0) 13) (take (length xs - 1) xs)) (sym last)
 
-  pub one-return : getD xs (length xs - 1) 0 ≡ 13 → Ends xs (length xs - 1) (withoutReturn xs)
+  pub one-return : getD xs (length xs - 1) 0 ≡ 13 → UpTo xs (length xs - 1) (withoutReturn xs)
   one-return e = record { is = sym (without ∙ rw (eq-eqb _ _ e)); within = omega arith }
 
-  pub no-return : (getD xs (length xs - 1) 0 ≡ 13 → ⊥) → Ends xs (length xs) (withoutReturn xs)
+  pub no-return : (getD xs (length xs - 1) 0 ≡ 13 → ⊥) → UpTo xs (length xs) (withoutReturn xs)
   no-return e = record { is = take-all (length xs) xs (omega arith) ∙ sym (without ∙ rw (ne-eqb _ _ e)); within = omega arith }
 
-module _ (xs : List ℕ) (r : ℕ) (e : Ends xs r (withoutReturn xs)) {t : Bool} (d : t ≡ all isPrintable (take r xs)) where
-  pub content-is : t ≡ true → Ends xs r (content (whole xs))
+module _ (xs : List ℕ) (r : ℕ) (e : UpTo xs r (withoutReturn xs)) {t : Bool} (d : t ≡ all isPrintable (take r xs)) where
+  pub content-is : t ≡ true → UpTo xs r (content (whole xs))
   unfolding content printable
   content-is h = record { is = e .is ∙ rw (← (e .is), sym d ∙ h); within = e .within }
 
-  pub content-none : t ≡ false → Ends xs 0 (content (whole xs))
+  pub content-none : t ≡ false → UpTo xs 0 (content (whole xs))
   unfolding content printable
   content-none h = record { is = rw (← (e .is), sym d ∙ h); within = omega arith }

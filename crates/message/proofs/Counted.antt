@@ -6,12 +6,12 @@ use mathlib.Core.List.{List, [], _∷_, _++_}
 use lib.ListN.{length, length-append}
 use Rattle.ascii.specs.Text.{bytes}
 use Rattle.ascii.specs.Numbers.{decimal, seconds}
-use Rattle.ascii.specs.Writer.{Puts}
+use Rattle.ascii.specs.contracts.Writer.{Puts}
 use Rattle.ascii.proofs.Puts.{puts-length, puts-both}
 use Rattle.ascii.proofs.Decimal.{decimal-short}
 use Rattle.counter.specs.declared.Counts.{Counts}
 use Rattle.message.specs.Reply.{dataReport, countsText}
-use Rattle.message.specs.Said.{countedText}
+use Rattle.message.specs.contracts.Said.{countedText}
 use Rattle.message.proofs.Said.{two-1, two-2, data-length}
 
 -- ## A byte and a number

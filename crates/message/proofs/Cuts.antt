@@ -12,7 +12,7 @@ use lib.Dec.{eqb}
 use Rattle.ascii.specs.Bytes.{takeWhile, dropWhile, tail}
 use Rattle.ascii.proofs.Bytes.{tail-drop}
 use Rattle.message.specs.declared.line.Part.{Part}
-use Rattle.message.specs.Parsed.{Within, before, fromStop, after, Stops, Goes, Cuts}
+use Rattle.message.specs.contracts.Parsed.{Within, before, fromStop, after, Stops, Goes, Cuts}
 
 -- ## The first of some byte
 

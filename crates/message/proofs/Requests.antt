@@ -15,7 +15,7 @@ use Rattle.ascii.specs.Names.{isName}
 use Rattle.message.specs.Line.{Parts, beforeSpace, afterSpace, partsOf, content, whole}
 use Rattle.message.specs.Request as R
 use Rattle.message.specs.Request.{modulePart, accessiblePart, scoped, named, orNull, request}
-use Rattle.message.specs.Parsed.{part, Within, Ends, before, fromStop, after, Cuts, Parted, actionOf, meaning, AsksScoped, AsksNamed, Asks, parts, switchRequest, verbRequest}
+use Rattle.message.specs.contracts.Parsed.{part, Within, UpTo, before, fromStop, after, Cuts, Parted, actionOf, meaning, AsksScoped, AsksNamed, Asks, parts, switchRequest, verbRequest}
 use Rattle.message.specs.declared.line.Part.{Part}
 use Rattle.message.specs.declared.line.Cut.{Cut}
 use Rattle.message.specs.declared.line.Switch.{Switch}
@@ -29,7 +29,7 @@ use Rattle.message.specs.declared.line.Request.the-variants as Q
 
 -- ## The parts of a line
 
-module _ (xs : List ℕ) (end : ℕ) (e : Ends xs end (content (whole xs))) where
+module _ (xs : List ℕ) (end : ℕ) (e : UpTo xs end (content (whole xs))) where
   pub no-content : end ≡ 0 → content (whole xs) ≡ []
   no-content z = sym (e .is) ∙ ap (λ (k : ℕ). take k xs) z
 

@@ -9,12 +9,12 @@ use borrow.Author.Tests.{ne-eqb}
 use lib.ListN.{length, length-append}
 use Rattle.ascii.specs.Text.{bytes}
 use Rattle.ascii.specs.Numbers.{seconds}
-use Rattle.ascii.specs.Writer.{Puts}
+use Rattle.ascii.specs.contracts.Writer.{Puts}
 use Rattle.ascii.proofs.Puts.{puts-length, puts-both}
 use Rattle.message.specs.Error as Error
 use Rattle.message.specs.Error.{className, classText, faultName, faultOf}
 use Rattle.message.specs.Reply.{dataReport, faultReport, Held, heldAs, heldReport, reportText, classReport, errorReport, replyLine, pong, error}
-use Rattle.message.specs.Said.{classOf, faultAs, denialOf, heldBy, reportOf, faultFront}
+use Rattle.message.specs.contracts.Said.{classOf, faultAs, denialOf, heldBy, reportOf, faultFront}
 use Rattle.message.specs.declared.say.Class.{Class}
 use Rattle.message.specs.declared.say.Fault.{Fault}
 use Rattle.message.specs.declared.say.Denial.{Denial}

@@ -5,7 +5,7 @@ ghost use lib.ListN.{length};
 ghost use Rattle.ascii.specs.Bytes.{all, isSpace};
 ghost use Rattle.ascii.specs.Names.{isName};
 ghost use Rattle.message.specs.Line.{withoutReturn, content, whole};
-ghost use Rattle.message.specs.Parsed.{Within, part, Ends, Stops, Goes, Cuts, Parses, actionOf, AsksScoped, AsksNamed, Asks};
+ghost use Rattle.message.specs.contracts.Parsed.{Within, part, UpTo, Stops, Goes, Cuts, Parses, actionOf, AsksScoped, AsksNamed, Asks};
 use ascii::names::all_printable;
 use ascii::names::all_spaces;
 use ascii::names::is_name;
@@ -73,7 +73,7 @@ pub enum Request {
 
 // Where a line ends without one final carriage return.
 fn return_end(line: &[u8]) -> usize
-    ensures { λ r. ⌜ Ends (now (line .entry)) r (withoutReturn (now (line .entry))) ⌝ }
+    ensures { λ r. ⌜ UpTo (now (line .entry)) r (withoutReturn (now (line .entry))) ⌝ }
 {
     let n = line.len();
     if n == 0 {
@@ -87,7 +87,7 @@ fn return_end(line: &[u8]) -> usize
 
 // Where the content of a line ends: at 0 where a byte is outside 32 to 126.
 fn content_end(line: &[u8]) -> usize
-    ensures { λ r. ⌜ Ends (now (line .entry)) r (content (whole (now (line .entry)))) ⌝ }
+    ensures { λ r. ⌜ UpTo (now (line .entry)) r (content (whole (now (line .entry)))) ⌝ }
 {
     let end = return_end(line);
     if all_printable(&line[..end]) {

@@ -5,10 +5,11 @@ ghost use mathlib.Core.Option.{none, some};
 ghost use Prim.Native.Nat.{_+_, _≤_};
 ghost use lib.ListN.{length};
 ghost use Rattle.ascii.specs.Numbers.{decimal};
-ghost use Rattle.ascii.specs.Writer.{Puts};
+ghost use Rattle.ascii.specs.contracts.Writer.{Puts};
 ghost use Rattle.message.specs.Error.{faultNumber, faultOf};
-ghost use Rattle.message.specs.Reply.{dataReport, faultReport, heldReport, reportText, classReport, errorReport, optionally, countsText, replyLine, identification, pong, error};
-ghost use Rattle.message.specs.Said.{classOf, faultAs, denialOf, sensorFault, heldBy, reportOf, faultFront, countedText};
+ghost use Rattle.message.specs.Reply.{dataReport, faultReport, heldReport, reportText, classReport, errorReport, optionally, countsText, replyLine};
+ghost use Rattle.message.specs.Reply.{identification, pong, error};
+ghost use Rattle.message.specs.contracts.Said.{classOf, faultAs, denialOf, sensorFault, heldBy, reportOf, faultFront, countedText};
 use ascii::write::put;
 use ascii::write::put_byte;
 use ascii::write::put_decimal;
@@ -176,7 +177,8 @@ fn put_report(
     time: u64,
 ) -> usize
     requires { ⌜ at + length (reportText (reportOf (now «module») (now accessible) (heldBy sensor (now value)) time)) ≤ length (now out) ⌝ }
-    ensures { λ r. ⌜ Puts (now (out .entry)) at (reportText (reportOf (now («module» .entry)) (now (accessible .entry)) (heldBy sensor (now (value .entry))) time)) (now (out .exit)) r ⌝ }
+    ensures { λ r. ⌜ Puts (now (out .entry)) at
+        (reportText (reportOf (now («module» .entry)) (now (accessible .entry)) (heldBy sensor (now (value .entry))) time)) (now (out .exit)) r ⌝ }
 {
     let space = put3(out, at, module, b":", accessible);
     let data = put_byte(out, space, b' ');
@@ -291,7 +293,8 @@ pub fn named_length(
     time: u64,
 ) -> usize
     requires { ⌜ length (now word) + length (now «module») + length (now accessible) ≤ 65536 ⌝ }
-    ensures { λ r. ⌜ r ≡ length (now (word .entry) ++ reportText (reportOf (now («module» .entry)) (now (accessible .entry)) (heldBy sensor (now (value .entry))) time)) ⌝ }
+    ensures { λ r. ⌜ r ≡ length (now (word .entry) ++ reportText (reportOf (now («module» .entry)) (now (accessible .entry))
+        (heldBy sensor (now (value .entry))) time)) ⌝ }
 {
     word.len() + report_length(module, accessible, sensor, value, time)
 }
@@ -308,7 +311,8 @@ pub fn put_named(
     time: u64,
 ) -> usize
     requires { ⌜ at + length (now word ++ reportText (reportOf (now «module») (now accessible) (heldBy sensor (now value)) time)) ≤ length (now out) ⌝ }
-    ensures { λ r. ⌜ Puts (now (out .entry)) at (now (word .entry) ++ reportText (reportOf (now («module» .entry)) (now (accessible .entry)) (heldBy sensor (now (value .entry))) time)) (now (out .exit)) r ⌝ }
+    ensures { λ r. ⌜ Puts (now (out .entry)) at (now (word .entry)
+        ++ reportText (reportOf (now («module» .entry)) (now (accessible .entry)) (heldBy sensor (now (value .entry))) time)) (now (out .exit)) r ⌝ }
 {
     let report = put(out, at, word);
     put_report(out, report, module, accessible, sensor, value, time)

@@ -11,6 +11,14 @@ pub(crate) struct Turn {
     pub replay: Replay,
 }
 
+// Whether there may be more to play: not at the end of the file, nor after a wrong record, which ends the trace. So a pipe that has no end is told too.
+fn goes_on(n: usize, stopped: bool) -> bool {
+    if stopped {
+        return false;
+    }
+    n != 0
+}
+
 // Reads once and plays what came. Where the file can't be read, that is said.
 fn feed_some(table: &[u8], values: &mut [u8], outbox: &mut [u8], replay: Replay, fd: i32) -> Turn
     requires { ⌜ Running (now table) (length (now outbox)) replay (now values) ⌝ }
@@ -29,13 +37,14 @@ fn feed_some(table: &[u8], values: &mut [u8], outbox: &mut [u8], replay: Replay,
     let n = io::count(got, &buffer);
     let next = feed(table, values, outbox, replay, &buffer[..n]);
     Turn {
-        more: n != 0,
+        more: goes_on(n, next.reader.stopped),
         failed: false,
         replay: next,
     }
 }
 
-// All of the file. A proved loop has to end, and nothing says that a file does: it counts its turns down, from a number that no run uses up.
+// All of the file, up to a wrong record. A proved loop has to end, and nothing says that a file does: it counts its turns down, from a number that no run
+// uses up.
 pub(crate) fn feed_all(
     table: &[u8],
     values: &mut [u8],

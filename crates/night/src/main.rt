@@ -10,23 +10,25 @@ use files::is_at_end;
 use files::open_argument;
 use libc::STDERR_FILENO;
 use libc::STDOUT_FILENO;
+use limits::OUTBOX;
+use limits::VALUES;
 use replay::begin;
 use summary::figured::put_figures;
 use summary::put_start;
 use summary::put_summary;
 use time::Time;
 use time::time_argument;
-ghost use Rattle.summary.specs.Figured.{Tellable};
+ghost use Rattle.summary.specs.contracts.Figured.{Tellable};
 
 // A table that is too long is refused (1), so one byte more than the longest is enough.
 const TABLE: usize = 16385;
 
-fn values_area() -> [u8; 16384] {
-    [0; 16384]
+fn values_area() -> [u8; VALUES] {
+    [0; VALUES]
 }
 
-fn outbox() -> [u8; 32768] {
-    [0; 32768]
+fn outbox() -> [u8; OUTBOX] {
+    [0; OUTBOX]
 }
 
 // M-111's lines, "after all of M-110's lines".

@@ -28,7 +28,7 @@ use Rattle.promise.specs.declared.Done.{Done}
 use Rattle.promise.specs.Promise.{blank, Begins}
 use Rattle.promise.proofs.Blank.{zeros, blank-size, blank-error, blank-counts, blank-fit}
 use Rattle.node.proofs.Refused.{Quiet}
-use Rattle.promise.specs.Answer.{quietDone}
+use Rattle.promise.specs.contracts.Answer.{quietDone}
 
 -- ## The times of a blank state
 
@@ -81,6 +81,7 @@ module _ (table values : List ℕ) (t : ℕ) where
         number = h;
         used = refl;
         writes = refl;
+        steps = refl;
         state = ap (λ (b : Bool). blank (cond b t 0)) (sym (ne-eqb k 0 z));
         node = λ own. blank-view table own 0 (λ p l. blank-untimed p)
             ∙ ap (λ (b : Bool). begin (tableOf table) (cond b t 0)) (sym (ne-eqb k 0 z))
@@ -97,6 +98,7 @@ module _ (table values : List ℕ) (t : ℕ) where
         number = h;
         used = refl;
         writes = refl;
+        steps = refl;
         state = refl;
         node = λ own. blank-view table own t (λ p l. let few = accepted table ok .few in blank-time t p (omega arith))
             ∙ ap (λ (j : ℕ). begin (tableOf table) (cond (eqb j 0) t 0)) h;

@@ -1,5 +1,6 @@
+pub mod Again
 pub mod Begun
-pub mod Lent
+pub mod Hand
 pub mod Opens
 pub mod Reading
 pub mod Refused

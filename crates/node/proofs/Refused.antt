@@ -15,7 +15,7 @@ use Rattle.state.specs.Fit.{isUnfit}
 use Rattle.promise.specs.declared.Done.{Done}
 use Rattle.promise.specs.Promise.{Kept}
 use Rattle.promise.proofs.Answers.{refuses}
-use Rattle.promise.specs.Answer.{quietDone}
+use Rattle.promise.specs.contracts.Answer.{quietDone}
 
 -- an answer that uses 0 bytes and writes 0
 abbrev pub Quiet : Done → ℕ → State → Type 0

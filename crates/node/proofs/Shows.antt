@@ -3,7 +3,7 @@ use Prim.Native.Nat.{ℕ, zero, suc, _*_, _-_, _≤_, _<_}
 use native.Mathlib.Omega.{arith}
 use borrow.Author.Tests.{ne-eqb, eqb-true, eqb-false}
 use mathlib.Core.Bool.{Bool, true, false, cond, false≢true}
-use mathlib.Core.List.{List}
+use mathlib.Core.List.{List, []}
 use mathlib.Core.Logic.{_≢_}
 use mathlib.Core.Option.{Option, none, some}
 use mathlib.Core.Path.{_≡_, refl, sym, subst, _∙_}
@@ -13,7 +13,7 @@ use lib.Seq.{length-take-le}
 use Rattle.table.specs.Layout.{tableOf, Readable}
 use Rattle.table.specs.Table.{Parameter}
 use Rattle.table.specs.Search.{Placed, parameters}
-use Rattle.table.specs.At.{bytesOf, parameterOf}
+use Rattle.table.specs.contracts.At.{bytesOf, parameterOf}
 use Rattle.table.specs.declared.layout.Part.{Part}
 use Rattle.table.specs.declared.layout.ParameterAt.{ParameterAt}
 use Rattle.ascii.specs.Bytes.{isSome}
@@ -23,20 +23,20 @@ use Rattle.report.specs.Judge.{lowest}
 use Rattle.search.specs.declared.cursor.Cursor.{Cursor}
 use Rattle.search.specs.declared.cursor.NextParameter.{NextParameter}
 use Rattle.search.specs.declared.cursor.NextParameter.the-variants.{At, End}
-use Rattle.search.specs.Left.{placed}
-use Rattle.search.specs.Found.{ParameterNumbered, NumberedParameter}
+use Rattle.search.specs.contracts.Left.{placed}
+use Rattle.search.specs.contracts.Found.{ParameterNumbered, NumberedParameter}
 use Rattle.state.specs.declared.Settings.{Settings}
 use Rattle.state.specs.declared.State.{State}
 use Rattle.state.specs.View.{storedText, shown, valueAt, view}
 use Rattle.state.proofs.Settled as Settled
 use Rattle.promise.specs.declared.Shown.{Shown}
-use Rattle.promise.specs.Lent.{lentNumber}
+use Rattle.promise.specs.contracts.Lent.{lentNumber}
 use Rattle.promise.specs.Shown.{valueNumber, notShown, partOf, errorOf, shownOf, shownAt, valueShown, heldIn, Shows}
 use Rattle.promise.proofs.Numbers.{Good, good}
 use Rattle.promise.proofs.Clients.{fit-parts}
-use Rattle.node.specs.Part.{partShown, heldShown}
+use Rattle.node.specs.contracts.Part.{partShown, heldShown}
 use Rattle.report.proofs.Faults.{lowest-first, accepted-readable}
-use Rattle.node.proofs.Reading.{parameter-at, none-past, none-found}
+use Rattle.rack.proofs.Readings.{parameter-at, none-past, none-found}
 
 -- ## The part
 
@@ -89,17 +89,17 @@ module _ (table values : List ℕ) (s : State) (k : ℕ) where
       subst (Shows table values s k) (sym q)
       (record { is = rw (← h, ne-eqb n 0 z) refl; within = λ y. absurd (z y); held = λ y. absurd (z y); time = λ y. absurd (z y) })
 
-  module _ (n : ℕ) (lent : n ≡ lentNumber table values false s 0) where
+  module _ (n : ℕ) (lent : n ≡ lentNumber table values false [] s 0) where
     pub value-lent : {r : Shown} → n ≢ 0 → Refuses r n → Shows table values s k r
     unfolding valueNumber
-    value-lent z q = refused (lent ∙ sym (lowest-first (lentNumber table values false s 0) _ (λ y. z (lent ∙ y)))) z q
+    value-lent z q = refused (lent ∙ sym (lowest-first (lentNumber table values false [] s 0) _ (λ y. z (lent ∙ y)))) z q
 
     module _ (ok : n ≡ 0) where
-      none-lent : lentNumber table values false s 0 ≡ 0
+      none-lent : lentNumber table values false [] s 0 ≡ 0
       none-lent = sym lent ∙ ok
 
-      abbrev known : Good table s values false 0
-      known = good table s values false 0 none-lent
+      abbrev known : Good table s values false [] 0
+      known = good table s values false [] 0 none-lent
 
       pub value-table : Readable table
       value-table = accepted-readable table (known .accepted)

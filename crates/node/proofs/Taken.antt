@@ -13,28 +13,33 @@ use Rattle.ascii.specs.Numbers.{latest}
 use Rattle.table.specs.Layout.{tableOf}
 use Rattle.report.specs.Judge.{fault, lowest}
 use Rattle.plain.specs.Node.{isOpen}
-use Rattle.plain.specs.Calls.{Piece, Call, withOutbox, sends, isSmall, fault11, ownFaults, callNumber}
+use Rattle.plain.specs.Calls.{Piece, Call, withOutbox, beside, sends, isSmall, isShort, fault11, ownFaults, callNumber}
 use Rattle.plain.proofs.Numbers.{accepted-call}
 use Rattle.state.specs.declared.State.{State}
 use Rattle.state.specs.View.{isSet, view}
 use Rattle.state.specs.Fit.{isUnfit}
 use Rattle.state.proofs.Becomes.{Sized}
-use Rattle.outcome.specs.Ready.{Ready}
+use Rattle.outcome.specs.contracts.Ready.{Ready}
 use Rattle.promise.specs.declared.Done.{Done}
 use Rattle.promise.specs.Promise.{Kept}
-use Rattle.promise.specs.Leaves.{Leaves}
-use Rattle.promise.specs.Lent.{lentNumber}
+use Rattle.promise.specs.contracts.Leaves.{LeavesIn}
+use Rattle.promise.specs.contracts.Lent.{lentNumber}
 use Rattle.promise.proofs.Numbers.{number-is, good}
 use Rattle.promise.proofs.Answers.{short-written, accepts}
 use Rattle.node.proofs.Refused.{Quiet, Numbered, refused-lent, refused-first, refused-second}
 use Rattle.node.proofs.Opens.{open-in-view, too-high, not-high}
 
-pub piece-timely : (table : List ℕ) (s : State) (values : List ℕ) (small : Bool) (t : ℕ) {k : ℕ} → k ≡ lentNumber table values small s t → k ≡ 0 → t ≤ latest
-piece-timely table s values small t lent ok = good table s values small t (sym lent ∙ ok) .time
+pub piece-timely : (table : List ℕ) (s : State) (values : List ℕ) (small : Bool) (index : List ℕ) (t : ℕ) {k : ℕ}
+    → k ≡ lentNumber table values small index s t → k ≡ 0 → t ≤ latest
+piece-timely table s values small index t lent ok = good table s values small index t (sym lent ∙ ok) .time
 
-module _ (table : List ℕ) (s : State) (values outbox : List ℕ) (c t : ℕ) (bs : List ℕ) where
+pub piece-unshort : (table : List ℕ) (s : State) (values : List ℕ) (small : Bool) (index : List ℕ) (t : ℕ) {k : ℕ}
+    → k ≡ lentNumber table values small index s t → k ≡ 0 → isShort index ≡ false
+piece-unshort table s values small index t lent ok = good table s values small index t (sym lent ∙ ok) .unshort
+
+module _ (table : List ℕ) (s : State) (values outbox index : List ℕ) (c t : ℕ) (bs : List ℕ) where
   abbrev offered : Call
-  offered = withOutbox (Piece c bs t) (length values) (length outbox)
+  offered = beside index (withOutbox (Piece c bs t) (length values) (length outbox))
 
   abbrev small : Bool
   small = ltb (length outbox) 32768
@@ -42,17 +47,17 @@ module _ (table : List ℕ) (s : State) (values outbox : List ℕ) (c t : ℕ) (
   abbrev viewed : Bool
   viewed = isOpen (view table s values .clients c)
 
-  numbered : Numbered table s values outbox offered (lentNumber table values small s t) (fault11 c) (fault 12 (not viewed))
+  numbered : Numbered table s values outbox offered (lentNumber table values small index s t) (fault11 c) (fault 12 (not viewed))
   unfolding sends isSmall ownFaults
-  numbered = record { is = number-is table s values (Piece c bs t) (length outbox) t _ refl }
+  numbered = record { is = number-is table s values (Piece c bs t) (length outbox) index t _ refl }
 
   is-open : {b o : Bool} → b ≡ isSet (s .clients .open) c → b ≡ o → viewed ≡ o
   is-open judged y = open-in-view table s values c ∙ sym judged ∙ y
 
-  pub piece-ready : {k : ℕ} → k ≡ lentNumber table values small s t → k ≡ 0 → c ≤ 7 → {b : Bool} → b ≡ isSet (s .clients .open) c → not b ≡ false
+  pub piece-ready : {k : ℕ} → k ≡ lentNumber table values small index s t → k ≡ 0 → c ≤ 7 → {b : Bool} → b ≡ isSet (s .clients .open) c → not b ≡ false
       → Ready table s values outbox c
   piece-ready lent ok h {b} judged y =
-      let x = good table s values small t (sym lent ∙ ok) in
+      let x = good table s values small index t (sym lent ∙ ok) in
       record {
         lent = record { accepted = x .accepted; room = ltb-false (length outbox) 32768 (x .outbox); low = omega arith };
         area = x .area;
@@ -61,21 +66,22 @@ module _ (table : List ℕ) (s : State) (values outbox : List ℕ) (c t : ℕ) (
       }
 
   -- an open client, and all that is lent is good: no number is given
-  accepted-number : Ready table s values outbox c → t ≤ latest → callNumber table (isUnfit (tableOf table) s values) (view table s values) offered ≡ 0
+  accepted-number : Ready table s values outbox c → isShort index ≡ false → t ≤ latest → callNumber table (isUnfit (tableOf table) s values) (view table s values) offered ≡ 0
   unfolding ownFaults lowest
-  accepted-number g h =
+  accepted-number g i h =
       accepted-call table (isUnfit (tableOf table) s values) offered (view table s values) .1 (
-        record { accepted = g .lent .accepted; outbox = λ e. g .lent .room; area = g .area; fit = g .fit },
+        record { accepted = g .lent .accepted; outbox = λ e. g .lent .room; area = g .area; index = i; fit = g .fit },
         rw (le-ltb latest t h, not-high {c = c} (omega (arith, g .lent .low)), open-in-view table s values c, g .isOpen) refl,
       )
 
-  pub piece-good : Ready table s values outbox c → t ≤ latest → Sized (s .clients) → {r : Done} {values′ outbox′ : List ℕ} → Leaves table s values (Piece c bs t) outbox r values′ outbox′
+  pub piece-good : Ready table s values outbox c → isShort index ≡ false → t ≤ latest → Sized (s .clients) → {r : Done} {values′ outbox′ : List ℕ}
+      → LeavesIn table s values (Piece c bs t) index outbox r values′ outbox′
       → Kept table offered s values outbox r values′ outbox′
-  piece-good g h z {r} {values′} {outbox′} l =
-      let number = accepted-number g h in
-      accepts table s values offered outbox r values′ outbox′ number (rw (l .writes) (short-written table s values offered z number)) l
+  piece-good g i h z {r} {values′} {outbox′} l =
+      let number = accepted-number g i h in
+      accepts table s values offered outbox r values′ outbox′ number (rw (l .leaves .writes) (short-written table s values offered z number)) l
 
-  module _ {r : Done} {k : ℕ} (lent : k ≡ lentNumber table values small s t) where
+  module _ {r : Done} {k : ℕ} (lent : k ≡ lentNumber table values small index s t) where
     pub piece-lent : k ≢ 0 → Quiet r k s → Kept table offered s values outbox r values outbox
     piece-lent z q = refused-lent table s values outbox offered numbered lent z q
 

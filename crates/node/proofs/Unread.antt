@@ -12,10 +12,10 @@ use lib.ListN.{length, getElem?}
 use Rattle.ascii.specs.Bytes.{isSome}
 use Rattle.table.specs.Layout.{tableOf}
 use Rattle.table.specs.Search.{parameters}
-use Rattle.table.specs.At.{parameterOf}
+use Rattle.table.specs.contracts.At.{parameterOf}
 use Rattle.table.specs.declared.layout.ParameterAt.{ParameterAt}
 use Rattle.message.specs.Error.{faultOf}
-use Rattle.message.specs.Said.{faultAs, sensorFault}
+use Rattle.message.specs.contracts.Said.{faultAs, sensorFault}
 use Rattle.message.specs.declared.say.Fault.{Fault}
 use Rattle.message.specs.declared.say.Sensor.{Sensor}
 use Rattle.message.specs.declared.say.Sensor.the-variants.{Works, Fails}
@@ -23,22 +23,22 @@ use Rattle.report.specs.Judge.{fault, tableNumber}
 use Rattle.search.specs.declared.cursor.Cursor.{Cursor}
 use Rattle.search.specs.declared.cursor.NextParameter.{NextParameter}
 use Rattle.search.specs.declared.cursor.NextParameter.the-variants.{At, End}
-use Rattle.search.specs.Left.{placed}
-use Rattle.search.specs.Found.{ParameterNumbered, NumberedParameter}
-use Rattle.plain.specs.Calls.{Unreadable, Call, withOutbox, sends, isSmall, ownFaults}
+use Rattle.search.specs.contracts.Left.{placed}
+use Rattle.search.specs.contracts.Found.{ParameterNumbered, NumberedParameter}
+use Rattle.plain.specs.Calls.{Unreadable, Call, withOutbox, beside, sends, isSmall, ownFaults, eventSteps}
 use Rattle.state.specs.declared.State.{State}
 use Rattle.promise.specs.declared.Done.{Done}
-use Rattle.promise.specs.Lent.{lentNumber}
+use Rattle.promise.specs.contracts.Lent.{lentNumber}
 use Rattle.promise.specs.Promise.{Kept}
 use Rattle.promise.proofs.Numbers.{good, number-is}
 use Rattle.promise.proofs.Answers.{accepts}
-use Rattle.accepted.specs.Fitting.{Tellable, Standing, Taken}
+use Rattle.accepted.specs.contracts.Fitting.{Tellable, Standing, Taken}
 use Rattle.node.proofs.Refused.{Quiet, Numbered, refused-lent, refused-first, refused-second, not-refused}
-use Rattle.node.proofs.Reading.{parameter-at, none-past, none-found}
+use Rattle.rack.proofs.Readings.{parameter-at, none-past, none-found}
 
-module _ (table : List ℕ) (s : State) (values outbox : List ℕ) (k t x : ℕ) where
+module _ (table : List ℕ) (s : State) (values outbox index : List ℕ) (k t x : ℕ) where
   abbrev report : Call
-  report = withOutbox (Unreadable k x t) (length values) (length outbox)
+  report = beside index (withOutbox (Unreadable k x t) (length values) (length outbox))
 
   abbrev small : Bool
   small = ltb (length outbox) 32768
@@ -49,23 +49,23 @@ module _ (table : List ℕ) (s : State) (values outbox : List ℕ) (k t x : ℕ)
   abbrev noClass : Bool
   noClass = not (isSome (faultOf x))
 
-  numbered : Numbered table s values outbox report (lentNumber table values small s t) (fault 14 unknown) (fault 16 noClass)
+  numbered : Numbered table s values outbox report (lentNumber table values small index s t) (fault 14 unknown) (fault 16 noClass)
   unfolding sends isSmall ownFaults
-  numbered = record { is = number-is table s values (Unreadable k x t) (length outbox) t _ refl }
+  numbered = record { is = number-is table s values (Unreadable k x t) (length outbox) index t _ refl }
 
   abbrev Refused : Done → Type 0
   Refused r = Kept table report s values outbox r values outbox
 
-  module _ (n : ℕ) (lent : n ≡ lentNumber table values small s t) where
+  module _ (n : ℕ) (lent : n ≡ lentNumber table values small index s t) where
     pub unread-lent : {r : Done} → n ≢ 0 → Quiet r n s → Refused r
     unread-lent z q = refused-lent table s values outbox report numbered lent z q
 
     module _ (ok : n ≡ 0) where
-      none-lent : lentNumber table values small s t ≡ 0
+      none-lent : lentNumber table values small index s t ≡ 0
       none-lent = sym lent ∙ ok
 
       taken-table : tableNumber table ≡ 0
-      taken-table = good table s values small t none-lent .accepted
+      taken-table = good table s values small index t none-lent .accepted
 
       no-parameter : {r : Done} → getElem? (parameters (tableOf table)) k ≡ none → Quiet r 14 s → Refused r
       no-parameter e q = refused-first table s values outbox report numbered lent ok {j = 13} (rw e refl) q
@@ -97,7 +97,7 @@ module _ (table : List ℕ) (s : State) (values outbox : List ℕ) (k t x : ℕ)
 
               pub unread-tells : k ≤ 63 → Tellable table outbox k t at c
               unread-tells h =
-                  let y = good table s values small t none-lent in
+                  let y = good table s values small index t none-lent in
                   let room = ltb-false (length outbox) 32768 (y .outbox) in
                   record { accepted = y .accepted; inTime = y .time; room = omega arith; low = omega arith; found = found }
 
@@ -105,8 +105,10 @@ module _ (table : List ℕ) (s : State) (values outbox : List ℕ) (k t x : ℕ)
               pub unread-taken : {r : Done} {outbox′ : List ℕ}
                   → ((own : List ℕ) (class : ℕ) → Standing table s own → faultOf class ≡ some (faultAs i) → Taken table s own outbox (Unreadable k class t) r own outbox′)
                   → Kept table report s values outbox r values outbox′
+              unfolding eventSteps
               unread-taken {r} {outbox′} h =
-                  let y = good table s values small t none-lent in
+                  let y = good table s values small index t none-lent in
                   let l = h values x (record { area = y .area; fit = y .fit }) known in
                   accepts table s values report outbox r values outbox′
-                  (not-refused table s values outbox report numbered lent ok (rw there refl) (rw known refl)) (omega (arith, l .short)) (l .leaves)
+                  (not-refused table s values outbox report numbered lent ok (rw there refl) (rw known refl)) (omega (arith, l .short))
+                  (record { leaves = l .leaves; steps = l .steps })

@@ -1,7 +1,8 @@
 // Open and close of a client.
-use crate::judge::lent_number;
-use crate::judge::quiet;
+use limits::LAST_CLIENT;
 use promise::Done;
+use rack::judge::lent_number;
+use rack::judge::quiet;
 use state::State;
 use state::client::closed;
 use state::client::is_open;
@@ -9,11 +10,8 @@ use state::client::opened;
 use state::count::cleared;
 ghost use mathlib.Core.List.{[]};
 ghost use lib.ListN.{length};
-ghost use Rattle.plain.specs.Calls.{Open, Close, withArea};
+ghost use Rattle.plain.specs.Calls.{Open, Close, withArea, beside};
 ghost use Rattle.promise.specs.Promise.{Kept};
-
-// A client has a "number 0 to 7".
-const LAST_CLIENT: u64 = 7;
 
 // "Open begins with an empty line and nothing active".
 #[no_mangle]
@@ -23,11 +21,12 @@ pub extern "C" fn jihfasul_open(
     state: State,
     client: u64,
     time: u64,
+    index: &[u8],
 ) -> Done
-    ensures { λ r. ⌜ Kept (now (table .entry)) (withArea (Open client time) (length (now (values .entry)))) state (now (values .entry)) [] r
-        (now (values .entry)) [] ⌝ }
+    ensures { λ r. ⌜ Kept (now (table .entry)) (beside (now (index .entry)) (withArea (Open client time) (length (now (values .entry)))))
+        state (now (values .entry)) [] r (now (values .entry)) [] ⌝ }
 {
-    let number = lent_number(table, values, false, state, time);
+    let number = lent_number(table, values, false, index, state, time);
     if number != 0 {
         return quiet(number, state);
     }
@@ -57,11 +56,12 @@ pub extern "C" fn jihfasul_close(
     state: State,
     client: u64,
     time: u64,
+    index: &[u8],
 ) -> Done
-    ensures { λ r. ⌜ Kept (now (table .entry)) (withArea (Close client time) (length (now (values .entry)))) state (now (values .entry)) [] r
-        (now (values .entry)) [] ⌝ }
+    ensures { λ r. ⌜ Kept (now (table .entry)) (beside (now (index .entry)) (withArea (Close client time) (length (now (values .entry)))))
+        state (now (values .entry)) [] r (now (values .entry)) [] ⌝ }
 {
-    let number = lent_number(table, values, false, state, time);
+    let number = lent_number(table, values, false, index, state, time);
     if number != 0 {
         return quiet(number, state);
     }

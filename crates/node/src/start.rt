@@ -1,8 +1,13 @@
 // The start of a node.
-use crate::judge::quiet;
 use counter::Counts;
 use describe::judge::table_number;
+use limits::ACCESSIBLES;
+use limits::CLIENTS;
+use limits::LATEST;
+use limits::LINE;
+use limits::VALUES;
 use promise::Done;
+use rack::judge::quiet;
 use state::Clients;
 use state::Settings;
 use state::State;
@@ -16,22 +21,22 @@ fn blank(time: u64) -> State
 {
     State {
         clients: Clients {
-            open: [0; 8],
-            overlong: [0; 8],
-            active: [0; 8],
-            length: [0; 8],
-            lines: [0; 8192],
+            open: [0; CLIENTS],
+            overlong: [0; CLIENTS],
+            active: [0; CLIENTS],
+            length: [0; CLIENTS],
+            lines: [0; CLIENTS * LINE],
         },
         settings: Settings {
-            length: [0; 64],
-            error: [0; 64],
-            time: [time; 64],
+            length: [0; ACCESSIBLES],
+            error: [0; ACCESSIBLES],
+            time: [time; ACCESSIBLES],
         },
         counts: [Counts {
             lines: 0,
             errors: 0,
             updates: 0,
-        }; 8],
+        }; CLIENTS],
     }
 }
 
@@ -44,10 +49,10 @@ pub extern "C" fn jihfasul_start(table: &[u8], values: &[u8], time: u64) -> Done
     if number != 0 {
         return quiet(number, blank(0));
     }
-    if values.len() < 16384 {
+    if values.len() < VALUES {
         return quiet(8, blank(0));
     }
-    if time > 9999999999999 {
+    if time > LATEST {
         return quiet(10, blank(0));
     }
     quiet(0, blank(time))

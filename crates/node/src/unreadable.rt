@@ -1,15 +1,17 @@
 // A driver's report that a parameter can't be read.
-use crate::judge::lent_number;
-use crate::judge::quiet;
 use accepted::unreadable::take_unreadable;
+use limits::LAST_PARAMETER;
+use limits::OUTBOX;
 use message::say::Sensor;
 use message::say::sensor_of;
 use promise::Done;
+use rack::judge::lent_number;
+use rack::judge::quiet;
 use search::cursor::NextParameter;
 use search::find::parameter_by_number;
 use state::State;
 ghost use lib.ListN.{length};
-ghost use Rattle.plain.specs.Calls.{Unreadable, withOutbox};
+ghost use Rattle.plain.specs.Calls.{Unreadable, withOutbox, beside};
 ghost use Rattle.promise.specs.Promise.{Kept};
 
 // "A driver must be able to report that a parameter can't be read, with one of ..": the values area isn't written. Number 14: "no such parameter
@@ -23,15 +25,17 @@ pub extern "C" fn jihfasul_unreadable(
     parameter: u64,
     time: u64,
     class: u64,
+    index: &[u8],
 ) -> Done
-    ensures { λ r. ⌜ Kept (now (table .entry)) (withOutbox (Unreadable parameter class time) (length (now (values .entry))) (length (now (outbox .entry))))
+    ensures { λ r. ⌜ Kept (now (table .entry))
+        (beside (now (index .entry)) (withOutbox (Unreadable parameter class time) (length (now (values .entry))) (length (now (outbox .entry)))))
         state (now (values .entry)) (now (outbox .entry)) r (now (values .entry)) (now (outbox .exit)) ⌝ }
 {
-    let number = lent_number(table, values, outbox.len() < 32768, state, time);
+    let number = lent_number(table, values, outbox.len() < OUTBOX, index, state, time);
     if number != 0 {
         return quiet(number, state);
     }
-    if parameter > 63 {
+    if parameter > LAST_PARAMETER {
         return quiet(14, state);
     }
     let k = parameter as usize;

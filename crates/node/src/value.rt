@@ -1,6 +1,8 @@
 // The value that a parameter shows, or the error in its place.
-use crate::judge::lent_number;
+use limits::LAST_PARAMETER;
+use limits::PLACE;
 use promise::Shown;
+use rack::judge::lent_number;
 use search::cursor::NextParameter;
 use search::find::parameter_by_number;
 use state::Settings;
@@ -9,7 +11,7 @@ use table::layout::Part;
 ghost use Prim.Native.Nat.{_≤_, _<_};
 ghost use mathlib.Core.Path.{_≡_};
 ghost use Rattle.promise.specs.Shown.{notShown, Shows};
-ghost use Rattle.node.specs.Part.{partShown, heldShown};
+ghost use Rattle.node.specs.contracts.Part.{partShown, heldShown};
 
 // A refusal.
 fn not_shown(number: u8) -> Shown
@@ -47,7 +49,7 @@ fn part_shown(settings: Settings, k: usize, initial: Part) -> Shown
         number: 0,
         stored: 1,
         error: 0,
-        from: 256 * k,
+        from: PLACE * k,
         size,
         time,
     }
@@ -79,11 +81,11 @@ fn held_shown(settings: Settings, k: usize, initial: Part) -> Shown
 pub extern "C" fn jihfasul_value(table: &[u8], values: &[u8], state: State, parameter: u64) -> Shown
     ensures { λ r. ⌜ Shows (now (table .entry)) (now (values .entry)) state parameter r ⌝ }
 {
-    let number = lent_number(table, values, false, state, 0);
+    let number = lent_number(table, values, false, b"", state, 0);
     if number != 0 {
         return not_shown(number);
     }
-    if parameter > 63 {
+    if parameter > LAST_PARAMETER {
         return not_shown(14);
     }
     let k = parameter as usize;

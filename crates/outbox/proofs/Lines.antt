@@ -14,7 +14,7 @@ use Rattle.ascii.proofs.Digits.{decimal-digits}
 use Rattle.ascii.proofs.Lists.{both, Lacks, lacks, before, beyond, before-at, beyond-at}
 use Rattle.message.specs.Error.{Class, ProtocolError, NoSuchModule, NoSuchParameter, NoSuchCommand, ReadOnly, BadJSON, WrongType, RangeError, className, classText, Fault, HardwareError, CommunicationFailed, ReadFailed, OutOfRange, faultName, Denial, class, fault}
 use Rattle.message.specs.Reply.{Held, valued, failed, Report, Reply, identification, describing, pong, active, inactive, reply, changed, done, error, dataReport, faultReport, heldReport, reportText, classReport, errorReport, optionally, replyLine, updateWord, updateLine, begins, countsText, counted, checked, identity}
-use Rattle.message.specs.Said.{faultFront}
+use Rattle.message.specs.contracts.Said.{faultFront}
 use Rattle.counter.specs.declared.Counts.{Counts}
 use Rattle.outbox.specs.Theorems.{Word, NamedReport, IsValue, ValueReport, WellFormedReply, Edition}
 use Rattle.outbox.proofs.Lists.{beforeLast, beyondLast, before-last-eq, beyond-last-eq, without, without-eq}

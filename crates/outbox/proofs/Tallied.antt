@@ -13,16 +13,16 @@ use lib.Seq.{sets-eq, take-append-seam, drop-append-seam, drop-drop}
 use Rattle.ascii.specs.Text.{bytes}
 use Rattle.ascii.specs.Bytes.{same, head, all, after, isSome}
 use Rattle.ascii.specs.Numbers.{twoBytes}
-use Rattle.ascii.specs.Writer.{Puts}
-use Rattle.ascii.specs.Reader.{ByteAt}
+use Rattle.ascii.specs.contracts.Writer.{Puts}
+use Rattle.ascii.specs.contracts.Reader.{ByteAt}
 use Rattle.ascii.proofs.Lists.{all-parts}
 use Rattle.counter.specs.declared.Counts.{Counts}
 use Rattle.message.specs.Reply.{Reply, counted, countsText, replyLine, updateLine, begins, isError}
-use Rattle.message.specs.Said.{countedText}
+use Rattle.message.specs.contracts.Said.{countedText}
 use Rattle.outbox.specs.Outbox.{Record, final, update, orderChange, orderCommand, mark, client, body, encode, encodeAll}
 use Rattle.outbox.specs.Sent.{errorTo, updateTo, errorsSent, updatesSent}
-use Rattle.outbox.specs.Written.{sealed, LineRoom, RoomFor}
-use Rattle.outbox.specs.Tallied.{sizeAt, isTo, errorAt, updateAt, Holds, tallyOf}
+use Rattle.outbox.specs.contracts.Written.{sealed, LineRoom, RoomFor}
+use Rattle.outbox.specs.contracts.Tallied.{sizeAt, isTo, errorAt, updateAt, Holds, tallyOf}
 use Rattle.outbox.specs.declared.tally.Tally.{Tally}
 use Rattle.outbox.proofs.Written.{line-of}
 

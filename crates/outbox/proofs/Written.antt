@@ -7,17 +7,17 @@ use mathlib.Core.Option.{some}
 use lib.ListN.{length, length-append}
 use Rattle.ascii.specs.Text.{bytes}
 use Rattle.ascii.specs.Numbers.{twoBytes}
-use Rattle.ascii.specs.Writer.{Puts}
+use Rattle.ascii.specs.contracts.Writer.{Puts}
 use Rattle.ascii.proofs.Puts.{puts-length, puts-both}
 use Rattle.message.specs.Error.{Denial}
 use Rattle.message.specs.Reply.{Held, failed, Report, Reply, describing, replyLine, updateWord, updateLine, error, optionally, reportText}
-use Rattle.message.specs.Said.{faultAs, heldBy, reportOf}
+use Rattle.message.specs.contracts.Said.{faultAs, heldBy, reportOf}
 use Rattle.message.specs.declared.say.Fault.{Fault}
 use Rattle.message.specs.declared.say.Sensor.{Sensor}
 use Rattle.message.specs.declared.say.Sensor.the-variants.{Works, Fails}
 use Rattle.message.proofs.Said.{two-1, two-2, error-length, report-length}
 use Rattle.outbox.specs.Outbox.{Record, final, update, mark, client, body, encode}
-use Rattle.outbox.specs.Written.{sealed, Room, LineRoom, RoomFor, describingStart}
+use Rattle.outbox.specs.contracts.Written.{sealed, Room, LineRoom, RoomFor, describingStart}
 
 -- ## The header
 

@@ -1,5 +1,4 @@
 pub mod Outbox
 pub mod Theorems
-pub mod Written
 pub mod Sent
-pub mod Tallied
+pub mod contracts

@@ -7,7 +7,8 @@ use mathlib.Core.Path.{_≡_}
 use Rattle.ascii.specs.Text.{bytes}
 use Rattle.ascii.specs.Bytes.{isSome, after, all, isSpace}
 use Rattle.ascii.specs.Names.{isName}
-use Rattle.message.specs.Reply.{Held, valued, failed, Report, Reply, identification, describing, pong, active, inactive, reply, changed, done, counted, error, checked}
+use Rattle.message.specs.Reply.{Held, valued, failed, Report, Reply, identification, describing, pong, active, inactive, reply, changed}
+use Rattle.message.specs.Reply.{done, counted, error, checked}
 use Rattle.outbox.specs.Outbox.{Record, final, update, orderChange, orderCommand, encodeAll}
 
 -- a word of a line: no space in it
@@ -30,13 +31,13 @@ IsValue (failed f) = ⊥
 abbrev pub ValueReport : Report → Type 0
 ValueReport r = NamedReport r × IsValue (r .held)
 
--- an identification that a table gives: no other line begins so
+-- an identification that a table gives: no other line begins so [C-21]
 abbrev pub Edition : Option (List ℕ) → Type 0
 Edition none = Unit {0}
 Edition (some x) = isSome (after (bytes "ISSE,SECoP,") x) ≡ true
 
 -- records as a node writes them: names are names, what was sent as a word is a word, a reply with a report tells a value, and an identification
--- that a table gives begins as its edition has to
+-- that a table gives begins as its edition has to [C-21]
 abbrev pub WellFormedReply : Reply → Type 0
 WellFormedReply (identification e) = Edition e
 WellFormedReply (describing r) = Unit {0}

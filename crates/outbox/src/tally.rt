@@ -7,7 +7,7 @@ ghost use lib.ListN.{drop};
 ghost use Rattle.ascii.specs.Text.{bytes};
 ghost use Rattle.message.specs.Reply.{begins};
 ghost use Rattle.outbox.specs.Outbox.{Record};
-ghost use Rattle.outbox.specs.Tallied.{sizeAt, isTo, errorAt, updateAt, Holds, tallyOf};
+ghost use Rattle.outbox.specs.contracts.Tallied.{sizeAt, isTo, errorAt, updateAt, Holds, tallyOf};
 use ascii::byte;
 use ascii::names::same;
 

@@ -5,11 +5,11 @@ ghost use Prim.Native.Nat.{_+_, _≤_};
 ghost use lib.ListN.{length};
 ghost use Rattle.ascii.specs.Text.{bytes};
 ghost use Rattle.ascii.specs.Numbers.{twoBytes};
-ghost use Rattle.ascii.specs.Writer.{Puts};
+ghost use Rattle.ascii.specs.contracts.Writer.{Puts};
 ghost use Rattle.message.specs.Reply.{valued, reportText, optionally, identification, pong, counted, error};
-ghost use Rattle.message.specs.Said.{denialOf, heldBy, reportOf, countedText};
+ghost use Rattle.message.specs.contracts.Said.{denialOf, heldBy, reportOf, countedText};
 ghost use Rattle.outbox.specs.Outbox.{encode, final, update, orderChange, orderCommand};
-ghost use Rattle.outbox.specs.Written.{sealed, Room, LineRoom, RoomFor, describingStart, toldReply, switchedReply};
+ghost use Rattle.outbox.specs.contracts.Written.{sealed, Room, LineRoom, RoomFor, describingStart, toldReply, switchedReply};
 use ascii::write::put;
 use ascii::write::put_byte;
 use counter::Counts;
@@ -122,7 +122,8 @@ pub fn put_final_error(
     denial: Denial,
 ) -> usize
     requires { ⌜ RoomFor (now out) at (final client (error (now action) (now specifier) (denialOf denial))) ⌝ }
-    ensures { λ r. ⌜ Puts (now (out .entry)) at (encode (final client (error (now (action .entry)) (now (specifier .entry)) (denialOf denial)))) (now (out .exit)) r ⌝ }
+    ensures { λ r. ⌜ Puts (now (out .entry)) at (encode (final client (error (now (action .entry)) (now (specifier .entry)) (denialOf denial))))
+        (now (out .exit)) r ⌝ }
 {
     let size = error_length(action, specifier, denial);
     let line = put_header(out, at, b"RP", client, size + 1);
@@ -163,7 +164,8 @@ pub fn put_final_switched(out: &mut [u8], at: usize, client: u8, switched: Switc
 // A word with a module's name.
 fn put_final_word_name(out: &mut [u8], at: usize, client: u8, word: &[u8], name: &[u8]) -> usize
     requires { ⌜ LineRoom (now out) at (bytes "RP") client (optionally (now word) (some (now name))) ⌝ }
-    ensures { λ r. ⌜ Puts (now (out .entry)) at (sealed (bytes "RP") client (optionally (now (word .entry)) (some (now (name .entry))) ++ bytes "\n")) (now (out .exit)) r ⌝ }
+    ensures { λ r. ⌜ Puts (now (out .entry)) at (sealed (bytes "RP") client (optionally (now (word .entry)) (some (now (name .entry))) ++ bytes "\n"))
+        (now (out .exit)) r ⌝ }
 {
     let size = word_name_length(word, name);
     let line = put_header(out, at, b"RP", client, size + 1);
@@ -200,13 +202,46 @@ fn put_named_record(
     value: &[u8],
     time: u64,
 ) -> usize
-    requires { ⌜ LineRoom (now out) at (now mark) client (now word ++ reportText (reportOf (now «module») (now accessible) (heldBy sensor (now value)) time)) ⌝ }
-    ensures { λ r. ⌜ Puts (now (out .entry)) at (sealed (now (mark .entry)) client (now (word .entry) ++ reportText (reportOf (now («module» .entry)) (now (accessible .entry)) (heldBy sensor (now (value .entry))) time) ++ bytes "\n")) (now (out .exit)) r ⌝ }
+    requires { ⌜ LineRoom (now out) at (now mark) client
+        (now word ++ reportText (reportOf (now «module») (now accessible) (heldBy sensor (now value)) time)) ⌝ }
+    ensures { λ r. ⌜ Puts (now (out .entry)) at (sealed (now (mark .entry)) client
+        (now (word .entry) ++ reportText (reportOf (now («module» .entry)) (now (accessible .entry)) (heldBy sensor (now (value .entry))) time)
+        ++ bytes "\n")) (now (out .exit)) r ⌝ }
 {
     let size = named_length(word, module, accessible, sensor, value, time);
     let line = put_header(out, at, mark, client, size + 1);
     let end = put_named(out, line, word, module, accessible, sensor, value, time);
     put_byte(out, end, 10)
+}
+
+// The reply with a word and a value.
+fn put_told(
+    out: &mut [u8],
+    at: usize,
+    client: u8,
+    word: &[u8],
+    module: &[u8],
+    accessible: &[u8],
+    value: &[u8],
+    time: u64,
+) -> usize
+    requires { ⌜ LineRoom (now out) at (bytes "RP") client (now word ++ reportText (reportOf (now «module») (now accessible) (valued (now value)) time)) ⌝ }
+    ensures { λ r. ⌜ Puts (now (out .entry)) at (sealed (bytes "RP") client
+        (now (word .entry) ++ reportText (reportOf (now («module» .entry)) (now (accessible .entry)) (valued (now (value .entry))) time)
+        ++ bytes "\n")) (now (out .exit)) r ⌝ }
+{
+    put_named_record(
+        out,
+        at,
+        b"RP",
+        client,
+        word,
+        module,
+        accessible,
+        Sensor::Works,
+        value,
+        time,
+    )
 }
 
 pub fn put_final_report(
@@ -220,54 +255,29 @@ pub fn put_final_report(
     time: u64,
 ) -> usize
     requires { ⌜ RoomFor (now out) at (final client (toldReply told (reportOf (now «module») (now accessible) (valued (now value)) time))) ⌝ }
-    ensures { λ r. ⌜ Puts (now (out .entry)) at (encode (final client (toldReply told (reportOf (now («module» .entry)) (now (accessible .entry)) (valued (now (value .entry))) time)))) (now (out .exit)) r ⌝ }
+    ensures { λ r. ⌜ Puts (now (out .entry)) at (encode (final client (toldReply told
+        (reportOf (now («module» .entry)) (now (accessible .entry)) (valued (now (value .entry))) time)))) (now (out .exit)) r ⌝ }
 {
     match told {
-        Told::Reply => put_named_record(
+        Told::Reply => put_told(out, at, client, b"reply ", module, accessible, value, time),
+        Told::Changed => put_told(
             out,
             at,
-            b"RP",
-            client,
-            b"reply ",
-            module,
-            accessible,
-            Sensor::Works,
-            value,
-            time,
-        ),
-        Told::Changed => put_named_record(
-            out,
-            at,
-            b"RP",
             client,
             b"changed ",
             module,
             accessible,
-            Sensor::Works,
             value,
             time,
         ),
-        Told::Done => put_named_record(
+        Told::Done => put_told(out, at, client, b"done ", module, accessible, value, time),
+        Told::Checked => put_told(
             out,
             at,
-            b"RP",
-            client,
-            b"done ",
-            module,
-            accessible,
-            Sensor::Works,
-            value,
-            time,
-        ),
-        Told::Checked => put_named_record(
-            out,
-            at,
-            b"RP",
             client,
             b"checked ",
             module,
             accessible,
-            Sensor::Works,
             value,
             time,
         ),
@@ -286,7 +296,8 @@ pub fn put_update(
     time: u64,
 ) -> usize
     requires { ⌜ RoomFor (now out) at (update client (reportOf (now «module») (now accessible) (heldBy sensor (now value)) time)) ⌝ }
-    ensures { λ r. ⌜ Puts (now (out .entry)) at (encode (update client (reportOf (now («module» .entry)) (now (accessible .entry)) (heldBy sensor (now (value .entry))) time))) (now (out .exit)) r ⌝ }
+    ensures { λ r. ⌜ Puts (now (out .entry)) at (encode (update client
+        (reportOf (now («module» .entry)) (now (accessible .entry)) (heldBy sensor (now (value .entry))) time))) (now (out .exit)) r ⌝ }
 {
     match sensor {
         Sensor::Works => put_named_record(

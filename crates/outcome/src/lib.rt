@@ -29,3 +29,9 @@ pub struct Answered {
     pub state: State,
     pub written: usize,
 }
+
+// The same of a line, with the steps of its search.
+pub struct Replied {
+    pub answered: Answered,
+    pub steps: usize,
+}

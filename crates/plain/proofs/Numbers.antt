@@ -11,7 +11,7 @@ use Rattle.table.specs.Layout.{tableOf}
 use Rattle.report.specs.Judge.{fault, lowest, tableNumber}
 use Rattle.report.proofs.Faults.{no-fault, lowest-none}
 use Rattle.plain.specs.Node.{Node}
-use Rattle.plain.specs.Calls.{Call, sends, isSmall, lentFaults, ownFaults, callNumber}
+use Rattle.plain.specs.Calls.{Call, sends, isSmall, isShort, lentFaults, ownFaults, callNumber}
 
 pub none-both : (xs ys : List ℕ) → (lowest (xs ++ ys) ≡ 0) ↔ ((lowest xs ≡ 0) × (lowest ys ≡ 0))
 unfolding lowest
@@ -28,6 +28,7 @@ pub record Granted (table : List ℕ) (unfit : Bool) (e : Call) : Type 0 where
   pub accepted : tableNumber table ≡ 0
   pub outbox : sends (e .event) ≡ true → 32768 ≤ e .lent .outbox
   pub area : 16384 ≤ e .lent .area
+  pub index : isShort (e .lent .index) ≡ false
   pub fit : unfit ≡ false
 
 module _ (table : List ℕ) (unfit : Bool) (e : Call) where
@@ -40,9 +41,10 @@ module _ (table : List ℕ) (unfit : Bool) (e : Call) where
           accepted = at 0;
           outbox = large (sends (e .event)) (e .lent .outbox) .0 (no-fault 6 (isSmall (e .event) (e .lent .outbox)) (at 1));
           area = ltb-false (e .lent .area) 16384 (no-fault 7 (ltb (e .lent .area) 16384) (at 2));
-          fit = no-fault 8 unfit (at 3);
+          index = no-fault 17 (isShort (e .lent .index)) (at 3);
+          fit = no-fault 8 unfit (at 4);
         },
-    λ g. rw (g .accepted, large (sends (e .event)) (e .lent .outbox) .1 (g .outbox), le-ltb (e .lent .area) 16384 (g .area), g .fit) refl,
+    λ g. rw (g .accepted, large (sends (e .event)) (e .lent .outbox) .1 (g .outbox), le-ltb (e .lent .area) 16384 (g .area), g .index, g .fit) refl,
   )
 
   -- a call is accepted if neither what it is lent nor its event is amiss

@@ -15,13 +15,13 @@ use Rattle.message.specs.Reply.{identification}
 use Rattle.plain.specs.Node.{Node}
 use Rattle.plain.specs.Answer.{Outcome, refused, carried, outcome, conclude, answerParts, settingsOf, partsSet}
 
--- `check` is one of "Anything else: ProtocolError."
+-- `check` is one of "Anything else: ProtocolError." [L-15, L-24]
 unfoldable pub firstRequest : Parts → Request
 firstRequest p = cond (same (p .action) (bytes "check")) malformed (request p)
 
 -- On the table w, at the node n, by client c, at the time `now`.
 module _ (w : Table) (n : Node) (c now : ℕ) where
-  -- "`*IDN?`: `ISSE&SINE2020,SECoP,V2019-09-16,v1.0`."; a check is never asked for
+  -- "`*IDN?`: `ISSE&SINE2020,SECoP,V2019-09-16,v1.0`."; a check is never asked for [L-15, L-24]
   unfoldable pub firstOutcome : Request → Outcome
   firstOutcome identify = carried n [] [] (identification none)
   firstOutcome describe = outcome w n c now describe

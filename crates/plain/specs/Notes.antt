@@ -15,7 +15,7 @@ use Rattle.plain.specs.Answer.{Outcome, carried, outcome, conclude, answ
 
 -- On the table w, at the node n, by client c, at the time `now`.
 module _ (w : Table) (n : Node) (c now : ℕ) where
-  -- what a request came to
+  -- what a request came to [T-35]
   unfoldable pub formerly : Request → Outcome
   formerly identify = outcome w n c now identify
   formerly describe = carried n [] [] (describing (notedReport w))
@@ -29,7 +29,7 @@ module _ (w : Table) (n : Node) (c now : ℕ) where
   formerly count = outcome w n c now count
   formerly malformed = outcome w n c now malformed
 
-  -- the next node and the records of a line, and what it set
+  -- the next node and the records of a line, and what it set [T-35]
   unfoldable pub formerParts : Parts → Node × List Record
   formerParts p = conclude w n c now p (formerly (request p))
 

@@ -18,7 +18,7 @@ use Rattle.plain.specs.Calls.{Event, Open, Close, Piece, Effect, effect, pieceE
 use Rattle.state.specs.declared.Clients.{Clients}
 use Rattle.state.specs.declared.State.{State}
 use Rattle.state.specs.View.{isSet, clientAt, view, areaWith, settingsWith, outboxAfter, written, nextClients, nextCounts}
-use Rattle.state.specs.Counted.{countsCleared}
+use Rattle.state.specs.contracts.Counted.{countsCleared}
 use Rattle.state.proofs.Counted.{cleared-view}
 use Rattle.state.specs.Fit.{clientUnfit, settingsUnfit, isUnfit}
 use Rattle.state.proofs.Becomes.{Becomes, Always, Joinable}
@@ -26,8 +26,8 @@ use Rattle.ascii.proofs.Lists.{neither}
 use Rattle.state.proofs.Kept.{still-fit}
 use Rattle.state.proofs.Views.{client-view}
 use Rattle.promise.specs.declared.Done.{Done}
-use Rattle.promise.specs.Leaves.{Leaves}
-use Rattle.promise.specs.Answer.{quietDone, doneWith}
+use Rattle.promise.specs.contracts.Leaves.{Leaves}
+use Rattle.promise.specs.contracts.Answer.{quietDone, doneWith}
 
 -- ## Fitness
 
@@ -109,7 +109,7 @@ module _ (table : List ℕ) (s : State) (values : List ℕ) (fit : isUnfit (tabl
       → condition (length (tableOf table .modules))
       → effect (tableOf table) (view table s values) e ≡ record { next = withClient (view table s values) c x; settings = []; used = u; records = [] }
       → (outbox : List ℕ)
-      → Leaves table s values e outbox (doneWith u 0 next) values outbox
+      → Leaves table s values e outbox (doneWith u 0 0 next) values outbox
   unfolding written outboxAfter encodeAll areaWith settingsWith
   quiet e x u condition b h f outbox =
       record {
@@ -149,7 +149,7 @@ module _ (table : List ℕ) (s : State) (values : List ℕ) (fit : isUnfit (tabl
   pub joins : (bs outbox : List ℕ) → isSet (s .clients .open) c ≡ true → hasFeed bs ≡ false
       → Becomes (s .clients) c (receive (clientAt (s .clients) c) (beforeFeed bs)) (Joinable (s .clients) c (beforeFeed bs)) r
       → Leaves table s values (Piece c bs t) outbox
-      (doneWith (length (beforeFeed bs)) 0 next) values outbox
+      (doneWith (length (beforeFeed bs)) 0 0 next) values outbox
   unfolding effect pieceEffect usedOf ended endedSets view
   joins bs outbox o f b =
       quiet (Piece c bs t) (receive (clientAt (s .clients) c) (beforeFeed bs)) (length (beforeFeed bs)) (Joinable (s .clients) c (beforeFeed bs)) b

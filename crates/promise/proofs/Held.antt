@@ -18,7 +18,7 @@ use Rattle.state.specs.Fit.{clientUnfit}
 use Rattle.state.proofs.Becomes.{Becomes, Always, Sized, LinesFit}
 use Rattle.state.proofs.Cells.{fit-at}
 use Rattle.state.proofs.Kept.{each-fit, fit-lines, still-fit}
-use Rattle.outcome.specs.Ready.{Ready}
+use Rattle.outcome.specs.contracts.Ready.{Ready}
 use Rattle.promise.proofs.Clients.{fit-parts, with-clients}
 
 -- ## Open clients

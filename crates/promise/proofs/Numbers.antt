@@ -10,41 +10,45 @@ use Rattle.ascii.specs.Numbers.{latest}
 use Rattle.table.specs.Layout.{tableOf}
 use Rattle.report.specs.Judge.{fault, lowest, tableNumber}
 use Rattle.report.proofs.Faults.{no-fault, lowest-none, lowest-both}
-use Rattle.plain.specs.Calls.{Event, Call, isSmall, fault8, fault9, fault10, lentFaults, ownFaults, callNumber}
+use Rattle.plain.specs.Calls.{Event, Call, isSmall, isShort, fault8, fault9, fault10, fault18, lentFaults, ownFaults, callNumber}
 use Rattle.state.specs.declared.State.{State}
 use Rattle.state.specs.View.{view}
 use Rattle.state.specs.Fit.{isUnfit}
-use Rattle.promise.specs.Lent.{lentNumber}
+use Rattle.promise.specs.contracts.Lent.{lentNumber}
 
 module _ (table : List ℕ) (s : State) (values : List ℕ) where
   abbrev number : Call → ℕ
   number e = callNumber table (isUnfit (tableOf table) s values) (view table s values) e
 
-  abbrev lent : Bool → ℕ → List ℕ
-  lent small t = tableNumber table ∷ fault 7 small ∷ fault8 (length values) ∷ fault9 (isUnfit (tableOf table) s values) ∷ fault10 t ∷ []
+  abbrev lent : Bool → List ℕ → ℕ → List ℕ
+  lent small index t =
+      tableNumber table ∷ fault 7 small ∷ fault8 (length values) ∷ fault18 index ∷ fault9 (isUnfit (tableOf table) s values) ∷ fault10 t ∷ []
 
   -- of an event that is judged by its time, and then by ks
-  pub number-is : (e : Event) (o t : ℕ) (ks : List ℕ) → ownFaults (tableOf table) (view table s values) e ≡ fault10 t ∷ ks
-      → number (record { event = e; lent = record { area = length values; outbox = o } }) ≡ lowest (lentNumber table values (isSmall e o) s t ∷ ks)
+  pub number-is : (e : Event) (o : ℕ) (index : List ℕ) (t : ℕ) (ks : List ℕ) → ownFaults (tableOf table) (view table s values) e ≡ fault10 t ∷ ks
+      → number (record { event = e; lent = record { area = length values; outbox = o; index = index } })
+      ≡ lowest (lentNumber table values (isSmall e o) index s t ∷ ks)
   unfolding callNumber lentFaults lentNumber
-  number-is e o t ks h = rw h (sym (lowest-both (lent (isSmall e o) t) ks))
+  number-is e o index t ks h = rw h (sym (lowest-both (lent (isSmall e o) index t) ks))
 
   -- what is known where all that is lent is good
-  pub record Good (small : Bool) (t : ℕ) : Type 0 where
+  pub record Good (small : Bool) (index : List ℕ) (t : ℕ) : Type 0 where
     pub accepted : tableNumber table ≡ 0
     pub outbox : small ≡ false
     pub area : 16384 ≤ length values
+    pub unshort : isShort index ≡ false
     pub fit : isUnfit (tableOf table) s values ≡ false
     pub time : t ≤ latest
 
-  pub good : (small : Bool) (t : ℕ) → lentNumber table values small s t ≡ 0 → Good small t
+  pub good : (small : Bool) (index : List ℕ) (t : ℕ) → lentNumber table values small index s t ≡ 0 → Good small index t
   unfolding lentNumber
-  good small t e =
-      let at = lowest-none (lent small t) e in
+  good small index t e =
+      let at = lowest-none (lent small index t) e in
       record {
         accepted = at 0;
         outbox = no-fault 6 small (at 1);
         area = ltb-false (length values) 16384 (no-fault 7 (ltb (length values) 16384) (at 2));
-        fit = no-fault 8 (isUnfit (tableOf table) s values) (at 3);
-        time = ltb-false latest t (no-fault 9 (ltb latest t) (at 4));
+        unshort = no-fault 17 (isShort index) (at 3);
+        fit = no-fault 8 (isUnfit (tableOf table) s values) (at 4);
+        time = ltb-false latest t (no-fault 9 (ltb latest t) (at 5));
       }

@@ -1,6 +1,5 @@
-pub mod Answer
-pub mod Leaves
-pub mod Lent
+pub mod Listed
 pub mod Promise
 pub mod Run
 pub mod Shown
+pub mod contracts

@@ -1,4 +1,4 @@
--- What the six calls promise, for all inputs and all refusals, by the plain node's own step. Assumes nothing.
+-- What a start and the calls of a single event promise, for all inputs and all refusals, by the plain node's own step. Assumes nothing.
 use Prim.Native.Nat.{ℕ, _≤_}
 use mathlib.Core.Bool.{false, cond}
 use mathlib.Core.List.{List}
@@ -31,6 +31,7 @@ pub record Kept (table : List ℕ) (e : Call) (s : State) (values outbox : List 
   pub number : r .number ≡ stepFrom table s values e .1 .number
   pub used : r .used ≡ stepFrom table s values e .1 .used
   pub writes : r .written ≡ written (stepFrom table s values e .1 .records)
+  pub steps : r .steps ≡ stepFrom table s values e .1 .steps
   pub sends : outbox′ ≡ outboxAfter outbox (stepFrom table s values e .1 .records)
   -- "No accepted call writes more than 32,019 bytes."
   pub short : r .written ≤ 32019
@@ -42,7 +43,7 @@ pub record Kept (table : List ℕ) (e : Call) (s : State) (values outbox : List 
 
 -- ## A start
 
--- a state with no client open, no value set and no error, with the same time for every parameter, and all counts 0
+-- a state with no client open, no value set and no error, with the same time for every parameter, and all counts 0 [C-3, C-12]
 unfoldable pub blank : ℕ → State
 blank time =
     record {
@@ -58,11 +59,12 @@ blank time =
       counts = replicate 8 noCounts;
     }
 
--- What a start promises; it writes nothing. "A refused start returns ..": a blank state with time 0.
+-- What a start promises; it writes nothing. "A refused start returns ..": a blank state with time 0. [H-3]
 pub record Begins (table values : List ℕ) (time : ℕ) (r : Done) : Type 0 where
   pub number : r .number ≡ startNumber table (length values) time
   pub used : r .used ≡ 0
   pub writes : r .written ≡ 0
+  pub steps : r .steps ≡ 0
   pub state : r .state ≡ blank (cond (eqb (r .number) 0) time 0)
   -- with any values area, since nothing is stored yet
   pub node : (own : List ℕ) → view table (r .state) own ≡ started table (length values) time

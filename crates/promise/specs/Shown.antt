@@ -18,12 +18,12 @@ use Rattle.state.specs.declared.Settings.{Settings}
 use Rattle.state.specs.declared.State.{State}
 use Rattle.state.specs.View.{placeOf, view}
 use Rattle.promise.specs.declared.Shown.{Shown}
-use Rattle.promise.specs.Lent.{lentNumber}
+use Rattle.promise.specs.contracts.Lent.{lentNumber}
 
--- the lowest number: of what every call judges (no outbox and no time are lent), and 14, "no such parameter number"
+-- the first number: of what every call judges (no outbox, no index and no time are lent), and 14, "no such parameter number"
 unfoldable pub valueNumber : List ℕ → List ℕ → State → ℕ → ℕ
 valueNumber table values s p =
-    lowest (lentNumber table values false s 0 ∷ fault 14 (not (isSome (getElem? (parameters (tableOf table)) p))) ∷ [])
+    lowest (lentNumber table values false [] s 0 ∷ fault 14 (not (isSome (getElem? (parameters (tableOf table)) p))) ∷ [])
 
 -- a refusal answers its number only
 abbrev pub notShown : ℕ → Shown
@@ -38,10 +38,11 @@ partOf s p x =
     (record { number = 0; stored = 0; error = 0; from = x .place; size = length (x .initial); time = getD (s .time) p 0 })
     (record { number = 0; stored = 1; error = 0; from = placeOf p; size = getD (s .length) p 0; time = getD (s .time) p 0 })
 
--- where parameter p can't be read: the class in the place of a part
+-- where parameter p can't be read: the class in the place of a part [C-9]
 abbrev pub errorOf : Settings → ℕ → Shown
 errorOf s p = record { number = 0; stored = 0; error = getD (s .error) p 0; from = 0; size = 0; time = getD (s .time) p 0 }
 
+-- [C-9]
 unfoldable pub shownOf : Settings → ℕ → Parameter → Shown
 shownOf s p x = cond (eqb (getD (s .error) p 0) 0) (partOf s p x) (errorOf s p)
 

@@ -1,12 +1,25 @@
 // What the calls of a node answer. What each promises, and what a run of calls that kept their promises is, stands in specs/.
 use state::State;
 
-// A call's number (0: accepted), how many bytes of a piece it used, how many bytes of the outbox it wrote, and the next state.
+// A call's number (0: accepted), how many bytes of a piece it used, how many bytes of the outbox it wrote, how many steps its search took, and the
+// next state.
 #[repr(C)]
 pub struct Done {
     pub number: u8,
     pub used: usize,
     pub written: usize,
+    pub steps: usize,
+    pub state: State,
+}
+
+// A list's number (0: all its readings were taken), how many of them were taken, how many bytes of the outbox they wrote in all, how many steps a
+// search took (0: it seeks nothing), and the next state.
+#[repr(C)]
+pub struct Listed {
+    pub number: u8,
+    pub taken: usize,
+    pub written: usize,
+    pub steps: usize,
     pub state: State,
 }
 

@@ -6,20 +6,10 @@ use mathlib.Core.Path.{_≡_, refl, ap, ap₂, _∙_}
 use Rattle.plain.specs.Node.{Node}
 use Rattle.plain.specs.Calls.{Call, Answer}
 use Rattle.plain.specs.History.{step, answers, finish}
+use Rattle.lists.proofs.Readings.{answers-append, finish-append}
 use Rattle.trace.specs.Trace.{Entry}
 use Rattle.replay.specs.Replay.{callFor, rest, Played, first, both, ifSome, playOn, play, playAll}
 use Rattle.replay.specs.Theorems.{PlayedAsCalls}
-
--- one history after another
-answers-both : (table : List ℕ) (n : Node) (h k : List Call) → answers table n (h ++ k) ≡ answers table n h ++ answers table (finish table n h) k
-unfolding answers finish
-answers-both table n [] k = refl
-answers-both table n (c ∷ h) k = ap (λ (l : List Answer). step table n c .1 ∷ l) (answers-both table (step table n c .0) h k)
-
-finish-both : (table : List ℕ) (n : Node) (h k : List Call) → finish table n (h ++ k) ≡ finish table (finish table n h) k
-unfolding finish
-finish-both table n [] k = refl
-finish-both table n (c ∷ h) k = finish-both table (step table n c .0) h k
 
 -- calls with their answers and the node that they leave
 record Answered (table : List ℕ) (n : Node) (p : Played) : Type 0 where
@@ -45,9 +35,9 @@ module _ (table : List ℕ) (area room : ℕ) where
       let q = all-answered (p .node) es in
       let later = playAll table area room (p .node) es .calls in
       record {
-        same = answers-both table n (p .calls) later
+        same = answers-append table n (p .calls) later
             ∙ ap₂ _++_ (a .same) (ap (λ (m : Node). answers table m later) (a .end) ∙ q .same);
-        end = finish-both table n (p .calls) later ∙ ap (λ (m : Node). finish table m later) (a .end) ∙ q .end;
+        end = finish-append table n (p .calls) later ∙ ap (λ (m : Node). finish table m later) (a .end) ∙ q .end;
       }
 
 pub played-as-calls : PlayedAsCalls

@@ -22,7 +22,7 @@ use Rattle.message.specs.Error.{Fault, faultOf}
 use Rattle.message.specs.Reply.{Held, valued, failed, heldAs}
 use Rattle.outbox.specs.Outbox.{Record, encodeAll}
 use Rattle.plain.specs.Node.{Node, Value, showing, reportOf, clientNumbers}
-use Rattle.plain.specs.Calls.{Event, Open, Close, Unreadable, Call, Answer, Effect, answerOf, effect, settle, stepIf, callNumber, driverEffect}
+use Rattle.plain.specs.Calls.{Event, Open, Close, Unreadable, Call, Answer, Effect, answerOf, effect, callSteps, settle, stepIf, callNumber, driverEffect}
 use Rattle.plain.specs.Calls.{readingEffect, unreadableEffect, pieceEffect, lentFaults, ownFaults, isSmall, sends, withArea, withOutbox}
 use Rattle.plain.specs.Calls as Calls
 use Rattle.plain.proofs.Put.{put-at}
@@ -42,7 +42,7 @@ use Rattle.trace.specs.declared.Kind.the-variants as Kind
 use Rattle.trace.specs.declared.Head.{Head}
 use Rattle.trace.specs.Trace.{Entry}
 use Rattle.figures.specs.declared.Figures.{Figures}
-use Rattle.figures.specs.Tally.{noSettings, tallyAt, markOf, noted, observed, Tallies, Bounded, Observes}
+use Rattle.figures.specs.contracts.Tally.{noSettings, tallyAt, markOf, noted, observed, Tallies, Bounded, Observes}
 use Rattle.figures.specs.Theorems.{FiguresAreExact}
 use Rattle.figures.proofs.Keeping.{none-anywhere, observed-same, observed-other}
 use Rattle.figures.proofs.Tallying.{figures-are-exact}
@@ -50,11 +50,11 @@ use Rattle.replay.specs.declared.Chosen.{Chosen}
 use Rattle.replay.specs.declared.Chosen.the-variants.{Of, Nothing}
 use Rattle.replay.specs.Replay.{callOf, callFor}
 use Rattle.replay.specs.Settings.{ordersOf, formFor, readingsOf, setBy}
-use Rattle.replay.specs.Figured.{Figured, orderIn, chosenBy, Shows, Shown, Markable, Notes}
-use Rattle.replay.specs.View.{entryOf}
+use Rattle.replay.specs.contracts.Figured.{Figured, orderIn, chosenBy, Shows, Shown, Markable, Notes}
+use Rattle.replay.specs.contracts.View.{entryOf}
 use Rattle.replay.specs.Promise.{Single, by-open, by-close, by-piece, by-reading, by-unreadable}
-use Rattle.replay.specs.Inner as Inner
-use Rattle.replay.specs.Inner.{Made, Counts}
+use Rattle.replay.specs.contracts.Inner as Inner
+use Rattle.replay.specs.contracts.Inner.{Made, Counts}
 use Rattle.fit.proofs.Shapes.{just}
 use Rattle.replay.proofs.Went.{area-length}
 use Rattle.replay.proofs.Orders.{NoOrders, updates-to, Ordered, no-order, one-order, piece-ordered, order-one, order-none, order-long}
@@ -68,8 +68,9 @@ pub data Sets (w : Table) (e : Event) (a : Answer) (m : Node) : Chosen → Type 
   sets-one : (k : ℕ) (p : Placed Parameter) (v : List ℕ) → getElem? (parameters w) k ≡ some p → m .values k .held ≡ valued v
       → setBy w k e a ≡ v ∷ [] → ((j : ℕ) → (j ≡ k → ⊥) → setBy w j e a ≡ []) → Sets w e a m (Of k)
 
+-- whatever its steps
 abbrev Found : Table → Node → Event → Chosen → Type 0
-Found w n e r = Sets w e (answerOf (effect w n e)) (effect w n e .next) r
+Found w n e r = Sets w e (answerOf (effect w n e) 0) (effect w n e .next) r
 
 module _ (w : Table) (n : Node) where
   open-found : (c t : ℕ) → Found w n (Open c t) Nothing
@@ -92,7 +93,7 @@ module _ (w : Table) (n : Node) where
   module _ (c : ℕ) (bs : List ℕ) (t : ℕ) (more : List ℕ) where
     abbrev Here : List Record → Chosen → Type 0
     Here rs r =
-        Sets w (Calls.Piece c bs t) (record { number = 0; used = pieceEffect w n c bs t .used; records = rs }) (pieceEffect w n c bs t .next) r
+        Sets w (Calls.Piece c bs t) (record { number = 0; used = pieceEffect w n c bs t .used; records = rs; steps = 0 }) (pieceEffect w n c bs t .next) r
 
     quiet-piece : (rs : List Record) → NoOrders rs → (b : Bool) → eqb (length (encodeAll rs)) 0 ≡ b → Here rs (cond b Nothing (orderIn (encodeAll rs ++ more)))
     unfolding setBy readingsOf
@@ -113,7 +114,7 @@ module _ (w : Table) (n : Node) where
 
   module _ (k : ℕ) (bs : List ℕ) (t : ℕ) (p : Placed Parameter) (e : getElem? (parameters w) k ≡ some p) where
     read-same : (u : ℕ) (rs : List Record) → NoOrders rs
-        → setBy w k (Calls.Reading k bs t) (record { number = 0; used = u; records = rs }) ≡ storedForm (p .it .datainfo) bs ∷ []
+        → setBy w k (Calls.Reading k bs t) (record { number = 0; used = u; records = rs; steps = 0 }) ≡ storedForm (p .it .datainfo) bs ∷ []
     unfolding setBy readingsOf formFor
     read-same u rs h =
         ap₂ _++_
@@ -122,7 +123,7 @@ module _ (w : Table) (n : Node) where
         (h k)
 
     read-other : (u : ℕ) (rs : List Record) → NoOrders rs → (j : ℕ) → (j ≡ k → ⊥)
-        → setBy w j (Calls.Reading k bs t) (record { number = 0; used = u; records = rs }) ≡ []
+        → setBy w j (Calls.Reading k bs t) (record { number = 0; used = u; records = rs; steps = 0 }) ≡ []
     unfolding setBy readingsOf
     read-other u rs h j z =
         ap₂ _++_ (ap (λ (x : Bool). cond x (formFor (getElem? (parameters w) k) bs) []) (ne-eqb j k z)) (h j)
@@ -146,18 +147,18 @@ pub data Settles (table : List ℕ) (e : Call) (s : State) (lent : List ℕ) (se
 
 -- ## Accepted and refused calls
 
-settled-number : (k : ℕ) (n : Node) (x : Effect) → settle k n x .1 .number ≡ k
+settled-number : (k : ℕ) (n : Node) (x : Effect) (i : ℕ) → settle k n x i .1 .number ≡ k
 unfolding settle
-settled-number zero n x = refl
-settled-number (suc k) n x = refl
+settled-number zero n x i = refl
+settled-number (suc k) n x i = refl
 
-settled-none : (k : ℕ) (n : Node) (x : Effect) → settle k n x .1 .number ≡ suc k → ⊥
-settled-none k n x e = let z = settled-number k n x in omega arith
+settled-none : (k : ℕ) (n : Node) (x : Effect) (i : ℕ) → settle k n x i .1 .number ≡ suc k → ⊥
+settled-none k n x i e = let z = settled-number k n x i in omega arith
 
-refused-none : (w : Table) (e : Event) (k : ℕ) (n : Node) (x : Effect) → (k ≡ 0 → ⊥) → (j : ℕ) → setBy w j e (settle k n x .1) ≡ []
+refused-none : (w : Table) (e : Event) (k : ℕ) (n : Node) (x : Effect) (i : ℕ) → (k ≡ 0 → ⊥) → (j : ℕ) → setBy w j e (settle k n x i .1) ≡ []
 unfolding settle setBy ordersOf
-refused-none w e zero n x h j = absurd (h refl)
-refused-none w e (suc k) n x h j = ap (λ (b : Bool). cond b (readingsOf w j e) [] ++ []) (ne-eqb (suc k) 0 (λ z. omega arith))
+refused-none w e zero n x i h j = absurd (h refl)
+refused-none w e (suc k) n x i h j = ap (λ (b : Bool). cond b (readingsOf w j e) [] ++ []) (ne-eqb (suc k) 0 (λ z. omega arith))
 
 module _ {table : List ℕ} {e : Call} {s : State} {values outbox : List ℕ} {d : Done} {values′ outbox′ : List ℕ}
     (k : Kept table e s values outbox d values′ outbox′) where
@@ -169,17 +170,17 @@ module _ {table : List ℕ} {e : Call} {s : State} {values outbox : List ℕ} {d
 
   number-is : d .number ≡ callNumber table unfit node e
   unfolding stepIf
-  number-is = k .number ∙ settled-number (callNumber table unfit node e) node (effect (tableOf table) node (e .event))
+  number-is = k .number ∙ settled-number (callNumber table unfit node e) node (effect (tableOf table) node (e .event)) (callSteps (tableOf table) node e)
 
   pub kept-refused : (d .number ≡ 0 → ⊥) → (j : ℕ) → setBy (tableOf table) j (e .event) (stepFrom table s values e .1) ≡ []
   unfolding stepIf
-  kept-refused h = refused-none (tableOf table) (e .event) (callNumber table unfit node e) node _ (λ z. h (number-is ∙ z))
+  kept-refused h = refused-none (tableOf table) (e .event) (callNumber table unfit node e) node _ _ (λ z. h (number-is ∙ z))
 
   module _ (z : d .number ≡ 0) where
     zero-number : callNumber table unfit node e ≡ 0
     zero-number = sym number-is ∙ z
 
-    step-is : stepFrom table s values e ≡ (effect (tableOf table) node (e .event) .next, answerOf (effect (tableOf table) node (e .event)))
+    step-is : stepFrom table s values e ≡ (effect (tableOf table) node (e .event) .next, answerOf (effect (tableOf table) node (e .event)) (callSteps (tableOf table) node e))
     unfolding stepIf settle
     step-is = rw zero-number refl
 
@@ -199,7 +200,7 @@ module _ {table : List ℕ} {e : Call} {s : State} {values outbox : List ℕ} {d
 
     kept-own : (j : ℕ) → getD (ownFaults (tableOf table) node (e .event)) j 0 ≡ 0
     unfolding callNumber lentFaults
-    kept-own j = lowest-none _ zero-number (suc (suc (suc (suc j))))
+    kept-own j = lowest-none _ zero-number (suc (suc (suc (suc (suc j)))))
 
     abbrev done-by : Effect
     done-by = effect (tableOf table) node (e .event)
@@ -251,6 +252,7 @@ module _ {table : List ℕ} {e : Call} {s : State} {values outbox : List ℕ} {d
         }
 
     settles : 16384 ≤ length values′ → (r : Chosen) → Found (tableOf table) node (e .event) r → Settles table e s values settings values′ r
+    unfolding setBy
     settles a _ (sets-none h) = settles-none (λ j. ap (λ (x : Node × Answer). setBy (tableOf table) j (e .event) (x .1)) step-is ∙ h j)
     settles a _ (sets-one i p v t h x y) =
         settles-one i p v (kept-shows a i p v t h) (ap (λ (q : Node × Answer). setBy (tableOf table) i (e .event) (q .1)) step-is ∙ x)

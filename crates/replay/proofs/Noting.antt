@@ -13,17 +13,17 @@ use Rattle.fit.proofs.Shapes.{just, nothing}
 use Rattle.table.specs.Table.{Parameter}
 use Rattle.table.specs.Layout.{tableOf, Readable}
 use Rattle.table.specs.Search.{Placed, parameters}
-use Rattle.table.specs.At.{parameterOf}
+use Rattle.table.specs.contracts.At.{parameterOf}
 use Rattle.table.specs.declared.layout.ParameterAt.{ParameterAt}
 use Rattle.table.proofs.Places.{initial-lies}
 use Rattle.search.specs.declared.cursor.Cursor.{Cursor}
 use Rattle.search.specs.declared.cursor.NextParameter as N
 use Rattle.search.specs.declared.cursor.NextParameter.{NextParameter}
-use Rattle.search.specs.Left.{placed}
-use Rattle.search.specs.Found.{ParameterNumbered, NumberedParameter}
+use Rattle.search.specs.contracts.Left.{placed}
+use Rattle.search.specs.contracts.Found.{ParameterNumbered, NumberedParameter}
 use Rattle.report.proofs.Faults.{accepted-readable}
 use Rattle.figures.specs.declared.Figures.{Figures}
-use Rattle.figures.specs.Tally.{markOf, SetTo, Marks, Observes}
+use Rattle.figures.specs.contracts.Tally.{markOf, SetTo, Marks, Observes}
 use Rattle.state.specs.declared.Settings.{Settings}
 use Rattle.state.specs.View.{shown, shownBytes, storedText}
 use Rattle.state.proofs.Settled.{shows-initial, shows-stored}
@@ -32,7 +32,7 @@ use Rattle.trace.specs.declared.Kind.{Kind}
 use Rattle.trace.specs.declared.Kind.the-variants.{Opening, Closing, Piece, Reading, Unreadable}
 use Rattle.replay.specs.declared.Chosen.{Chosen}
 use Rattle.replay.specs.declared.Chosen.the-variants.{Of, Nothing}
-use Rattle.replay.specs.Figured.{orderIn, chosenBy, Shows, Shown, Markable, Notes}
+use Rattle.replay.specs.contracts.Figured.{orderIn, chosenBy, Shows, Shown, Markable, Notes}
 
 -- ## Which parameter
 

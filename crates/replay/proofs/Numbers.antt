@@ -19,8 +19,8 @@ use Rattle.report.specs.Judge.{fault, lowest, treeNumber, numberOf, tableNumber
 use Rattle.message.specs.Error.{Fault, faultOf}
 use Rattle.plain.specs.Node.{Node, isOpen}
 use Rattle.plain.specs.Calls.{Event, Open, Close, Piece, Reading, Unreadable, Call}
-use Rattle.plain.specs.Calls.{withOutbox, isSmall, fault10, fault11, lentFaults, ownFaults, readingVerdict, callNumber}
-use Rattle.plain.specs.Calls.{beforeFeed, hasFeed, usedOf, Effect, pieceEffect, driverEffect, readingEffect, unreadableEffect, effect, settle, stepIf}
+use Rattle.plain.specs.Calls.{withOutbox, isSmall, isShort, fault10, fault11, lentFaults, ownFaults, readingVerdict, callNumber}
+use Rattle.plain.specs.Calls.{beforeFeed, hasFeed, usedOf, Effect, pieceEffect, driverEffect, readingEffect, unreadableEffect, effect, callSteps, settle, stepIf}
 use Rattle.promise.proofs.Clients.{before-long}
 
 abbrev Below : List ℕ → Type 0
@@ -76,7 +76,10 @@ lent-below table unfit e = (
   table-below table,
   (
     below 7 (isSmall (e .event) (e .lent .outbox)) (omega arith),
-    (below 8 (ltb (e .lent .area) 16384) (omega arith), (below 9 unfit (omega arith), tt)),
+    (
+      below 8 (ltb (e .lent .area) 16384) (omega arith),
+      (below 18 (isShort (e .lent .index)) (omega arith), (below 9 unfit (omega arith), tt)),
+    ),
   ),
 )
 
@@ -100,23 +103,23 @@ module _ (table : List ℕ) (unfit : Bool) (n : Node) where
       lowest-below _ (both-below (lentFaults table unfit e) (ownFaults (tableOf table) n (e .event)) (lent-below table unfit e)
       (own-below (tableOf table) n (e .event)))
 
-  settled-number : (k : ℕ) (e : Effect) → settle k n e .1 .number ≡ k
+  settled-number : (k : ℕ) (e : Effect) (i : ℕ) → settle k n e i .1 .number ≡ k
   unfolding settle
-  settled-number zero e = refl
-  settled-number (suc k) e = refl
+  settled-number zero e i = refl
+  settled-number (suc k) e i = refl
 
-  settled-used : (k m : ℕ) (e : Effect) → e .used ≤ m → settle k n e .1 .used ≤ m
+  settled-used : (k m : ℕ) (e : Effect) (i : ℕ) → e .used ≤ m → settle k n e i .1 .used ≤ m
   unfolding settle
-  settled-used zero m e h = h
-  settled-used (suc k) m e h = omega arith
+  settled-used zero m e i h = h
+  settled-used (suc k) m e i h = omega arith
 
   pub number-low : (e : Call) → stepIf table unfit n e .1 .number ≤ 18
   unfolding stepIf
-  number-low e = rw (settled-number (callNumber table unfit n e) (effect (tableOf table) n (e .event))) (call-below e)
+  number-low e = rw (settled-number (callNumber table unfit n e) (effect (tableOf table) n (e .event)) (callSteps (tableOf table) n e)) (call-below e)
 
   pub step-used : (e : Call) (m : ℕ) → effect (tableOf table) n (e .event) .used ≤ m → stepIf table unfit n e .1 .used ≤ m
   unfolding stepIf
-  step-used e m h = settled-used (callNumber table unfit n e) m (effect (tableOf table) n (e .event)) h
+  step-used e m h = settled-used (callNumber table unfit n e) m (effect (tableOf table) n (e .event)) (callSteps (tableOf table) n e) h
 
 -- ## An event uses no more bytes than it offers
 
@@ -161,10 +164,10 @@ used-some b bs = go (eqb b 10)
     go true = omega arith
     go false = omega arith
 
-settled-some : (n : Node) (k : ℕ) (e : Effect) → settle k n e .1 .number ≡ 0 → settle k n e .1 .used ≡ e .used
+settled-some : (n : Node) (k : ℕ) (e : Effect) (i : ℕ) → settle k n e i .1 .number ≡ 0 → settle k n e i .1 .used ≡ e .used
 unfolding settle
-settled-some n zero e h = refl
-settled-some n (suc k) e h = absurd (omega arith)
+settled-some n zero e i h = refl
+settled-some n (suc k) e i h = absurd (omega arith)
 
 pub piece-some : (table : List ℕ) (unfit : Bool) (n : Node) (c : ℕ) (bs : List ℕ) (t area outbox : ℕ) → 0 < length bs
     → stepIf table unfit n (withOutbox (Piece c bs t) area outbox) .1 .number ≡ 0
@@ -173,6 +176,6 @@ unfolding stepIf effect pieceEffect
 piece-some table unfit n c [] t area outbox l h = absurd (omega arith)
 piece-some table unfit n c (b ∷ bs) t area outbox l h =
     let e = withOutbox (Piece c (b ∷ bs) t) area outbox in
-    let s = settled-some n (callNumber table unfit n e) (effect (tableOf table) n (e .event)) h in
+    let s = settled-some n (callNumber table unfit n e) (effect (tableOf table) n (e .event)) (callSteps (tableOf table) n e) h in
     let u = used-some b bs in
     omega (arith, s)

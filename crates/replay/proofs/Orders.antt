@@ -25,7 +25,7 @@ use Rattle.plain.proofs.Put.{put-at}
 use Rattle.plain.proofs.Outcomes.{nodeAfter, before, replyTo, concluded, outcome-holds}
 use Rattle.replay.specs.declared.Chosen.the-variants.{Of, Nothing}
 use Rattle.replay.specs.Settings.{ordersOf}
-use Rattle.replay.specs.Figured.{orderIn}
+use Rattle.replay.specs.contracts.Figured.{orderIn}
 
 abbrev pub NoOrders : List Record → Type 0
 NoOrders rs = (k : ℕ) → ordersOf k rs ≡ []

@@ -11,7 +11,7 @@ use lib.ListN.{length, drop, length-drop}
 use borrow.Author.Tests.{ltb-true, ne-eqb}
 use Rattle.table.specs.Layout.{tableOf}
 use Rattle.plain.specs.Node.{Node}
-use Rattle.plain.specs.Calls.{withOutbox, Answer, Effect, usedOf, pieceEffect, effect, settle, stepIf, callNumber}
+use Rattle.plain.specs.Calls.{withOutbox, Answer, Effect, usedOf, pieceEffect, effect, callSteps, settle, stepIf, callNumber}
 use Rattle.plain.specs.Calls as Calls
 use Rattle.plain.specs.History.{step}
 use Rattle.trace.specs.declared.Kind.{Kind}
@@ -43,14 +43,14 @@ refused-left : (e : Entry) (m u : ℕ) → m ≢ 0
 refused-left e m u h = rw (ne-eqb m 0 h) (omega arith)
 
 module _ (n : Node) (e : Entry) where
-  settled-less : (k : ℕ) (x : Effect) (bs : List ℕ) → e .offered ≡ bs → x .used ≡ usedOf bs
-      → enough (cond (true && eqb (settle k n x .1 .number) 0 && ltb (settle k n x .1 .used) (length (e .offered)))
-      (some (offering e (drop (settle k n x .1 .used) (e .offered)))) none)
+  settled-less : (k : ℕ) (x : Effect) (i : ℕ) (bs : List ℕ) → e .offered ≡ bs → x .used ≡ usedOf bs
+      → enough (cond (true && eqb (settle k n x i .1 .number) 0 && ltb (settle k n x i .1 .used) (length (e .offered)))
+      (some (offering e (drop (settle k n x i .1 .used) (e .offered)))) none)
       ≤ length (e .offered)
   unfolding settle
-  settled-less (suc k) x bs o u = refused-left e (suc k) 0 (λ z. omega arith)
-  settled-less zero x [] o u = none-left e (x .used) (ap length o) (ltb (x .used) (length (e .offered))) refl
-  settled-less zero x (b ∷ bs) o u = let s = used-some b bs in fewer e (x .used) (omega arith) (ltb (x .used) (length (e .offered))) refl
+  settled-less (suc k) x i bs o u = refused-left e (suc k) 0 (λ z. omega arith)
+  settled-less zero x i [] o u = none-left e (x .used) (ap length o) (ltb (x .used) (length (e .offered))) refl
+  settled-less zero x i (b ∷ bs) o u = let s = used-some b bs in fewer e (x .used) (omega arith) (ltb (x .used) (length (e .offered))) refl
 
 -- after a call there is less to be offered
 less-left : (table : List ℕ) (n : Node) (k : Kind) (i t : ℕ) (bs : List ℕ) (area outbox : ℕ)
@@ -62,7 +62,7 @@ less-left table n Closing i t bs a o = omega arith
 less-left table n Piece i t bs a o =
     let c = withOutbox (Calls.Piece i bs t) a o in
     settled-less n (record { kind = Piece; number = i; time = t; offered = bs }) (callNumber table false n c)
-    (effect (tableOf table) n (c .event)) bs refl refl
+    (effect (tableOf table) n (c .event)) (callSteps (tableOf table) n c) bs refl refl
 less-left table n Reading i t bs a o = omega arith
 less-left table n Unreadable i t bs a o = omega arith
 

@@ -19,7 +19,7 @@ use Rattle.trace.specs.declared.Kind.the-variants.{Opening, Closing, Piece, Rea
 use Rattle.trace.specs.declared.Head.{Head}
 use Rattle.replay.specs.Replay.{isPiece}
 use Rattle.replay.specs.Promise.{by-open, by-close, by-piece, by-reading, by-unreadable}
-use Rattle.replay.specs.Inner as Inner
+use Rattle.replay.specs.contracts.Inner as Inner
 use Rattle.replay.proofs.Numbers.{number-low, step-used, piece-used, reading-used, unreadable-used, open-used, close-used, piece-some}
 
 module _ {table : List ℕ} {s : State} {values outbox : List ℕ} {d : Done} {values′ outbox′ : List ℕ} where

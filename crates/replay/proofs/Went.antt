@@ -16,7 +16,7 @@ use Rattle.report.specs.Judge.{tableNumber}
 use Rattle.outbox.specs.Outbox.{Record, encodeAll}
 use Rattle.message.specs.Reply.{Held, valued, failed}
 use Rattle.plain.specs.Node.{Node, Setting}
-use Rattle.plain.specs.Calls.{Open, Close, Call, withArea, withOutbox, Answer, Effect, effect, settle, stepIf, callNumber}
+use Rattle.plain.specs.Calls.{Open, Close, Call, withArea, withOutbox, Answer, Effect, effect, callSteps, settle, stepIf, callNumber}
 use Rattle.plain.specs.Calls as Calls
 use Rattle.plain.specs.History.{Heard, heard, step, sent}
 use Rattle.state.specs.declared.State.{State}
@@ -50,10 +50,10 @@ unfolding areaWith
 area-length values [] = refl
 area-length values (x ∷ xs) = area-length (withHeld values (x .parameter) (x .held)) xs ∙ held-length values (x .parameter) (x .held)
 
-settled-silent : (n : Node) (k : ℕ) (x : Effect) → x .records ≡ [] → settle k n x .1 .records ≡ []
+settled-silent : (n : Node) (k : ℕ) (x : Effect) (i : ℕ) → x .records ≡ [] → settle k n x i .1 .records ≡ []
 unfolding settle
-settled-silent n zero x e = e
-settled-silent n (suc k) x e = refl
+settled-silent n zero x i e = e
+settled-silent n (suc k) x i e = refl
 
 -- How a record e was played once: by the calls that were answered so, what is left after them
 pub record Went (table : List ℕ) (s : State) (values : List ℕ) (room : ℕ) (e : Entry) (d : Done) (values′ outbox′ : List ℕ) : Type 0 where
@@ -103,7 +103,7 @@ module _ (table : List ℕ) (s : State) (values : List ℕ) (f : Fine table s va
   unfolding written stepIf
   silent e values outbox d values′ outbox′ k q =
       let n = view table s values in
-      let none = settled-silent n (callNumber table (isUnfit (tableOf table) s values) n e) (effect (tableOf table) n (e .event)) q in
+      let none = settled-silent n (callNumber table (isUnfit (tableOf table) s values) n e) (effect (tableOf table) n (e .event)) (callSteps (tableOf table) n e) q in
       k .writes ∙ ap (λ (rs : List Record). length (encodeAll rs)) none
       ∙ unfold encodeAll in refl
 
@@ -121,17 +121,17 @@ module _ (table : List ℕ) (s : State) (values : List ℕ) (f : Fine table s va
       → Went table s values (length outbox) e d values′ outbox′
   unfolding callOf rest isPiece both effect
   single-went outbox e _ _ _ (by-open c t bs d k) =
-      went (length outbox) e d values outbox (hears d []) (Run.by-open s values c t d k) refl refl
+      went (length outbox) e d values outbox (hears d []) (Run.by-open s values [] c t d k) refl refl
       (unheard d outbox (silent _ values [] d values [] k refl)) (low-number k) refl
   single-went outbox e _ _ _ (by-close c t bs d k) =
-      went (length outbox) e d values outbox (hears d []) (Run.by-close s values c t d k) refl refl
+      went (length outbox) e d values outbox (hears d []) (Run.by-close s values [] c t d k) refl refl
       (unheard d outbox (silent _ values [] d values [] k refl)) (low-number k) refl
   single-went outbox e _ _ _ (by-piece c t bs d values′ outbox′ k) =
-      went (length outbox) e d values′ outbox′ (hears d outbox′) (Run.by-piece s values outbox c bs t d values′ outbox′ k) refl refl refl
+      went (length outbox) e d values′ outbox′ (hears d outbox′) (Run.by-piece s values outbox [] c bs t d values′ outbox′ k) refl refl refl
       (low-number k) (kept-area k)
   single-went outbox e _ _ _ (by-reading p t bs d values′ outbox′ k) =
-      went (length outbox) e d values′ outbox′ (hears d outbox′) (Run.by-reading s values outbox p bs t d values′ outbox′ k) refl refl refl
+      went (length outbox) e d values′ outbox′ (hears d outbox′) (Run.by-reading s values outbox [] p bs t d values′ outbox′ k) refl refl refl
       (low-number k) (kept-area k)
   single-went outbox e _ _ _ (by-unreadable p t bs d outbox′ k) =
-      went (length outbox) e d values outbox′ (hears d outbox′) (Run.by-unreadable s values outbox p (head bs) t d outbox′ k) refl refl refl
+      went (length outbox) e d values outbox′ (hears d outbox′) (Run.by-unreadable s values outbox [] p (head bs) t d outbox′ k) refl refl refl
       (low-number k) refl

@@ -8,20 +8,20 @@ use lib.ListN.{length, getD, take}
 use Rattle.ascii.specs.Bytes.{head}
 use Rattle.plain.specs.Calls.{Open, Close, withArea, withOutbox}
 use Rattle.plain.specs.Calls as Calls
-use Rattle.figures.specs.Tally.{noSettings, tallyAt}
+use Rattle.figures.specs.contracts.Tally.{noSettings, tallyAt}
 use Rattle.state.specs.declared.State.{State}
 use Rattle.promise.specs.declared.Done.{Done}
 use Rattle.promise.specs.Promise.{Kept, Begins}
 use Rattle.trace.specs.declared.Kind.the-variants.{Opening, Closing, Piece, Reading, Unreadable}
 use Rattle.trace.specs.Trace.{Entry}
 use Rattle.trace.specs.Reader.{Progress, unread, takeBytes}
-use Rattle.trace.specs.Takes.{progressOf}
+use Rattle.trace.specs.contracts.Takes.{progressOf}
 use Rattle.replay.specs.declared.Replay.{Replay}
 use Rattle.replay.specs.declared.Stepped.{Stepped}
 use Rattle.replay.specs.declared.Started.{Started}
 use Rattle.replay.specs.Replay.{callFor, rest}
-use Rattle.replay.specs.Figured.{Figured}
-use Rattle.replay.specs.View.{pendingOf, counted, toDo, Sound}
+use Rattle.replay.specs.contracts.Figured.{Figured}
+use Rattle.replay.specs.contracts.View.{pendingOf, counted, toDo, Sound}
 
 -- ## The single call
 

@@ -17,7 +17,7 @@ use Rattle.trace.specs.Reader.{capped}
 
 -- ## One record, as single calls
 
--- the call of a record, lent a values area and an outbox of these lengths; an open and a close are lent no outbox. "(for `EF` its class)": a byte
+-- the call of a record, lent a values area and an outbox of these lengths; an open and a close are lent no outbox. "(for `EF` its class)": a byte [R-1]
 unfoldable pub callOf : ℕ → ℕ → Kind → ℕ → ℕ → List ℕ → Call
 callOf area outbox Opening c t bs = withArea (Open c t) area
 callOf area outbox Closing c t bs = withArea (Close c t) area
@@ -39,7 +39,7 @@ abbrev pub offering : Entry → List ℕ → Entry
 offering e bs = record { kind = e .kind; number = e .number; time = e .time; offered = bs }
 
 -- what is to be offered again after a call that answered this number and used so many bytes: "offers unused bytes again until a piece is used up (an
--- empty one is offered once)"; "a refused piece is dropped"
+-- empty one is offered once)"; "a refused piece is dropped" [R-5, R-6]
 unfoldable pub rest : Entry → ℕ → ℕ → Option Entry
 rest e number used =
     cond (isPiece (e .kind) && eqb number 0 && ltb used (length (e .offered))) (some (offering e (drop used (e .offered)))) none
@@ -75,16 +75,17 @@ module _ (table : List ℕ) (area outbox : ℕ) where
       let s = step table n c in
       first c (s .1) (playOn k (s .0) (rest e (s .1 .number) (s .1 .used)))
 
-  -- a record: each call but the last uses a byte at least, so these are enough
+  -- a record: each call but the last uses a byte at least, so these are enough [R-5, R-6]
   unfoldable pub play : Node → Entry → Played
   play n e = playOn (suc (length (e .offered))) n (some e)
 
+  -- [R-5]
   unfoldable pub playAll : Node → List Entry → Played
   playAll n [] = nothing n
   playAll n (e ∷ es) = both (play n e) (λ m. playAll m es)
 
 -- ## Refused events
 
--- how many answers had the number k, which is not 0: of the calls of one event the last alone may be refused
+-- how many answers had the number k, which is not 0: of the calls of one event the last alone may be refused [R-6, R-8]
 unfoldable pub refusals : List Answer → ℕ → ℕ
 refusals l k = capped (count (λ a. eqb (a .number) k) l)

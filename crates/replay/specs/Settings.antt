@@ -31,11 +31,11 @@ readingsOf w k (Piece c bs t) = []
 readingsOf w k (Reading p bs t) = cond (eqb k p) (formFor (getElem? (parameters w) p) bs) []
 readingsOf w k (Unreadable p e t) = []
 
--- "accepted settings .. (readings and changes, not M-100's busy)": what a call that was answered so set parameter k to
+-- "accepted settings .. (readings and changes, not M-100's busy)": what a call that was answered so set parameter k to [R-15]
 unfoldable pub setBy : Table → ℕ → Event → Answer → List (List ℕ)
 setBy w k e a = cond (eqb (a .number) 0) (readingsOf w k e) [] ++ ordersOf k (a .records)
 
--- of calls one after another, with their answers
+-- of calls one after another, with their answers [R-15]
 unfoldable pub setByAll : Table → ℕ → List Call → List Answer → List (List ℕ)
 setByAll w k [] l = []
 setByAll w k (e ∷ h) [] = []

@@ -26,12 +26,12 @@ ghost use Prim.Native.Nat.{_+_, _≤_, _<_};
 ghost use lib.Dec.{eqb};
 ghost use lib.ListN.{length};
 ghost use Rattle.ascii.specs.Bytes.{head};
-ghost use Rattle.figures.specs.Tally.{Bounded};
+ghost use Rattle.figures.specs.contracts.Tally.{Bounded};
 ghost use Rattle.replay.specs.Replay.{isPiece};
-ghost use Rattle.replay.specs.View.{counted, toDo, Sound};
+ghost use Rattle.replay.specs.contracts.View.{counted, toDo, Sound};
 ghost use Rattle.replay.specs.Promise.{Steps, Starts};
 ghost use Rattle.replay.specs.Theorems.{Fed, PlayedAsCalls, ReplayIsTheCalls, CutElsewhere};
-ghost use Rattle.replay.specs.Inner.{leftAfter, Calls, Offers, Answered};
+ghost use Rattle.replay.specs.contracts.Inner.{leftAfter, Calls, Offers, Answered};
 
 // What is kept between steps: the node's state; the trace's reader; what is left to be offered of the record that the reader holds, `left.size` bytes
 // from `at` on; how many events were refused by each number; and the figures of what was set.
@@ -87,13 +87,13 @@ fn call(
     let number = head.number as u64;
     let time = head.time;
     match kind {
-        Kind::Opening => jihfasul_open(table, values, state, number, time),
-        Kind::Closing => jihfasul_close(table, values, state, number, time),
-        Kind::Piece => jihfasul_piece(table, values, outbox, state, number, time, bytes),
-        Kind::Reading => jihfasul_reading(table, values, outbox, state, number, time, bytes),
+        Kind::Opening => jihfasul_open(table, values, state, number, time, b""),
+        Kind::Closing => jihfasul_close(table, values, state, number, time, b""),
+        Kind::Piece => jihfasul_piece(table, values, outbox, state, number, time, bytes, b""),
+        Kind::Reading => jihfasul_reading(table, values, outbox, state, number, time, bytes, b""),
         Kind::Unreadable => {
             let class = class_in(bytes);
-            jihfasul_unreadable(table, values, outbox, state, number, time, class)
+            jihfasul_unreadable(table, values, outbox, state, number, time, class, b"")
         }
     }
 }

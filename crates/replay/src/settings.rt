@@ -4,6 +4,7 @@ use ascii::byte;
 use figures::Figures;
 use figures::mark_of;
 use figures::observe;
+use limits::PLACE;
 use promise::Done;
 use search::cursor::NextParameter;
 use search::find::parameter_by_number;
@@ -12,10 +13,10 @@ use table::layout::ParameterAt;
 use trace::Head;
 use trace::Kind;
 ghost use mathlib.Core.Path.{_≡_};
-ghost use Rattle.figures.specs.Tally.{Bounded, Marks};
+ghost use Rattle.figures.specs.contracts.Tally.{Bounded, Marks};
 ghost use Rattle.state.specs.View.{shownBytes};
-ghost use Rattle.replay.specs.Figured.{orderIn, chosenBy, Shown, Markable, Notes};
-ghost use Rattle.replay.specs.Inner.{Made, Counts};
+ghost use Rattle.replay.specs.contracts.Figured.{orderIn, chosenBy, Shown, Markable, Notes};
+ghost use Rattle.replay.specs.contracts.Inner.{Made, Counts};
 
 // The parameter of a driver's order to change, which is the first record of an accepted change.
 fn order_in(s: &[u8]) -> Chosen
@@ -61,7 +62,7 @@ fn mark_shown(table: &[u8], values: &[u8], settings: Settings, k: usize, p: Para
         let to = initial.to;
         return mark_of(table, p.info, &table[from..to]);
     }
-    let first = 256 * k;
+    let first = PLACE * k;
     let last = first + size;
     mark_of(table, p.info, &values[first..last])
 }

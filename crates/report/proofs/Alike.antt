@@ -7,11 +7,11 @@ use mathlib.Core.Path.{_≡_, refl, sym, _∙_, ap, ap₂}
 use Rattle.json.specs.Json.{Json}
 use Rattle.ascii.specs.Bytes.{same}
 use Rattle.datainfo.specs.Datainfo.{Datainfo}
-use Rattle.fit.specs.Fit.{fit, verdict, changeVerdict, changeForm}
+use Rattle.fit.specs.Fit.{fit, verdict, storedForm, changeVerdict, changeForm}
 use Rattle.table.specs.Table.{Parameter, Command, Accessible, parameter, command, Module, Table}
 use Rattle.table.specs.Search.{Placed, parametersOf, commandsOf, placedFrom, parameters, commands, firstFrom, first, findParameter, findCommand}
 use Rattle.report.specs.Theorems.{enforcedDatainfo, enforcedArgument, enforcedParameter, enforcedCommand, enforcedAccessible, enforcedModule, enforced, parameterSays, argumentSays, commandSays, JudgeAlike, ReportsTellVerdicts}
-use Rattle.report.proofs.Kept.{fit-kept, verdict-kept, change-kept, form-kept}
+use Rattle.report.proofs.Kept.{fit-kept, verdict-kept, stored-form-kept, change-kept, form-kept}
 use Rattle.report.proofs.Told.{reports-tell}
 
 -- ## What is found in an enforced table
@@ -113,9 +113,11 @@ judge-alike t u e = record {
   parameterFit = λ m a v. parameter-alike (λ d. fit d v) (λ d. fit-kept true d v) m a t u e;
   commandFit = λ m a v. command-alike (λ d. fit d v) (λ d. fit-kept false d v) m a t u e;
   parameterVerdict = λ m a xs. parameter-alike (λ d. verdict d xs) (λ d. verdict-kept true d xs) m a t u e;
+  parameterStored = λ m a xs. parameter-alike (λ d. storedForm d xs) (λ d. stored-form-kept true d xs) m a t u e;
   parameterChange = λ m a xs shown. parameter-alike (λ d. changeVerdict shown d xs) (λ d. change-kept shown d xs) m a t u e;
   parameterForm = λ m a xs shown. parameter-alike (λ d. changeForm shown d xs) (λ d. form-kept shown d xs) m a t u e;
   commandVerdict = λ m a xs. command-alike (λ d. verdict d xs) (λ d. verdict-kept false d xs) m a t u e;
+  commandForm = λ m a xs. command-alike (λ d. storedForm d xs) (λ d. stored-form-kept false d xs) m a t u e;
 }
 
 pub reports-tell-verdicts : ReportsTellVerdicts

@@ -13,7 +13,7 @@ use Rattle.datainfo.specs.Rules.{isBetween}
 use Rattle.fit.specs.Fit as Fit
 use Rattle.fit.specs.Fit.{Verdict, wrongType, worse, inRange, expect, asArray, asObject, itemCount, worstItem, keys, eachOnce, valueAt, fit, elementsFit, fieldsFit}
 use Rattle.fit.specs.Fit.{within, onItems, onMembers, mapItems, mapMembers, numbered, numberedElements, numberedAt, asPartial, atTop, ordered, inOrder}
-use Rattle.fit.specs.Fit.{keepMembers, joinMembers, isLeftOut, membersOf, completed, completedOf, formOf, valueVerdict, verdictOf, verdict, changeVerdict, changeForm}
+use Rattle.fit.specs.Fit.{keepMembers, joinMembers, isLeftOut, membersOf, completed, completedOf, formOf, storedForm, valueVerdict, verdictOf, verdict, changeVerdict, changeForm}
 use Rattle.report.specs.Theorems.{enforcedDatainfo, enforcedElements, enforcedFields}
 
 names-kept : (fs : Fields) → fieldNames (enforcedFields fs) ≡ fieldNames fs
@@ -147,6 +147,10 @@ whole-kept shown d (some v) = ap some (completed-kept shown d v)
 pub verdict-kept : (top : Bool) (d : Datainfo) (xs : List ℕ) → verdict (enforcedDatainfo top d) xs ≡ verdict d xs
 unfolding verdict
 verdict-kept top d xs = judged-kept top d (text xs)
+
+pub stored-form-kept : (top : Bool) (d : Datainfo) (xs : List ℕ) → storedForm (enforcedDatainfo top d) xs ≡ storedForm d xs
+unfolding storedForm
+stored-form-kept top d xs = formed-kept top d (text xs)
 
 module _ (shown : Option Json) (d : Datainfo) (xs : List ℕ) where
   pub change-kept : changeVerdict shown (enforcedDatainfo true d) xs ≡ changeVerdict shown d xs

@@ -37,6 +37,7 @@ notedValue t =
 unfoldable pub notedReport : Table → List ℕ
 notedReport t = compact (notedValue t)
 
+-- [T-35]
 unfoldable pub notedNumber : Table → ℕ
 notedNumber t = lowest (faultsBelow6 t ++ (fault 6 (ltb 32000 (length (notedReport t))) ∷ []))
 

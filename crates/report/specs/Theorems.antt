@@ -6,8 +6,9 @@ use mathlib.Core.List.{List, [], map}
 use mathlib.Core.Option.{Option, none, some}
 use mathlib.Core.Path.{_≡_}
 use Rattle.json.specs.Json.{Json}
-use Rattle.datainfo.specs.Datainfo.{Datainfo, double, int, bool, enum, string, array, tuple, struct, scaled, blob, partial, Elements, no-elements, element, Fields, no-fields, field}
-use Rattle.fit.specs.Fit.{fit, verdict, changeVerdict, changeForm}
+use Rattle.datainfo.specs.Datainfo.{Datainfo, double, int, bool, enum, string, array, tuple, struct, scaled, blob, partial, Elements, no-elements, element}
+use Rattle.datainfo.specs.Datainfo.{Fields, no-fields, field}
+use Rattle.fit.specs.Fit.{fit, verdict, storedForm, changeVerdict, changeForm}
 use Rattle.table.specs.Table.{Parameter, Command, Accessible, parameter, command, Module, Table}
 use Rattle.table.specs.Search.{Placed, findParameter, findCommand}
 use Rattle.report.specs.Report.{report}
@@ -68,7 +69,7 @@ enforcedModule m = record {
   accessibles = map enforcedAccessible (m .accessibles);
 }
 
--- all of a table but its edition, notes, initial values and their places, and those flags
+-- all of a table but its edition, notes, initial values and their places, and those flags [T-35]
 unfoldable pub enforced : Table → Table
 enforced t = record { equipmentId = t .equipmentId; description = t .description; edition = none; modules = map enforcedModule (t .modules) }
 
@@ -95,8 +96,8 @@ module _ {A : Type 0} (f : Datainfo → A) where
   commandSays none = none
   commandSays (some p) = some (p .0, p .1 .home, argumentSays (p .1 .it .argument))
 
--- By every name the two tables have the same parameter and the same command, or none; and every value and every text comes to the same
--- verdict, and every change of what is shown to the same verdict and the same stored form.
+-- By every name the two tables have the same parameter and the same command, or none; and every value comes to the same verdict, every text, for a
+-- parameter or an argument, to the same verdict and the same stored form, and every change of what is shown too.
 pub record JudgeAlike (t u : Table) : Type 0 where
   pub parameterFit : (m a : List ℕ) (v : Json)
       → parameterSays (λ d. fit d v) (findParameter t m a) ≡ parameterSays (λ d. fit d v) (findParameter u m a)
@@ -104,13 +105,17 @@ pub record JudgeAlike (t u : Table) : Type 0 where
       → commandSays (λ d. fit d v) (findCommand t m a) ≡ commandSays (λ d. fit d v) (findCommand u m a)
   pub parameterVerdict : (m a xs : List ℕ)
       → parameterSays (λ d. verdict d xs) (findParameter t m a) ≡ parameterSays (λ d. verdict d xs) (findParameter u m a)
+  pub parameterStored : (m a xs : List ℕ)
+      → parameterSays (λ d. storedForm d xs) (findParameter t m a) ≡ parameterSays (λ d. storedForm d xs) (findParameter u m a)
   pub parameterChange : (m a xs : List ℕ) (shown : Option Json)
       → parameterSays (λ d. changeVerdict shown d xs) (findParameter t m a) ≡ parameterSays (λ d. changeVerdict shown d xs) (findParameter u m a)
   pub parameterForm : (m a xs : List ℕ) (shown : Option Json)
       → parameterSays (λ d. changeForm shown d xs) (findParameter t m a) ≡ parameterSays (λ d. changeForm shown d xs) (findParameter u m a)
   pub commandVerdict : (m a xs : List ℕ)
       → commandSays (λ d. verdict d xs) (findCommand t m a) ≡ commandSays (λ d. verdict d xs) (findCommand u m a)
+  pub commandForm : (m a xs : List ℕ)
+      → commandSays (λ d. storedForm d xs) (findCommand t m a) ≡ commandSays (λ d. storedForm d xs) (findCommand u m a)
 
--- Two accepted tables with the same structure report judge alike.
+-- Two accepted tables with the same structure report judge and store alike.
 abbrev pub ReportsTellVerdicts : Type 0
 ReportsTellVerdicts = (t u : Table) → treeNumber t ≡ 0 → treeNumber u ≡ 0 → report t ≡ report u → JudgeAlike t u

@@ -26,7 +26,7 @@ use Rattle.plain.specs.Node as Node
 use Rattle.plain.specs.Node.{Client, closed, Value, Node, put, withClient, withValue, withCount, isOpen, lineOf, receive, emptied, lineTaken, counting, reportOf}
 use Rattle.plain.specs.Node.{clientNumbers, updatesTo, holding, showing, withClients}
 use Rattle.plain.specs.Answer.{Outcome, outcome, storedAt, statusOf, activates, deactivates, sets, answerParts, answer}
-use Rattle.plain.specs.Calls.{Event, Open, Close, Piece, Reading, Unreadable, Call, ownFaults, callNumber, readingVerdict, beforeFeed, hasFeed, ended, pieceEffect, driverEffect, readingEffect, unreadableEffect, effect, settle, stepIf}
+use Rattle.plain.specs.Calls.{Event, Open, Close, Piece, Reading, Unreadable, Call, ownFaults, callNumber, readingVerdict, beforeFeed, hasFeed, ended, pieceEffect, driverEffect, readingEffect, unreadableEffect, effect, settle, settling, stepIf}
 use Rattle.plain.specs.History.{step}
 use Rattle.plain.proofs.Numbers as Numbers
 use Rattle.plain.proofs.Put.{put-at, put-put}
@@ -179,11 +179,11 @@ did table n (Unreadable k class t) h =
 -- ## Steps
 
 settled : (table : List ℕ) (n : Node) (e : Call) (j : ℕ) → callNumber table false n e ≡ j
-    → let s = settle j n (effect (tableOf table) n (e .event)) in
+    → let s = settling table n e j in
     Refused n (s .0) (s .1) ⊎ Did (tableOf table) n (e .event) (s .0) (s .1 .records)
 unfolding settle
 settled table n e zero h = inr (did table n (e .event) (Numbers.accepted-call table false e n .0 h .1))
-settled table n e (suc j) h = inl (record { node = refl; used = refl; records = refl })
+settled table n e (suc j) h = inl (record { node = refl; used = refl; records = refl; steps = refl })
 
 -- every call is refused and alters nothing, or it does what an accepted call does
 pub every-call : (table : List ℕ) (n : Node) (e : Call)
@@ -196,8 +196,8 @@ pub accepted-call : (table : List ℕ) (n : Node) (e : Call) → step table n e 
 unfolding step stepIf settle
 accepted-call table n e h = go (callNumber table false n e) refl h
   where
-    go : (j : ℕ) → callNumber table false n e ≡ j → settle j n (effect (tableOf table) n (e .event)) .1 .number ≡ 0
-        → let s = settle j n (effect (tableOf table) n (e .event)) in Did (tableOf table) n (e .event) (s .0) (s .1 .records)
+    go : (j : ℕ) → callNumber table false n e ≡ j → settling table n e j .1 .number ≡ 0
+        → let s = settling table n e j in Did (tableOf table) n (e .event) (s .0) (s .1 .records)
     go zero q z = did table n (e .event) (Numbers.accepted-call table false e n .0 q .1)
     go (suc j) q z = absurd (omega arith)
 
@@ -205,10 +205,10 @@ pub refusals-alter-nothing : RefusalsAlterNothing
 unfolding step stepIf settle
 refusals-alter-nothing table n e k h = go (callNumber table false n e) refl h
   where
-    go : (j : ℕ) → callNumber table false n e ≡ j → settle j n (effect (tableOf table) n (e .event)) .1 .number ≡ suc k
-        → let s = settle j n (effect (tableOf table) n (e .event)) in Refused n (s .0) (s .1)
+    go : (j : ℕ) → callNumber table false n e ≡ j → settling table n e j .1 .number ≡ suc k
+        → let s = settling table n e j in Refused n (s .0) (s .1)
     go zero q z = absurd (omega arith)
-    go (suc j) q z = record { node = refl; used = refl; records = refl }
+    go (suc j) q z = record { node = refl; used = refl; records = refl; steps = refl }
 
 -- ## Final replies
 

@@ -1,24 +1,27 @@
 -- A check comes to what the change of the same would come to. Assumes nothing.
 use Prim.Native.Nat.{ℕ}
-use mathlib.Core.Bool.{Bool, true, false, cond}
+use mathlib.Core.Bool.{Bool, true, false, cond, _&&_}
 use mathlib.Core.List.{List, [], _∷_, _++_, List·Memᴰ, List·Memᴰ·head, Memᴰ·append-right}
 use mathlib.Core.Option.{Option, none, some}
 use mathlib.Core.Path.{_≡_, refl, sym, ap, subst}
-use Rattle.ascii.specs.Bytes.{isSome}
+use Rattle.ascii.specs.Text.{bytes}
+use Rattle.ascii.specs.Bytes.{isSome, same}
+use Rattle.ascii.specs.Names.{isName}
 use Rattle.fit.specs.Fit.{Verdict, fits, rangeError, wrongType, badJSON}
 use Rattle.table.specs.Table.{Parameter, Table}
 use Rattle.table.specs.Layout.{tableOf}
 use Rattle.table.specs.Search.{Placed, findModule, findParameter}
 use Rattle.message.specs.Line.{Parts}
-use Rattle.message.specs.Request.{change, check}
-use Rattle.message.specs.Error.{Denial, class, Class, NoSuchModule, NoSuchParameter, ReadOnly, BadJSON, WrongType, RangeError}
+use Rattle.message.specs.Request.{change, check, malformed, modulePart, accessiblePart, named, orNull, request}
+use Rattle.message.specs.Error.{Denial, class, Class, ProtocolError, NoSuchModule, NoSuchParameter, ReadOnly, BadJSON, WrongType, RangeError}
 use Rattle.message.specs.Reply.{Report, Reply, changed, checked}
 use Rattle.outbox.specs.Outbox.{Record, final}
 use Rattle.plain.specs.Node.{Node, Setting, counting}
 use Rattle.plain.specs.Answer.{Outcome, refused, carried, found, letIn, judgedAt, sets, shows, judging, changes, checks, outcome}
 use Rattle.plain.specs.Calls.{Piece}
 use Rattle.plain.proofs.Outcomes.{nodeAfter, before, replyTo}
-use Rattle.rule.specs.Theorems.{partsAt, AltersNothing, AsChange, both-refused, both-let-in, ChecksAreAsChanges}
+use Rattle.rule.specs.Theorems.{partsAt, requestOf, AltersNothing, AsChange, both-refused, both-let-in, ChecksAreAsChanges}
+use Rattle.rule.specs.Theorems.{saying, CheckLinesAreAsChangeLines}
 use Rattle.rule.proofs.Calls.{idle, accepted-call}
 use Rattle.rule.proofs.Good.{ended-line, comes-to}
 
@@ -54,6 +57,19 @@ module _ (w : Table) (n : Node) (c t : ℕ) where
       rw e
       (found-alike NoSuchModule (findModule w a) _ _ (λ y. found-alike NoSuchParameter (findParameter w a x) _ _ (judged-alike v)))
 
+  -- of lines that say `change` and `check`: where the names are no names, both ask for nothing that is known
+  names-alike : isSome (w .edition) ≡ true → (b : Bool) (a x v : List ℕ)
+      → Alike n (outcome w n c t (cond b (change a x v) malformed)) (outcome w n c t (cond b (check a x v) malformed))
+  unfolding outcome
+  names-alike e true a x v = alike e a x v
+  names-alike e false a x v = refusing (class ProtocolError)
+
+  words-alike : isSome (w .edition) ≡ true → (s v : List ℕ)
+      → Alike n (outcome w n c t (request (saying (bytes "change") s v))) (outcome w n c t (request (saying (bytes "check") s v)))
+  unfolding request same bytes named
+  words-alike e s v =
+      names-alike e (isName (modulePart s) && isName (accessiblePart s)) (modulePart s) (accessiblePart s) (orNull v)
+
 -- a line whose outcome leaves the node alters nothing
 nothing : (n m : Node) (c : ℕ) (rs : List Record) (r : Reply) → m ≡ counting (idle n c) rs → rs ≡ final c r ∷ [] → AltersNothing n m rs c r
 nothing n m c rs r e f =
@@ -80,3 +96,17 @@ checks-are-as-changes table e n c t a x v bs bs′ l l′ z f q z′ f′ q′ =
     as-change n c (partsAt n c bs) (partsAt n c bs′) _ _ _ _ _ _ (alike w (idle n c) c t e a x v)
     (comes-to (ended-line (accepted-call table n (record { event = Piece c bs t; lent = l }) z) f) (check a x v) _ q refl)
     (comes-to (ended-line (accepted-call table n (record { event = Piece c bs′ t; lent = l′ }) z′) f′) (change a x v) _ q′ refl)
+
+same-words : {n : Node} {c : ℕ} {p p′ q q′ : Parts} {m m′ : Node} {rs rs′ : List Record} → p ≡ q → p′ ≡ q′ → AsChange n c p m rs p′ m′ rs′
+    → AsChange n c q m rs q′ m′ rs′
+same-words e f h = rw (← e, ← f) h
+
+pub check-lines-are-as-change-lines : CheckLinesAreAsChangeLines
+unfolding requestOf
+check-lines-are-as-change-lines table e n c t s v bs bs′ l l′ z f q z′ f′ q′ =
+    let w : Table = tableOf table in
+    same-words q q′
+    (as-change n c (partsAt n c bs) (partsAt n c bs′) _ _ _ _ _ _ (words-alike w (idle n c) c t e s v)
+    (comes-to (ended-line (accepted-call table n (record { event = Piece c bs t; lent = l }) z) f) (request (saying (bytes "check") s v)) _ (ap request q) refl)
+    (comes-to (ended-line (accepted-call table n (record { event = Piece c bs′ t; lent = l′ }) z′) f′) (request (saying (bytes "change") s v)) _ (ap request q′)
+    refl))

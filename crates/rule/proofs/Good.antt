@@ -1,4 +1,4 @@
--- Every good request is carried out. Assumes nothing.
+-- Every good request is carried out, and every bad change refused. Assumes nothing.
 use Prim.Native.Nat.{ℕ, zero, suc}
 use mathlib.Core.Bool.{Bool, true, false, cond, not, _&&_, true≢false, or-true}
 use mathlib.Core.List.{List, [], _∷_, _++_, map}
@@ -11,23 +11,23 @@ use native.Mathlib.Omega.{arith}
 use borrow.Author.Tests.{lt-ltb}
 use Rattle.ascii.specs.Bytes.{isSome, same}
 use Rattle.ascii.proofs.Lists.{same-self}
-use Rattle.fit.specs.Fit.{fits}
+use Rattle.fit.specs.Fit.{Verdict, fits, rangeError, wrongType, badJSON}
 use Rattle.table.specs.Table.{Parameter, Command, Accessible, Module, Table}
 use Rattle.table.specs.Search.{Placed, parametersOf, commandsOf, placedFrom, parameters, commands, firstFrom, first, findModule, findParameter, findCommand}
 use Rattle.table.proofs.Search.{parameter-there, parameter-named, command-there, command-named}
 use Rattle.message.specs.Line.{Parts}
 use Rattle.message.specs.Request.{Request, activate, deactivate, read, change, execute}
-use Rattle.message.specs.Error.{Class, NoSuchModule}
+use Rattle.message.specs.Error.{Class, NoSuchModule, ReadOnly, class}
 use Rattle.message.specs.Reply.{Held, valued, failed}
 use Rattle.outbox.specs.Outbox.{Record, final}
 use Rattle.plain.specs.Node.{counting, Client, Node, withClient, isOpen, isActive, emptied, activated}
-use Rattle.plain.specs.Answer.{Outcome, outcome, found, letIn, argumentVerdict, judgedAt, storedAt, inScope, activates, deactivates, tells, reads, changes, sets, does, judging}
+use Rattle.plain.specs.Answer.{Outcome, refused, outcome, found, letIn, argumentVerdict, judgedAt, storedAt, inScope, activates, deactivates, tells, reads, changes, sets, does, judging}
 use Rattle.plain.specs.Calls.{Piece, hasFeed}
 use Rattle.plain.proofs.Put.{put-at}
 use Rattle.plain.proofs.Clients.{emptied-open, activated-active}
 use Rattle.plain.proofs.Outcomes.{nodeAfter, before, replyTo, of-all, of-one, ordering}
 use Rattle.rule.specs.Records.{inScopeOf, isThere}
-use Rattle.rule.specs.Theorems.{partsAt, requestOf, AltersNothing, readReply, GoodChangesAreMade, Activated, Deactivated, GoodActivationsAreMade, GoodReadsAreAnswered, GoodCommandsAreOrdered}
+use Rattle.rule.specs.Theorems.{partsAt, requestOf, AltersNothing, readReply, GoodChangesAreMade, Activated, Deactivated, GoodActivationsAreMade, GoodReadsAreAnswered, GoodCommandsAreOrdered, refusal, BadChangesAreRefused}
 use Rattle.rule.proofs.Told.{scope-is}
 use Rattle.rule.proofs.Calls.{idle, Answered, Did, received, line, accepted-call}
 use Rattle.rule.proofs.Rule.{answered-change}
@@ -85,6 +85,22 @@ module _ (w : Table) (n : Node) (c t : ℕ) where
   unfolding outcome changes judging found letIn
   good-set m a v k e o f = found-some NoSuchModule (findModule w m) _ (parameter-module w m a k e) ∙ rw (e, o, f) refl
 
+  -- what a bad change comes to, whatever a good one would
+  refused-by : (b : Bool) (v : Verdict) (o : Outcome) (x : Class) → refusal b v ≡ some x → cond b (refused (class ReadOnly)) (letIn v o) ≡ refused (class x)
+  unfolding refusal letIn
+  refused-by true v o x e = ap (λ z. refused (class z)) (Option·some-injective ReadOnly x e)
+  refused-by false fits o x e = let z : _≡_ {A = ℕ} 0 1 = cc in absurd (omega arith)
+  refused-by false rangeError o x e = ap (λ z. refused (class z)) (Option·some-injective _ x e)
+  refused-by false wrongType o x e = ap (λ z. refused (class z)) (Option·some-injective _ x e)
+  refused-by false badJSON o x e = ap (λ z. refused (class z)) (Option·some-injective _ x e)
+
+  bad-set : (m a v : List ℕ) (k : ℕ × Placed Parameter) → findParameter w m a ≡ some k → (x : Class)
+      → refusal (k .1 .it .readonly) (judgedAt (n .values) k v) ≡ some x → outcome w n c t (change m a v) ≡ refused (class x)
+  unfolding outcome changes judging found
+  bad-set m a v k e x r =
+      found-some NoSuchModule (findModule w m) _ (parameter-module w m a k e)
+      ∙ rw e (refused-by (k .1 .it .readonly) (judgedAt (n .values) k v) (sets w n c t k (storedAt (n .values) k v)) x r)
+
   good-read : (m a : List ℕ) (k : ℕ × Placed Parameter) → findParameter w m a ≡ some k → outcome w n c t (read m a) ≡ reads w n c t k
   unfolding outcome found
   good-read m a k e = found-some NoSuchModule (findModule w m) _ (parameter-module w m a k e) ∙ rw e refl
@@ -126,6 +142,16 @@ good-changes-are-made table n c m x v k p e r g bs t l z f q =
     answered-change _ n _ c t (k, p) (storedAt (n .values) (k, p) v) _ (parameter-there _ m x (k, p) e) bs
     (ended-line (accepted-call table n (record { event = Piece c bs t; lent = l }) z) f)
     (ap (outcome _ (idle n c) c t) q ∙ good-set _ (idle n c) c t m x v (k, p) e r g)
+
+pub bad-changes-are-refused : BadChangesAreRefused
+bad-changes-are-refused table n c m x v k p e d r bs t l z f q =
+    let g = comes-to (ended-line (accepted-call table n (record { event = Piece c bs t; lent = l }) z) f) (change m x v) _ q (bad-set _ (idle n c) c t m x v (k, p) e d r) in
+    record {
+      alone = g .1;
+      values = ap (λ (y : Node). y .values) (g .0);
+      clients = ap (λ (y : Node). y .clients) (g .0);
+      counts = ap (λ (y : Node). y .counts) (g .0);
+    }
 
 -- what is read, a value or an error, alters nothing
 told-alone : (w : Table) (n m : Node) (c t : ℕ) (q : Parts) (p : Placed Parameter) (x : Held) (u : ℕ) (rs : List Record)

@@ -8,3 +8,4 @@ pub mod Lines
 pub mod Good
 pub mod Checks
 pub mod Settings
+pub mod Parts

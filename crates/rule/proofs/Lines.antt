@@ -16,7 +16,7 @@ use Rattle.message.specs.Reply.{Report, Reply, reply, done}
 use Rattle.outbox.specs.Outbox.{Record, final, orderCommand}
 use Rattle.plain.specs.Node.{Node, withClient, lineOf, emptied, activated, reportOf}
 use Rattle.plain.specs.Answer.{Outcome, carried, outcome, argumentVerdict, argumentForm, activates, deactivates, sets}
-use Rattle.plain.specs.Calls.{Event, Piece, Lent, Call, Answer, callNumber, usedOf, pieceEffect, effect, settle, stepIf}
+use Rattle.plain.specs.Calls.{Event, Piece, Lent, Call, Answer, callNumber, usedOf, pieceEffect, effect, settle, settling, stepIf}
 use Rattle.plain.specs.History.{step}
 use Rattle.plain.proofs.Put.{put-at, put-other}
 use Rattle.plain.proofs.Clients.{emptied-line, activated-line}
@@ -203,8 +203,7 @@ used-is : (table : List ℕ) (n : Node) (c : ℕ) (bs : List ℕ) (t : ℕ) (len
 unfolding step stepIf settle effect pieceEffect
 used-is table n c bs t lent h = go (callNumber table false n (record { event = Piece c bs t; lent = lent })) h
   where
-    go : (j : ℕ) → settle j n (effect (tableOf table) n (Piece c bs t)) .1 .number ≡ 0
-        → settle j n (effect (tableOf table) n (Piece c bs t)) .1 .used ≡ usedOf bs
+    go : (j : ℕ) → let s = settling table n (record { event = Piece c bs t; lent = lent }) j in s .1 .number ≡ 0 → s .1 .used ≡ usedOf bs
     go zero z = refl
     go (suc j) z = absurd (omega arith)
 

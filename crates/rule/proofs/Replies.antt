@@ -18,7 +18,7 @@ use Rattle.message.specs.Reply.{Held, valued, failed, Report, Reply}
 use Rattle.outbox.specs.Outbox.{Record, final}
 use Rattle.plain.specs.Node.{Node, lineOf, reportOf, clientNumbers, updatesTo, holding}
 use Rattle.plain.specs.Answer.{Outcome, outcome, answerParts, answer}
-use Rattle.plain.specs.Calls.{Event, Open, Close, Piece, Reading, Unreadable, callNumber, beforeFeed, hasFeed, usedOf, ended, pieceEffect, driverEffect, readingEffect, unreadableEffect, effect, settle, stepIf}
+use Rattle.plain.specs.Calls.{Event, Open, Close, Piece, Reading, Unreadable, callNumber, beforeFeed, hasFeed, usedOf, ended, pieceEffect, driverEffect, readingEffect, unreadableEffect, effect, settle, callSteps, stepIf}
 use Rattle.plain.specs.History.{step}
 use Rattle.plain.proofs.Outcomes.{before, replyTo, concluded}
 use Rattle.rule.specs.Records.{repliesFor, feedCount, feedsUsed}
@@ -96,21 +96,21 @@ unreadable-replies n k none x t d = refl
 unreadable-replies n k (some p) none t d = refl
 unreadable-replies n k (some p) (some f) t d = driver-replies n k p (failed f) t d
 
-one-reply : (w : Table) (n : Node) (e : Event) (d j : ℕ)
-    → length (repliesFor d (settle j n (effect w n e) .1 .records)) ≡ feedsUsed d e (settle j n (effect w n e) .1)
+one-reply : (w : Table) (n : Node) (steps : ℕ) (e : Event) (d j : ℕ)
+    → length (repliesFor d (settle j n (effect w n e) steps .1 .records)) ≡ feedsUsed d e (settle j n (effect w n e) steps .1)
 unfolding settle effect feedsUsed repliesFor pieceEffect feedCount
-one-reply w n (Open c t) d zero = refl
-one-reply w n (Open c t) d (suc j) = refl
-one-reply w n (Close c t) d zero = refl
-one-reply w n (Close c t) d (suc j) = refl
-one-reply w n (Piece c bs t) d zero =
+one-reply w n steps (Open c t) d zero = refl
+one-reply w n steps (Open c t) d (suc j) = refl
+one-reply w n steps (Close c t) d zero = refl
+one-reply w n steps (Close c t) d (suc j) = refl
+one-reply w n steps (Piece c bs t) d zero =
     ended-replies w _ c t d (hasFeed bs) ∙ ap (λ k. cond (eqb d c) k 0) (sym (feeds-used bs))
-one-reply w n (Piece c bs t) d (suc j) = either-way (eqb d c) 0
-one-reply w n (Reading p bs t) d zero = reading-replies n p (getElem? (parameters w) p) bs t d
-one-reply w n (Reading p bs t) d (suc j) = refl
-one-reply w n (Unreadable p k t) d zero = unreadable-replies n p (getElem? (parameters w) p) (faultOf k) t d
-one-reply w n (Unreadable p k t) d (suc j) = refl
+one-reply w n steps (Piece c bs t) d (suc j) = either-way (eqb d c) 0
+one-reply w n steps (Reading p bs t) d zero = reading-replies n p (getElem? (parameters w) p) bs t d
+one-reply w n steps (Reading p bs t) d (suc j) = refl
+one-reply w n steps (Unreadable p k t) d zero = unreadable-replies n p (getElem? (parameters w) p) (faultOf k) t d
+one-reply w n steps (Unreadable p k t) d (suc j) = refl
 
 pub one-reply-for-each-line : OneReplyForEachLine
 unfolding step stepIf
-one-reply-for-each-line table n e d = one-reply (tableOf table) n (e .event) d (callNumber table false n e)
+one-reply-for-each-line table n e d = one-reply (tableOf table) n (callSteps (tableOf table) n e) (e .event) d (callNumber table false n e)

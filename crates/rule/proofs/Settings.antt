@@ -13,7 +13,7 @@ use Rattle.message.specs.Request.{Request, request}
 use Rattle.message.specs.Error.{Fault, faultOf}
 use Rattle.plain.specs.Node.{Node, setValues}
 use Rattle.plain.specs.Answer.{Outcome, refused, carried, settingsOf, activates, deactivates, sets, outcome, conclude, answerParts, partsSet, answer, answerSets}
-use Rattle.plain.specs.Calls.{Event, Open, Close, Piece, Reading, Unreadable, ended, endedSets, driverEffect, readingEffect, unreadableEffect, pieceEffect, effect, callNumber, settle, stepIf, settled, settingsIf}
+use Rattle.plain.specs.Calls.{Event, Open, Close, Piece, Reading, Unreadable, ended, endedSets, driverEffect, readingEffect, unreadableEffect, pieceEffect, effect, callNumber, settle, settling, stepIf, settled, settingsIf}
 use Rattle.plain.specs.History.{step}
 use Rattle.plain.proofs.Outcomes.{nodeAfter, outcome-holds}
 use Rattle.rule.specs.Theorems.{SettingsAreAll}
@@ -74,6 +74,6 @@ pub settings-are-all : SettingsAreAll
 unfolding step stepIf settle settingsIf settled
 settings-are-all table n e = go (callNumber table false n e)
   where
-    go : (j : ℕ) → settle j n (effect (tableOf table) n (e .event)) .0 .values ≡ setValues (n .values) (settled j (effect (tableOf table) n (e .event)))
+    go : (j : ℕ) → settling table n e j .0 .values ≡ setValues (n .values) (settled j (effect (tableOf table) n (e .event)))
     go zero = effect-all (tableOf table) n (e .event)
     go (suc j) = refl

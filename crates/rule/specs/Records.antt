@@ -22,7 +22,7 @@ updatesFor d (update c r ∷ rs) = cond (eqb d c) (r ∷ []) [] ++ updatesFor d 
 updatesFor d (orderChange c p v ∷ rs) = updatesFor d rs
 updatesFor d (orderCommand c p v ∷ rs) = updatesFor d rs
 
--- the final replies to client d, in order
+-- the final replies to client d, in order [H-12]
 unfoldable pub repliesFor : ℕ → List Record → List Reply
 repliesFor d [] = []
 repliesFor d (final c r ∷ rs) = cond (eqb d c) (r ∷ []) [] ++ repliesFor d rs

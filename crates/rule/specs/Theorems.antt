@@ -1,19 +1,19 @@
 -- The user's rule: whoever activates a module is sent its updates and nobody else is; whoever sends a line gets one reply to it and
--- nobody else does; a change that is refused alters nothing for anyone. Each statement is of every call, on every table and node.
--- Assumes nothing.
+-- nobody else does; a change that is refused alters nothing for anyone. Each statement is of every single call, on every table and node; a list is
+-- its single readings (`lists::lists_are_readings`). Assumes nothing.
 use Prim.Native.Nat.{ℕ, suc, _<_, _≤_}
-use mathlib.Core.Bool.{true, false, cond}
+use mathlib.Core.Bool.{Bool, true, false, cond}
 use mathlib.Core.List.{List, [], _∷_, _++_, List·Memᴰ}
 use mathlib.Core.Logic.{_⊎_}
-use mathlib.Core.Option.{Option, some}
+use mathlib.Core.Option.{Option, none, some}
 use mathlib.Core.Path.{_≡_}
 use lib.ListN.{length, getElem?}
-use Rattle.fit.specs.Fit.{fits, verdict, isFit, storedForm}
+use Rattle.fit.specs.Fit.{Verdict, fits, rangeError, wrongType, badJSON, verdict, isFit, storedForm}
 use Rattle.ascii.specs.Text.{bytes}
 use Rattle.ascii.specs.Bytes.{isSome}
 use Rattle.message.specs.Line.{Parts, whole, content, partsOf}
 use Rattle.message.specs.Request.{Request, activate, deactivate, read, change, execute, check, request}
-use Rattle.message.specs.Error.{Fault, faultOf, Denial, fault}
+use Rattle.message.specs.Error.{Class, ReadOnly, BadJSON, WrongType, RangeError, Fault, faultOf, Denial, class, fault}
 use Rattle.message.specs.Reply.{Held, valued, failed, Report, Reply, reply, changed, active, inactive, done, checked, error}
 use Rattle.table.specs.Table.{Parameter, Command, parameter, Module, Table}
 use Rattle.table.specs.Layout.{tableOf}
@@ -317,6 +317,22 @@ ErrorsAlterNothing = (table : List ℕ) (n : Node) (e : Call) (c : ℕ) (a s : L
     → List·Memᴰ (final c (error a s x)) (step table n e .1 .records)
     → AltersNothing n (step table n e .0) (step table n e .1 .records) c (error a s x)
 
+-- And every bad change is refused: one of a parameter that is there, but is readonly, or by a value that doesn't fit, with what it leaves out (M-113). The
+-- error is of the class that comes first in document 01's order.
+unfoldable pub refusal : (readonly : Bool) → Verdict → Option Class
+refusal true v = some ReadOnly
+refusal false fits = none
+refusal false rangeError = some RangeError
+refusal false wrongType = some WrongType
+refusal false badJSON = some BadJSON
+
+abbrev pub BadChangesAreRefused : Type 0
+BadChangesAreRefused = (table : List ℕ) (n : Node) (c : ℕ) (m x offered : List ℕ) (k : ℕ) (p : Placed Parameter)
+    → findParameter (tableOf table) m x ≡ some (k, p) → (e : Class) → refusal (p .it .readonly) (judgedAt (n .values) (k, p) offered) ≡ some e
+    → (bs : List ℕ) (t : ℕ) (lent : Lent) → let r = step table n (record { event = Piece c bs t; lent = lent }) in
+    r .1 .number ≡ 0 → hasFeed bs ≡ true → requestOf n c bs ≡ change m x offered
+    → AltersNothing n (r .0) (r .1 .records) c (error (partsAt n c bs .action) (partsAt n c bs .specifier) (class e))
+
 -- ## A check tells what a change would come to (M-107)
 
 -- Of a check and a change of the same, each by client c from the node n: p and q are the parts of their lines, m and m′ the nodes that they leave, rs
@@ -337,11 +353,29 @@ ChecksAreAsChanges = (table : List ℕ) → isSome (tableOf table .edition) ≡ 
     → r′ .1 .number ≡ 0 → hasFeed bs′ ≡ true → requestOf n c bs′ ≡ change a x offered
     → AsChange n c (partsAt n c bs) (r .0) (r .1 .records) (partsAt n c bs′) (r′ .0) (r′ .1 .records)
 
+-- a line's parts: its action, and what follows
+abbrev pub saying : List ℕ → List ℕ → List ℕ → Parts
+saying action specifier payload = record { action = action; specifier = specifier; payload = payload }
+
+-- The same by the lines' words: of `check` and `change` with the same specifier and the same data, whatever these are. Where the specifier has no good names
+-- both are refused with ProtocolError, and each error has the specifier as it was sent: `error_check`, and `error_change`.
+abbrev pub CheckLinesAreAsChangeLines : Type 0
+CheckLinesAreAsChangeLines = (table : List ℕ) → isSome (tableOf table .edition) ≡ true → (n : Node) (c t : ℕ) (specifier payload : List ℕ)
+    (bs bs′ : List ℕ) (lent lent′ : Lent)
+    → let p = saying (bytes "check") specifier payload in
+    let p′ = saying (bytes "change") specifier payload in
+    let r = step table n (record { event = Piece c bs t; lent = lent }) in
+    let r′ = step table n (record { event = Piece c bs′ t; lent = lent′ }) in
+    r .1 .number ≡ 0 → hasFeed bs ≡ true → partsAt n c bs ≡ p
+    → r′ .1 .number ≡ 0 → hasFeed bs′ ≡ true → partsAt n c bs′ ≡ p′
+    → AsChange n c p (r .0) (r .1 .records) p′ (r′ .0) (r′ .1 .records)
+
 -- A call that is refused by a number uses nothing, writes nothing and alters nothing.
 pub record Refused (n m : Node) (x : Answer) : Type 0 where
   pub node : m ≡ n
   pub used : x .used ≡ 0
   pub records : x .records ≡ []
+  pub steps : x .steps ≡ 0
 
 abbrev pub RefusalsAlterNothing : Type 0
 RefusalsAlterNothing = (table : List ℕ) (n : Node) (e : Call) (k : ℕ)

@@ -5,7 +5,8 @@ ghost use Rattle.rule.specs.Theorems.{UpdatesGoToActiveClients, ChangesA
 ghost use Rattle.rule.specs.Theorems.{UnreadablesAreSentToAll, ValuesAlterBySettings, SettingsAreAll, ActivationsSendAll};
 ghost use Rattle.rule.specs.Theorems.{GoodActivationsAreMade, ActivationsAreOnesOwn, ParametersBelong, OneReplyForEachLine, PiecesAreUsed};
 ghost use Rattle.rule.specs.Theorems.{ReadsAreTrue, GoodReadsAreAnswered, CommandsAreOrdered, GoodCommandsAreOrdered};
-ghost use Rattle.rule.specs.Theorems.{ErrorsAlterNothing, ChecksAreAsChanges, RefusalsAlterNothing};
+ghost use Rattle.rule.specs.Theorems.{ErrorsAlterNothing, BadChangesAreRefused, ChecksAreAsChanges, CheckLinesAreAsChangeLines, RefusalsAlterNothing};
+ghost use Rattle.rule.specs.Parts.{PartsAreMerged};
 
 // Each function here promises a theorem about the definitions. Nothing is run.
 
@@ -150,9 +151,31 @@ pub fn errors_alter_nothing() -> bool
     true
 }
 
+// A change of a parameter that is there, but is readonly, or by a value that doesn't fit, is refused with the error of document 01's order.
+pub fn bad_changes_are_refused() -> bool
+    ensures { λ r. ⌜ (r ≡ true) × BadChangesAreRefused ⌝ }
+{
+    true
+}
+
 // A check is answered as the change of the same would be, by what it would store or by the same error; it stores nothing and sends nothing else.
 pub fn checks_are_as_changes() -> bool
     ensures { λ r. ⌜ (r ≡ true) × ChecksAreAsChanges ⌝ }
+{
+    true
+}
+
+// The same of two lines that say `check` and `change` with the same specifier and data, whatever these are: malformed ones too.
+pub fn check_lines_are_as_change_lines() -> bool
+    ensures { λ r. ⌜ (r ≡ true) × CheckLinesAreAsChangeLines ⌝ }
+{
+    true
+}
+
+// Of a struct with optional members a change may leave these out, and they keep what is shown, byte for byte; what is given is stored as ever, all in table
+// order. What is required, or left out where nothing is shown, is WrongType. Nothing else is merged.
+pub fn parts_are_merged() -> bool
+    ensures { λ r. ⌜ (r ≡ true) × PartsAreMerged ⌝ }
 {
     true
 }

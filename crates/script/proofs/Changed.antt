@@ -11,7 +11,7 @@ use Rattle.state.specs.declared.Settings.{Settings}
 use Rattle.state.specs.declared.State.{State}
 use Rattle.state.specs.View.{nextClients, nextSettings, nextCounts}
 use Rattle.script.specs.declared.operation.Operation.{Operation}
-use Rattle.script.specs.Poke.{withNumber, withLines, withLength, withTime, withError, withCounts, partPoked, pokedBy}
+use Rattle.script.specs.contracts.Poke.{withNumber, withLines, withLength, withTime, withError, withCounts, partPoked, pokedBy}
 
 module _ (s : Clients) (code c v : ℕ) where
   pub number-past : 7 < c → s ≡ withNumber s code c v

@@ -4,10 +4,10 @@ use mathlib.Core.List.{List}
 use mathlib.Core.Path.{_≡_, refl}
 use lib.ListN.{drop}
 use Rattle.ascii.specs.Numbers.{unsigned}
-use Rattle.ascii.specs.Read.{ReadsUnsigned}
+use Rattle.ascii.specs.contracts.Read.{ReadsUnsigned}
 use Rattle.ascii.specs.declared.Unsigned as U
 use Rattle.ascii.specs.declared.Unsigned.{Unsigned}
-use Rattle.script.specs.Head.{orZero, numberAt}
+use Rattle.script.specs.contracts.Head.{orZero, numberAt}
 
 module _ (head : List ℕ) (at k : ℕ) (q : Unsigned) (h : ReadsUnsigned head q (unsigned k (drop at head))) where
   pub number-short : q ≡ U.the-variants.Short → 0 ≡ numberAt head at k

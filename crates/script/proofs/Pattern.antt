@@ -8,7 +8,7 @@ use lib.Dec.{eqb}
 use lib.ListN.{length, getD, set, length-set}
 use lib.Seq.{getD-set-same, getD-set-other}
 use borrow.Author.Tests.{eqb-true, eqb-false}
-use Rattle.script.specs.Pattern.{Filled}
+use Rattle.script.specs.contracts.Pattern.{Filled}
 
 -- the first i bytes are
 pub record Begun (before : List ℕ) (i : ℕ) (after : List ℕ) : Type 0 where

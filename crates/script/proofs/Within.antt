@@ -5,8 +5,8 @@ use borrow.Author.Tests.{lt-ltb, le-ltb}
 use mathlib.Core.List.{List}
 use mathlib.Core.Path.{_≡_, refl}
 use lib.ListN.{length}
-use Rattle.ascii.specs.Writer.{Puts}
-use Rattle.script.specs.Within.{within}
+use Rattle.ascii.specs.contracts.Writer.{Puts}
+use Rattle.script.specs.contracts.Within.{within}
 
 module _ (area : List ℕ) (place : ℕ) (bs : List ℕ) where
   kept : length area < place + length bs → area ≡ within area place bs

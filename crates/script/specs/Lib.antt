@@ -1,4 +1,1 @@
-pub mod Head
-pub mod Within
-pub mod Poke
-pub mod Pattern
+pub mod contracts

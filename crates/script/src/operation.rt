@@ -3,6 +3,7 @@
 // big-endian. The codes:
 //
 //   T        the bytes are the table from here on; the state stays
+//   I        the bytes are the index that calls are lent from here on; none where there are no bytes
 //   S O C    start, open, close; the number is the client's
 //   P R      a piece of a client, a reading of a parameter; the bytes are what is offered
 //   U        a parameter can't be read; the bytes are its class, eight of them
@@ -19,7 +20,7 @@ ghost use mathlib.Core.Path.{_≡_};
 ghost use mathlib.Core.Logic.{_⊎_};
 ghost use Prim.Native.Nat.{_≤_};
 ghost use lib.ListN.{getD};
-ghost use Rattle.script.specs.Head.{numberAt, Says};
+ghost use Rattle.script.specs.contracts.Head.{numberAt, Says};
 
 // What a head says. Code 0 is the end of the script.
 pub struct Operation {

@@ -2,13 +2,18 @@
 use crate::operation::Operation;
 use ascii::write::put;
 use counter::Counts;
+use limits::ACCESSIBLES;
+use limits::CLIENTS;
+use limits::LAST_CLIENT;
+use limits::LAST_PARAMETER;
+use limits::LINE;
 use state::Clients;
 use state::Settings;
 use state::State;
 ghost use mathlib.Core.Path.{_≡_};
 ghost use Rattle.promise.specs.Promise as Promise;
-ghost use Rattle.script.specs.Within.{within};
-ghost use Rattle.script.specs.Poke.{withNumber, withLines, withLength, withTime, withError, withCounts, partPoked, pokedBy};
+ghost use Rattle.script.specs.contracts.Within.{within};
+ghost use Rattle.script.specs.contracts.Poke.{withNumber, withLines, withLength, withTime, withError, withCounts, partPoked, pokedBy};
 
 // The state of a refused start: no client open and every number 0.
 pub fn blank() -> State
@@ -16,22 +21,22 @@ pub fn blank() -> State
 {
     State {
         clients: Clients {
-            open: [0; 8],
-            overlong: [0; 8],
-            active: [0; 8],
-            length: [0; 8],
-            lines: [0; 8192],
+            open: [0; CLIENTS],
+            overlong: [0; CLIENTS],
+            active: [0; CLIENTS],
+            length: [0; CLIENTS],
+            lines: [0; CLIENTS * LINE],
         },
         settings: Settings {
-            length: [0; 64],
-            error: [0; 64],
-            time: [0; 64],
+            length: [0; ACCESSIBLES],
+            error: [0; ACCESSIBLES],
+            time: [0; ACCESSIBLES],
         },
         counts: [Counts {
             lines: 0,
             errors: 0,
             updates: 0,
-        }; 8],
+        }; CLIENTS],
     }
 }
 
@@ -54,7 +59,7 @@ fn with_number(s: Clients, code: u8, client: u64, value: u64) -> Clients
     ensures { λ r. ⌜ r ≡ withNumber s code client value ⌝ }
 {
     let mut next = s;
-    if client > 7 {
+    if client > LAST_CLIENT {
         return s;
     }
     let c = client as usize;
@@ -89,7 +94,7 @@ fn with_lines(s: Clients, place: u64, bytes: &[u8]) -> Clients
 fn with_length(s: Settings, parameter: u64, value: u64) -> Settings
     ensures { λ r. ⌜ r ≡ withLength s parameter value ⌝ }
 {
-    if parameter > 63 {
+    if parameter > LAST_PARAMETER {
         return s;
     }
     let k = parameter as usize;
@@ -101,7 +106,7 @@ fn with_length(s: Settings, parameter: u64, value: u64) -> Settings
 fn with_time(s: Settings, parameter: u64, value: u64) -> Settings
     ensures { λ r. ⌜ r ≡ withTime s parameter value ⌝ }
 {
-    if parameter > 63 {
+    if parameter > LAST_PARAMETER {
         return s;
     }
     let k = parameter as usize;
@@ -113,7 +118,7 @@ fn with_time(s: Settings, parameter: u64, value: u64) -> Settings
 fn with_error(s: Settings, parameter: u64, value: u64) -> Settings
     ensures { λ r. ⌜ r ≡ withError s parameter value ⌝ }
 {
-    if parameter > 63 {
+    if parameter > LAST_PARAMETER {
         return s;
     }
     let k = parameter as usize;
@@ -126,7 +131,7 @@ fn with_error(s: Settings, parameter: u64, value: u64) -> Settings
 fn with_counts(s: State, client: u64, value: u64) -> State
     ensures { λ r. ⌜ r ≡ withCounts s client value ⌝ }
 {
-    if client > 7 {
+    if client > LAST_CLIENT {
         return s;
     }
     let c = client as usize;

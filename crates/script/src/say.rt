@@ -1,17 +1,19 @@
-// What is written to standard output. A call has a line: its name, the number, how many bytes it used and wrote, the digests of the whole
-// outbox and of the whole values area after it, then what it wrote or, if it was refused, whether the state is what it was (for a start: the
-// state with every number 0). A state has a line for each client (number, open, overlong, active modules, length of its line and the line)
-// and for each parameter (number, length of its stored value, class of its error, time), and then one for each client's counts (number, lines, errors,
-// updates). Bytes outside 32 to 126 and the backslash are written as a backslash
-// and two hexadecimal digits.
+// What is written to standard output. A call has a line: its name, the number, how many bytes it used and wrote, the steps of its search, the
+// digests of the whole outbox and of the whole values area after it, then what it wrote or, if it was refused, whether the state is what it was
+// (for a start: the state with every number 0). A state has a line for each client (number, open, overlong, active modules, length of its line
+// and the line) and for each parameter (number, length of its stored value, class of its error, time), and then one for each client's counts
+// (number, lines, errors, updates). Bytes outside 32 to 126 and the backslash are written as a backslash and two hexadecimal digits.
 use crate::operation::Operation;
 use crate::poke::blank;
 use libc::STDOUT_FILENO;
+use limits::ACCESSIBLES;
+use limits::CLIENTS;
+use limits::LINE;
 use promise::Done;
 use state::Clients;
 use state::Settings;
 use state::State;
-ghost use Rattle.script.specs.Pattern.{Filled};
+ghost use Rattle.script.specs.contracts.Pattern.{Filled};
 
 // The pattern that stands in an outbox before a call.
 pub fn fill(outbox: &mut [u8])
@@ -137,7 +139,7 @@ fn same_lines(a: Clients, b: Clients) -> bool {
 
 fn same_clients(a: Clients, b: Clients) -> bool {
     let mut c = 0;
-    while c < 8 {
+    while c < CLIENTS {
         if !same_client(a, b, c) {
             return false;
         }
@@ -161,7 +163,7 @@ fn same_setting(a: Settings, b: Settings, k: usize) -> bool {
 
 fn same_settings(a: Settings, b: Settings) -> bool {
     let mut k = 0;
-    while k < 64 {
+    while k < ACCESSIBLES {
         if !same_setting(a, b, k) {
             return false;
         }
@@ -187,7 +189,7 @@ fn same_count(a: State, b: State, c: usize) -> bool {
 
 fn same_counts(a: State, b: State) -> bool {
     let mut c = 0;
-    while c < 8 {
+    while c < CLIENTS {
         if !same_count(a, b, c) {
             return false;
         }
@@ -242,6 +244,7 @@ pub fn write_answer(values: &[u8], outbox: &[u8], before: State, o: Operation, d
     write_number(done.number as u64);
     write_number(done.used as u64);
     write_number(written as u64);
+    write_number(done.steps as u64);
     write_number(digest(outbox));
     write_number(digest(values));
     if done.number == 0 {
@@ -286,7 +289,7 @@ fn write_line(s: Clients, c: usize) {
     }
     let lines = s.lines;
     io::write_all(STDOUT_FILENO, b" ");
-    write_part(&lines, 1024 * c, size(length));
+    write_part(&lines, LINE * c, size(length));
 }
 
 fn write_client(s: Clients, c: usize) {
@@ -317,7 +320,7 @@ fn write_parameter(s: Settings, k: usize) {
 
 fn write_clients(s: Clients) {
     let mut c = 0;
-    while c < 8 {
+    while c < CLIENTS {
         write_client(s, c);
         c += 1;
     }
@@ -325,7 +328,7 @@ fn write_clients(s: Clients) {
 
 fn write_parameters(s: Settings, count: u64) {
     let mut k = 0;
-    while k < 64 {
+    while k < ACCESSIBLES {
         if k as u64 >= count {
             return;
         }
@@ -353,7 +356,7 @@ fn write_count(s: State, c: usize) {
 
 fn write_counts(s: State) {
     let mut c = 0;
-    while c < 8 {
+    while c < CLIENTS {
         write_count(s, c);
         c += 1;
     }

@@ -15,16 +15,16 @@ use Rattle.table.specs.Layout.{tableOf}
 use Rattle.table.specs.Search.{Placed, parametersOf, commandsOf, parameters, commands, firstFrom, first, findParameter, findCommand}
 use Rattle.table.specs.declared.layout.ParameterAt.{ParameterAt}
 use Rattle.table.specs.declared.layout.CommandAt.{CommandAt}
-use Rattle.table.specs.At.{bytesOf, Inside, parameterOf, commandOf}
+use Rattle.table.specs.contracts.At.{bytesOf, Inside, parameterOf, commandOf}
 use Rattle.table.proofs.Accessibles.{in-some}
 use Rattle.table.proofs.Search.{isNamed}
 use Rattle.search.specs.declared.cursor.Cursor.{Cursor}
 use Rattle.search.specs.declared.cursor.NextParameter as P
 use Rattle.search.specs.declared.cursor.NextCommand as C
-use Rattle.search.specs.Left.{placed, leftFrom, OnWay, After, FirstIs, Ended, FirstCursor, NextParameterIs, NextCommandIs}
+use Rattle.search.specs.contracts.Left.{placed, leftFrom, OnWay, After, FirstIs, Ended, FirstCursor, NextParameterIs, NextCommandIs}
 use Rattle.search.proofs.Lefts.{drop-next}
 use Rattle.search.proofs.Walks.{walk-less}
-use Rattle.search.specs.Found.{ParameterFound, CommandFound, ParameterNumbered}
+use Rattle.search.specs.contracts.Found.{ParameterFound, CommandFound, ParameterNumbered}
 
 -- ## Lists
 

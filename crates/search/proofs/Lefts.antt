@@ -11,7 +11,7 @@ use lib.Dec.{eqb}
 use borrow.Author.Tests.{eq-eqb, ne-eqb, not-true, not-false}
 use Rattle.ascii.specs.Text.{bytes}
 use Rattle.ascii.specs.Bytes.{_>>=_, isSome, after}
-use Rattle.ascii.specs.Reader.{rest}
+use Rattle.ascii.specs.contracts.Reader.{rest}
 use Rattle.table.specs.Table as Table
 use Rattle.table.specs.Layout.{begins, accessiblesAt, modulesAt, Readable, tableOf}
 use Rattle.table.specs.Search.{Placed, placedFrom, parametersOf, commandsOf, parameters, commands}
@@ -23,13 +23,13 @@ use Rattle.table.specs.declared.layout.ModuleAt.{ModuleAt}
 use Rattle.table.specs.declared.layout.Heading as H
 use Rattle.table.specs.declared.layout.HeadAt.{HeadAt}
 use Rattle.table.specs.declared.layout.Head as Head
-use Rattle.table.specs.At.{bytesOf, textsAt, accessibleBegins, accessibleAt, accessiblesFrom, AccessibleIs, headingAt, moduleOf, HeadingIs, modulesFrom, HeadRead}
+use Rattle.table.specs.contracts.At.{bytesOf, textsAt, accessibleBegins, accessibleAt, accessiblesFrom, AccessibleIs, headingAt, moduleOf, HeadingIs, modulesFrom, HeadRead}
 use Rattle.table.proofs.Accessibles.{in-some}
 use Rattle.table.proofs.Enough.{before, accessibles-stop, accessibles-more, accessible-less, modules-stop, modules-more, heading-less}
 use Rattle.table.proofs.Modules.{withThem, withAccessibles, module-as, module-is, head-within, less}
 use Rattle.table.proofs.Whole.{Opened, opened, unread, readable-whole, never}
 use Rattle.search.specs.declared.cursor.Cursor.{Cursor}
-use Rattle.search.specs.Left.{follows, accessiblesLeft, placed, leftFrom, accessiblesOf, Fits, HomeIs, OnWay, After, FirstIs, Ended, ParameterFirst, CommandFirst, ModuleFirst, FirstCursor}
+use Rattle.search.specs.contracts.Left.{follows, accessiblesLeft, placed, leftFrom, accessiblesOf, Fits, HomeIs, OnWay, After, FirstIs, Ended, ParameterFirst, CommandFirst, ModuleFirst, FirstCursor}
 
 -- ## Lists
 

@@ -2,5 +2,3 @@ pub mod Lefts
 pub mod Walks
 pub mod Finds
 pub mod Searches
-pub mod Unique
-pub mod Located

@@ -17,9 +17,9 @@ use Rattle.table.specs.declared.layout.Head as Head
 use Rattle.table.specs.declared.judge.Kind.the-variants.{Modules}
 use Rattle.table.specs.declared.judge.Named as N
 use Rattle.search.specs.declared.find.FoundModule as F
-use Rattle.table.specs.At.{bytesOf, modulesFrom, HeadRead}
-use Rattle.table.specs.Judged.{kindBegins, namedAt, namesFrom, howMany, NamedIs}
-use Rattle.search.specs.Found.{isCalled, FirstModule, FindsFirst, FindsModule}
+use Rattle.table.specs.contracts.At.{bytesOf, modulesFrom, HeadRead}
+use Rattle.table.specs.contracts.Judged.{kindBegins, namedAt, namesFrom, howMany, NamedIs}
+use Rattle.search.specs.contracts.Found.{isCalled, FirstModule, FindsFirst, FindsModule}
 use Rattle.table.proofs.Accessibles.{in-some}
 use Rattle.table.proofs.Enough.{before, modules-stop, modules-more}
 use Rattle.table.proofs.Named.{Was, was, none-was}

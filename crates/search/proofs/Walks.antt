@@ -11,10 +11,10 @@ use Rattle.table.specs.Layout.{modulesAt}
 use Rattle.table.specs.Search.{Placed, placedFrom, parametersOf, commandsOf}
 use Rattle.table.specs.declared.layout.ParameterAt.{ParameterAt}
 use Rattle.table.specs.declared.layout.CommandAt.{CommandAt}
-use Rattle.table.specs.At.{bytesOf, parameterOf, commandOf}
+use Rattle.table.specs.contracts.At.{bytesOf, parameterOf, commandOf}
 use Rattle.search.specs.declared.cursor.Cursor.{Cursor}
 use Rattle.search.specs.declared.cursor.Record as R
-use Rattle.search.specs.Left.{accessiblesLeft, placed, leftFrom, accessiblesOf, OnWay, After, FirstIs, Goes, Ended, ParameterFirst, CommandFirst, RecordIs}
+use Rattle.search.specs.contracts.Left.{accessiblesLeft, placed, leftFrom, accessiblesOf, OnWay, After, FirstIs, Goes, Ended, ParameterFirst, CommandFirst, RecordIs}
 use Rattle.search.proofs.Lefts.{withModules, withRest, left-as}
 
 -- ## Some of the accessibles

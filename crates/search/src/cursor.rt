@@ -15,7 +15,7 @@ ghost use mathlib.Core.Bool.{false};
 ghost use Prim.Native.Nat.{_≤_};
 ghost use lib.ListN.{length};
 ghost use Rattle.table.specs.Layout.{Readable};
-ghost use Rattle.search.specs.Left.{follows, OnWay, FirstCursor, RecordIs, nameOf, NextAccessibleIs, NextParameterIs, NextCommandIs};
+ghost use Rattle.search.specs.contracts.Left.{follows, OnWay, FirstCursor, RecordIs, nameOf, NextAccessibleIs, NextParameterIs, NextCommandIs};
 
 // Where the next record begins, how many modules have begun, and the name of the latest.
 pub struct Cursor {

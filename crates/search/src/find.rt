@@ -24,8 +24,8 @@ ghost use lib.ListN.{length};
 ghost use Rattle.ascii.specs.Bytes.{same};
 ghost use Rattle.table.specs.Table.{Module};
 ghost use Rattle.table.specs.Layout.{Readable, tableOf};
-ghost use Rattle.table.specs.At.{bytesOf, Inside, modulesFrom};
-ghost use Rattle.search.specs.Found.{FindsFirst, FindsModule, FindsParameter, FindsCommand, NumberedParameter};
+ghost use Rattle.table.specs.contracts.At.{bytesOf, Inside, modulesFrom};
+ghost use Rattle.search.specs.contracts.Found.{FindsFirst, FindsModule, FindsParameter, FindsCommand, NumberedParameter};
 
 // A module's number and where its record begins.
 pub enum FoundModule {
@@ -59,7 +59,8 @@ fn part_is(s: &[u8], p: Part, name: &[u8]) -> bool
 // The first module of a name among those that follow.
 fn module_from(s: &[u8], at: usize, name: &[u8]) -> FoundModule
     requires { ⌜ at ≤ length (now s) ⌝ }
-    ensures { λ r. ⌜ ((ms : List Module) (x : List ℕ) → modulesFrom (now (s .entry)) at ≡ some (ms, x) → FindsFirst (now (s .entry)) (now (name .entry)) r ms x) ⌝ }
+    ensures { λ r. ⌜ ((ms : List Module) (x : List ℕ) → modulesFrom (now (s .entry)) at ≡ some (ms, x)
+        → FindsFirst (now (s .entry)) (now (name .entry)) r ms x) ⌝ }
 {
     let mut n = 0;
     let mut i = at;

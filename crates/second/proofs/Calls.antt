@@ -19,7 +19,7 @@ use Rattle.message.specs.Error.{faultOf}
 use Rattle.outbox.specs.Outbox.{Record}
 use Rattle.plain.specs.Node.{Node, put, withClient, isOpen, receive, withClients}
 use Rattle.plain.specs.Answer.{answer}
-use Rattle.plain.specs.Calls.{Event, Open, Close, Piece, Reading, Unreadable, Call, fault10, readingVerdict, ownFaults, callNumber, beforeFeed, hasFeed, ended, pieceEffect, effect, settle, stepIf}
+use Rattle.plain.specs.Calls.{Event, Open, Close, Piece, Reading, Unreadable, Call, fault10, readingVerdict, ownFaults, callNumber, beforeFeed, hasFeed, ended, pieceEffect, effect, settle, settling, stepIf}
 use Rattle.plain.specs.History.{step, Mark, feeds, opens, closes, reads, fails, Item, byte, mark, markOf, itemOf, consIf, own, marks, pieceItems, itemsOf, kept, InTime, Roomy, standing, after, runNode, runSent, joined}
 use Rattle.plain.proofs.Numbers.{accepted-call}
 use Rattle.plain.proofs.Put.{put-at, put-same, put-put}
@@ -87,8 +87,8 @@ module _ (table : List ℕ) where
         λ h.
             let l = f .0 h .0 in
             let o = g .0 (f .0 h .1) in
-            (record { outbox = l .outbox; area = l .area; inTime = o .0 }, o .1),
-        λ h. f .1 (record { accepted = z; outbox = h .0 .outbox; area = h .0 .area; fit = refl }, g .1 (h .0 .inTime, h .1)),
+            (record { outbox = l .outbox; area = l .area; index = l .index; inTime = o .0 }, o .1),
+        λ h. f .1 (record { accepted = z; outbox = h .0 .outbox; area = h .0 .area; index = h .0 .index; fit = refl }, g .1 (h .0 .inTime, h .1)),
       )
 
 -- ## Items of an accepted call
@@ -229,7 +229,7 @@ module _ (table : List ℕ) (n : Node) (e : Call) where
   unfolding step stepIf settle
   step-number = go (callNumber table false n e)
     where
-      go : (j : ℕ) → settle j n (effect (tableOf table) n (e .event)) .1 .number ≡ j
+      go : (j : ℕ) → settling table n e j .1 .number ≡ j
       go zero = refl
       go (suc j) = refl
 
@@ -238,7 +238,7 @@ module _ (table : List ℕ) (n : Node) (e : Call) where
   unfolding step stepIf settle kept
   step-used = go (callNumber table false n e) refl
     where
-      go : (j : ℕ) → callNumber table false n e ≡ j → let r = settle j n (effect (tableOf table) n (e .event)) in
+      go : (j : ℕ) → callNumber table false n e ≡ j → let r = settling table n e j in
           Used table n (kept (r .1 .number) (itemsOf (e .event))) (r .0, r .1 .records)
       go zero q =
           let h = accepts table (accepted-call table false e n .0 q .0 .accepted) n e .0 q .1 in

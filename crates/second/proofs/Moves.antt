@@ -252,8 +252,8 @@ unused-may-be-offered table n h l r c t lent xs ys k =
     let f : Call = record { event = Piece c (xs ++ ys) t; lent = lent } in
     let i : items (e ∷ []) ≡ items (f ∷ []) = ap (_++ []) (piece-unused c t xs ys k) in
     let j : (m : ℕ) → opened n l c ≡ true → m ≡ c → opened n l m ≡ true = λ m z y. ap (opened n l) y ∙ z in
-    let u : AllRoomy (e ∷ []) → AllRoomy (f ∷ []) = λ w. (record { outbox = w .0 .outbox; area = w .0 .area; inTime = w .0 .inTime }, tt) in
-    let v : AllRoomy (f ∷ []) → AllRoomy (e ∷ []) = λ w. (record { outbox = w .0 .outbox; area = w .0 .area; inTime = w .0 .inTime }, tt) in (
+    let u : AllRoomy (e ∷ []) → AllRoomy (f ∷ []) = λ w. (record { outbox = w .0 .outbox; area = w .0 .area; index = w .0 .index; inTime = w .0 .inTime }, tt) in
+    let v : AllRoomy (f ∷ []) → AllRoomy (e ∷ []) = λ w. (record { outbox = w .0 .outbox; area = w .0 .area; index = w .0 .index; inTime = w .0 .inTime }, tt) in (
       λ z.
           let y = piece-open table n h l r c t lent xs z in
           replaced table n h l (e ∷ []) (f ∷ []) r (λ m. ap (own m) i) (ap marks i) u (λ _. (λ m t′ x. j m y (cc), tt)) z,

@@ -11,7 +11,7 @@ use Rattle.plain.specs.Node.{Node, begin}
 use Rattle.plain.specs.Calls.{Open, Lent, Call, startNumber}
 use Rattle.plain.specs.History.{step, answers, finish, sent, feeds, opens, closes, reads, fails, Item, byte, mark, taken}
 
--- how many "used line feeds" of client d there are among items
+-- how many "used line feeds" of client d there are among items [H-11]
 unfoldable pub feedsIn : ℕ → List Item → ℕ
 feedsIn d [] = 0
 feedsIn d (byte c b ∷ x) = feedsIn d x
@@ -21,7 +21,7 @@ feedsIn d (mark (closes c t) ∷ x) = feedsIn d x
 feedsIn d (mark (reads p bs t) ∷ x) = feedsIn d x
 feedsIn d (mark (fails p k t) ∷ x) = feedsIn d x
 
--- whether client d is opened among them
+-- whether client d is opened among them [H-11]
 unfoldable pub opensIn : ℕ → List Item → Bool
 opensIn d [] = false
 opensIn d (byte c b ∷ x) = opensIn d x
@@ -32,7 +32,7 @@ opensIn d (mark (reads p bs t) ∷ x) = opensIn d x
 opensIn d (mark (fails p k t) ∷ x) = opensIn d x
 
 -- At the end of the history h, which begins at the node n, client d's counts are those of h: of the line feeds that its accepted calls used, and of
--- the records that were sent. "each stops at 4,294,967,295"
+-- the records that were sent. "each stops at 4,294,967,295" [H-11]
 pub record Counted (table : List ℕ) (n : Node) (d : ℕ) (h : List Call) : Type 0 where
   pub lines : finish table n h .counts d .lines ≡ min (feedsIn d (taken table n h)) highest
   pub errors : finish table n h .counts d .errors ≡ min (errorsSent d (sent (answers table n h))) highest

@@ -13,19 +13,19 @@ use mir.Val.{Fits}
 use Rattle.hash.specs.Hash.{startPlace}
 use Rattle.table.specs.Layout.{tableOf}
 use Rattle.table.specs.Rules.{accessibleName}
-use Rattle.table.specs.At.{bytesOf}
+use Rattle.table.specs.contracts.At.{bytesOf}
 use Rattle.table.specs.declared.layout.Part.{Part}
 use Rattle.report.specs.Judge.{fault, lowest, tableNumber}
 use Rattle.report.proofs.Faults.{lowest-first}
 use Rattle.search.specs.declared.cursor.One as O
-use Rattle.search.specs.Left.{nameOf}
+use Rattle.search.specs.contracts.Left.{nameOf}
 use Rattle.index.specs.Index.{empty, entered}
 use Rattle.index.specs.Accessibles.{accessibles, startOf, indexOf}
 use Rattle.index.proofs.Searches.{there-within}
 use Rattle.index.proofs.Loops.{Filling, filling-start, filling-more, filling-end}
 use Rattle.seek.specs.declared.walk.Walk.{Walk}
 use Rattle.seek.specs.declared.walk.Step as S
-use Rattle.seek.specs.Walk.{Passed, There, Begins, StepIs}
+use Rattle.seek.specs.contracts.Walk.{Passed, There, Begins, StepIs}
 use Rattle.seek.specs.Fill.{fillNumber, indexAfter, Fills}
 use Rattle.seek.proofs.Accepted.{accepted-few}
 

@@ -12,7 +12,7 @@ use Rattle.table.specs.Table.{Parameter, Command, Accessible, parameter, comman
 use Rattle.table.specs.Layout.{tableOf}
 use Rattle.table.specs.Rules.{accessibleName}
 use Rattle.table.specs.Search.{Placed, commandsOf, commands, findModule, findParameter, findCommand}
-use Rattle.table.specs.At.{bytesOf, parameterOf, commandOf}
+use Rattle.table.specs.contracts.At.{bytesOf, parameterOf, commandOf}
 use Rattle.table.specs.declared.layout.ParameterAt.{ParameterAt}
 use Rattle.table.specs.declared.layout.CommandAt.{CommandAt}
 use Rattle.table.proofs.Search.{first-passes}
@@ -20,16 +20,16 @@ use Rattle.report.specs.Judge.{tableNumber}
 use Rattle.search.specs.declared.cursor.One as O
 use Rattle.search.specs.declared.find.FoundModule as F
 use Rattle.search.specs.declared.locate.Located as L
-use Rattle.search.specs.Left.{placed, leftFrom}
-use Rattle.search.specs.Found.{FindsModule, ParameterFound, CommandFound, ParameterLocated, CommandLocated, NothingLocated, Locates}
+use Rattle.search.specs.contracts.Left.{placed, leftFrom}
+use Rattle.search.specs.contracts.Found.{FindsModule, ParameterFound, CommandFound, ParameterLocated, CommandLocated, NothingLocated, Locates}
 use Rattle.index.specs.Among.{asOne}
 use Rattle.index.specs.Accessibles.{accessibles, isNamed, findAccessible, sought, seekSteps, parameterIn, commandIn, placedOne}
 use Rattle.index.proofs.Accepted.{answers-stand, parameter-meant, command-meant, parameters-are-accessibles, commands-are-accessibles}
 use Rattle.seek.specs.declared.walk.Walk.{Walk}
 use Rattle.seek.specs.declared.walk.Step as S
 use Rattle.seek.specs.declared.look.Sought.{Sought}
-use Rattle.seek.specs.Walk.{There, ParameterThere, CommandThere}
-use Rattle.seek.specs.Seek.{FoundIs, Finds, Answers, Some, locatedAs}
+use Rattle.seek.specs.contracts.Walk.{There, ParameterThere, CommandThere}
+use Rattle.seek.specs.contracts.Seek.{FoundIs, Finds, Answers, Some, locatedAs}
 use Rattle.seek.proofs.Accepted.{accepted-names}
 
 -- ## Counts of what is found

@@ -18,11 +18,11 @@ use Rattle.table.specs.Table.{Accessible}
 use Rattle.table.specs.Layout.{tableOf}
 use Rattle.table.specs.Rules.{accessibleName}
 use Rattle.table.specs.Search.{Placed}
-use Rattle.table.specs.At.{bytesOf, Inside}
+use Rattle.table.specs.contracts.At.{bytesOf, Inside}
 use Rattle.table.specs.declared.layout.Part.{Part}
 use Rattle.report.specs.Judge.{tableNumber}
 use Rattle.search.specs.declared.cursor.One as O
-use Rattle.search.specs.Left.{placed, nameOf}
+use Rattle.search.specs.contracts.Left.{placed, nameOf}
 use Rattle.index.specs.Index.{around}
 use Rattle.index.specs.Search as Index
 use Rattle.index.specs.Search.{later, offered, looked, walked, searched}
@@ -34,8 +34,8 @@ use Rattle.index.proofs.Loops.{Walking, walking-start, walking-found, walking-m
 use Rattle.seek.specs.declared.walk.Walk.{Walk}
 use Rattle.seek.specs.declared.walk.Step as S
 use Rattle.seek.specs.declared.look.Sought.{Sought}
-use Rattle.seek.specs.Walk.{Passed, There, Begins, StepIs, NumberedIs}
-use Rattle.seek.specs.Seek.{FoundIs, Finds, Answers}
+use Rattle.seek.specs.contracts.Walk.{Passed, There, Begins, StepIs, NumberedIs}
+use Rattle.seek.specs.contracts.Seek.{FoundIs, Finds, Answers}
 use Rattle.seek.proofs.Accepted.{accepted-few}
 
 module _ {s : List ℕ} {o : Index.Sought (Placed Accessible)} {n : ℕ} where

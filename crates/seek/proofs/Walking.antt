@@ -9,7 +9,7 @@ use Rattle.table.specs.Table as Table
 use Rattle.table.specs.Layout.{tableOf}
 use Rattle.table.specs.Rules.{accessibleName}
 use Rattle.table.specs.Search.{parametersOf, commandsOf, parameters, commands}
-use Rattle.table.specs.At.{bytesOf, Inside, parameterOf, commandOf}
+use Rattle.table.specs.contracts.At.{bytesOf, Inside, parameterOf, commandOf}
 use Rattle.table.specs.declared.layout.Part.{Part}
 use Rattle.table.specs.declared.layout.ParameterAt.{ParameterAt}
 use Rattle.table.specs.declared.layout.CommandAt.{CommandAt}
@@ -17,15 +17,15 @@ use Rattle.table.proofs.Accessibles.{in-some}
 use Rattle.search.specs.declared.cursor.Cursor.{Cursor}
 use Rattle.search.specs.declared.cursor.One as O
 use Rattle.search.specs.declared.cursor.NextAccessible as N
-use Rattle.search.specs.Left.{accessiblesLeft, leftFrom, accessiblesOf, nameOf, After, FirstIs, Goes, FirstCursor}
-use Rattle.search.specs.Left.{ParameterFirst, CommandFirst, OneFirst, NextAccessibleIs}
+use Rattle.search.specs.contracts.Left.{accessiblesLeft, leftFrom, accessiblesOf, nameOf, After, FirstIs, Goes, FirstCursor}
+use Rattle.search.specs.contracts.Left.{ParameterFirst, CommandFirst, OneFirst, NextAccessibleIs}
 use Rattle.search.proofs.Lefts.{way-left}
 use Rattle.search.proofs.Walks.{picks-parameters, picks-commands, picks-first, picks-past}
 use Rattle.search.proofs.Finds.{Counted, counted-end, counted-at, counted-left, drop-at, drop-past}
 use Rattle.index.specs.Accessibles.{accessibles}
 use Rattle.seek.specs.declared.walk.Walk.{Walk}
 use Rattle.seek.specs.declared.walk.Step as S
-use Rattle.seek.specs.Walk.{Passed, ParameterThere, CommandThere, OneThere, nextOf, There, Begins, Stepped, StepIs}
+use Rattle.seek.specs.contracts.Walk.{Passed, ParameterThere, CommandThere, OneThere, nextOf, There, Begins, Stepped, StepIs}
 use Rattle.seek.proofs.Lists.{none-later}
 
 -- ## The beginning

@@ -1,3 +1,2 @@
-pub mod Walk
-pub mod Seek
 pub mod Fill
+pub mod contracts

@@ -6,13 +6,14 @@ use describe::judge::table_number;
 use hash::start_place;
 use index::fill::clear;
 use index::fill::enter;
+use limits::INDEX;
 use search::cursor::name_of;
 use table::layout::Part;
 ghost use mathlib.Core.Path.{_≡_};
 ghost use lib.ListN.{length};
 ghost use Rattle.hash.specs.Hash.{startPlace};
 ghost use Rattle.table.specs.Layout.{tableOf};
-ghost use Rattle.table.specs.At.{bytesOf, Inside};
+ghost use Rattle.table.specs.contracts.At.{bytesOf, Inside};
 ghost use Rattle.report.specs.Judge.{tableNumber};
 ghost use Rattle.index.specs.Accessibles.{indexOf};
 ghost use Rattle.seek.specs.Fill.{Fills};
@@ -56,7 +57,7 @@ pub fn fill(table: &[u8], index: &mut [u8]) -> u8
     if n != 0 {
         return n;
     }
-    if index.len() < 128 {
+    if index.len() < INDEX {
         return 18;
     }
     fill_all(table, &mut index[..128]);

@@ -8,9 +8,9 @@ use search::locate::Located;
 ghost use mathlib.Core.Path.{_≡_};
 ghost use Rattle.table.specs.Layout.{tableOf};
 ghost use Rattle.report.specs.Judge.{tableNumber};
-ghost use Rattle.search.specs.Found.{Locates};
+ghost use Rattle.search.specs.contracts.Found.{Locates};
 ghost use Rattle.index.specs.Accessibles.{seekSteps};
-ghost use Rattle.seek.specs.Seek.{Some, locatedAs};
+ghost use Rattle.seek.specs.contracts.Seek.{Some, locatedAs};
 
 // What is located, and the steps of the search.
 pub struct Placed {

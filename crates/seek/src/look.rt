@@ -4,6 +4,8 @@ use crate::walk::advance;
 use crate::walk::begin;
 use crate::walk::numbered;
 use hash::start_place;
+use limits::FREE;
+use limits::INDEX;
 use search::cursor::name_of;
 use search::find::are_named;
 ghost use Prim.Native.Nat.{_<_};
@@ -15,7 +17,7 @@ ghost use Rattle.report.specs.Judge.{tableNumber};
 ghost use Rattle.index.specs.Index.{around};
 ghost use Rattle.index.specs.Search.{offered, looked, walked, searched};
 ghost use Rattle.index.specs.Accessibles.{accessibles, isNamed, sought};
-ghost use Rattle.seek.specs.Seek.{Finds, Answers};
+ghost use Rattle.seek.specs.contracts.Seek.{Finds, Answers};
 
 // What was found, with the walk after it, and how many index bytes and accessibles were looked at.
 pub struct Sought {
@@ -47,9 +49,9 @@ fn look(s: &[u8], index: &[u8], start: usize, module: &[u8], name: &[u8]) -> Sou
 {
     let mut n: usize = 0;
     let mut at = start;
-    while n < 128 {
+    while n < INDEX {
         let b = index[at];
-        if b == 255 {
+        if b == FREE {
             return Sought {
                 found: Step::End,
                 steps: n + 1,
@@ -62,7 +64,7 @@ fn look(s: &[u8], index: &[u8], start: usize, module: &[u8], name: &[u8]) -> Sou
             };
         }
         n += 1;
-        at = (at + 1) % 128;
+        at = (at + 1) % INDEX;
     }
     Sought {
         found: Step::End,
@@ -122,7 +124,7 @@ pub fn seek(s: &[u8], index: &[u8], module: &[u8], name: &[u8]) -> Sought
     requires { ⌜ tableNumber (now s) ≡ 0 ⌝ }
     ensures { λ r. ⌜ Answers (now (s .entry)) r (sought (tableOf (now (s .entry))) (now (index .entry)) (now («module» .entry)) (now (name .entry))) ⌝ }
 {
-    if index.len() < 128 {
+    if index.len() < INDEX {
         return walk(s, module, name);
     }
     search(s, &index[..128], module, name)

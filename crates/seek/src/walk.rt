@@ -6,7 +6,7 @@ use search::cursor::One;
 use search::cursor::first_cursor;
 use search::cursor::next_accessible;
 ghost use Rattle.table.specs.Layout.{Readable};
-ghost use Rattle.seek.specs.Walk.{Passed, Begins, StepIs, NumberedIs};
+ghost use Rattle.seek.specs.contracts.Walk.{Passed, Begins, StepIs, NumberedIs};
 
 pub struct Walk {
     pub cursor: Cursor,

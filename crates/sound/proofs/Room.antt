@@ -5,10 +5,10 @@ use mathlib.Core.Path.{_≡_, refl, sym, ap, _∙_}
 use native.Mathlib.Nat.{add-zero}
 use native.Mathlib.Omega.{arith}
 use lib.ListN.{length, length-append}
-use Rattle.ascii.specs.Writer.{Puts}
+use Rattle.ascii.specs.contracts.Writer.{Puts}
 use Rattle.ascii.proofs.Puts.{puts-length, puts-both}
 use Rattle.outbox.specs.Outbox.{Record, body, encode, encodeAll}
-use Rattle.outbox.specs.Written.{RoomFor}
+use Rattle.outbox.specs.contracts.Written.{RoomFor}
 
 -- the bytes of records one after another
 pub encode-append : (rs ss : List Record) → encodeAll (rs ++ ss) ≡ encodeAll rs ++ encodeAll ss

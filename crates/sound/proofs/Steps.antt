@@ -33,7 +33,7 @@ use Rattle.report.proofs.Faults.{no-fault, lowest-none}
 use Rattle.plain.specs.Node.{closed, Value, Node, withClient, withValue, Setting, Client, fresh, opened, isActive, below, activeCount, lineOf, receive, emptied, lineTaken, counting, reportOf, clientNumbers, updatesTo, holding, showing, withValues, withSettings}
 use Rattle.plain.specs.Answer.{shownValue, judgedAt, storedAt, busy, statusOf, busySettings, busyUpdates}
 use Rattle.plain.specs.Answer.{Outcome, refused, carried, argumentVerdict, argumentForm, activates, deactivates, sets, outcome, conclude, answerParts, answer}
-use Rattle.plain.specs.Calls.{Event, Open, Close, Piece, Reading, Unreadable, Call, readingVerdict, ownFaults, callNumber, beforeFeed, hasFeed, ended, Effect, pieceEffect, driverEffect, readingEffect, unreadableEffect, effect, settle, stepIf}
+use Rattle.plain.specs.Calls.{Event, Open, Close, Piece, Reading, Unreadable, Call, readingVerdict, ownFaults, callNumber, beforeFeed, hasFeed, ended, Effect, pieceEffect, driverEffect, readingEffect, unreadableEffect, effect, settle, settling, stepIf}
 use Rattle.plain.specs.History.{step}
 use Rattle.plain.proofs.Numbers.{accepted-call}
 use Rattle.plain.proofs.Outcomes.{Tells, by-identify, by-describe, by-ping, by-read, by-count, LetIn, Allowed, doneOf, ordering, outcome-holds}
@@ -328,6 +328,6 @@ module _ (table : List ℕ) (a : Accepted (tableOf table)) where
         f : Effect
         f = effect w n (e .event)
 
-        go : (k : ℕ) → (k ≡ 0 → Kept w (f .next) (f .records)) → Kept w (settle k n f .0) (settle k n f .1 .records)
+        go : (k : ℕ) → (k ≡ 0 → Kept w (f .next) (f .records)) → let s = settling table n e k in Kept w (s .0) (s .1 .records)
         go zero f = f refl
         go (suc k) f = quiet w a n s

@@ -68,7 +68,7 @@ abbrev pub AlwaysSound : Type 0
 AlwaysSound = (table : List ℕ) (area time : ℕ) → startNumber table area time ≡ 0 → (h : List Call)
     → Sound (tableOf table) (finish table (begin (tableOf table) time) h)
 
--- No accepted call writes more than 32,019 bytes.
+-- No accepted call writes more than 32,019 bytes. [C-14]
 abbrev pub AllShort : List Answer → Type 0
 AllShort [] = Unit {0}
 AllShort (a ∷ l) = (length (encodeAll (a .records)) ≤ 32019) × AllShort l

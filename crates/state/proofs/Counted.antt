@@ -15,7 +15,7 @@ use Rattle.counter.specs.declared.Counts.{Counts}
 use Rattle.counter.specs.Counts.{highest, noCounts, stopping, linesCounted, allCounted}
 use Rattle.outbox.specs.Outbox.{Record}
 use Rattle.outbox.specs.Sent.{errorsSent, updatesSent}
-use Rattle.outbox.specs.Tallied.{Holds}
+use Rattle.outbox.specs.contracts.Tallied.{Holds}
 use Rattle.plain.specs.Node.{Node, put, withCount, withCounts, counting}
 use Rattle.plain.proofs.Counts.{counted-twice, line-counted, NoneTo}
 use Rattle.state.specs.declared.State.{State}
@@ -24,7 +24,7 @@ use Rattle.state.specs.View.{countsAt, view, nextCounts}
 use Rattle.state.specs.Fit.{isUnfit}
 use Rattle.table.specs.Table.{Table}
 use Rattle.state.specs.declared.Settings.{Settings}
-use Rattle.state.specs.Counted.{countsCleared, lineCounted, withSent, sentCounted, LineCounted, SentCounted}
+use Rattle.state.specs.contracts.Counted.{countsCleared, lineCounted, withSent, sentCounted, LineCounted, SentCounted}
 
 sent-length : (xs : List Counts) (rs : List Record) (k : ℕ) → length (sentCounted xs rs k) ≡ length xs
 unfolding sentCounted

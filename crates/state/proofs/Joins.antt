@@ -9,12 +9,12 @@ use lib.ListN.{length, getD, set, drop, length-drop}
 use lib.Seq.{sets, length-take-le}
 use borrow.Author.Tests.{ltb-true, ltb-false, lt-ltb, le-ltb}
 use Rattle.ascii.specs.Bytes.{any}
-use Rattle.ascii.specs.Writer.{Puts}
+use Rattle.ascii.specs.contracts.Writer.{Puts}
 use Rattle.message.specs.Line.{Line, whole, overlong}
 use Rattle.plain.specs.Node.{closed, connected, receive}
 use Rattle.state.specs.declared.Clients.{Clients}
 use Rattle.state.specs.View.{isSet, bit, lineBytes, lineAt, clientAt}
-use Rattle.state.specs.Changed.{withOverlong, withBytes, withJoined}
+use Rattle.state.specs.contracts.Changed.{withOverlong, withBytes, withJoined}
 use Rattle.state.proofs.Becomes.{Becomes, Joinable, Sized, LinesFit}
 use Rattle.state.proofs.Areas.{other-line, written}
 use Rattle.state.proofs.Received.{receive-closed, receive-overlong, receive-whole, receive-over, any-append}

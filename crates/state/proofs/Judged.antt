@@ -96,7 +96,8 @@ module _ (m : ℕ) (s : Clients) (c : ℕ) where
   unfolding clientUnfit
   unfit-long h = rw (lt-ltb 1024 (getD (s .length) c 0) h)
 
-  module _ (h : getD (s .length) c 0 ≤ 1024) (feed : Bool) (is : feed ≡ any (λ b. eqb b 10) (take ((1024 * c + getD (s .length) c 0) - 1024 * c) (drop (1024 * c) (s .lines)))) where
+  module _ (h : getD (s .length) c 0 ≤ 1024) (ls : List ℕ) (l : ls ≡ s .lines) (feed : Bool)
+      (is : feed ≡ any (λ b. eqb b 10) (take ((1024 * c + getD (s .length) c 0) - 1024 * c) (drop (1024 * c) ls))) where
     short : ltb 1024 (getD (s .length) c 0) ≡ false
     short = le-ltb 1024 (getD (s .length) c 0) h
 
@@ -104,7 +105,7 @@ module _ (m : ℕ) (s : Clients) (c : ℕ) where
     unfolding lineBytes
     line e =
         let n : (1024 * c + getD (s .length) c 0) - 1024 * c ≡ getD (s .length) c 0 = omega arith in
-        ap (λ (k : ℕ). any (λ b. eqb b 10) (take k (drop (1024 * c) (s .lines)))) (sym n) ∙ sym is ∙ e
+        ap (λ (k : ℕ). any (λ b. eqb b 10) (take k (drop (1024 * c) (s .lines)))) (sym n) ∙ sym (rw l at is) ∙ e
 
     pub unfit-feed : feed ≡ true → true ≡ clientUnfit m s c
     unfolding clientUnfit

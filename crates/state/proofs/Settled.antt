@@ -18,7 +18,7 @@ use Rattle.fit.specs.Fit.{isStored}
 use Rattle.table.specs.Table.{Parameter}
 use Rattle.table.specs.Search.{Placed}
 use Rattle.table.specs.declared.layout.Part.{Part}
-use Rattle.table.specs.At.{bytesOf}
+use Rattle.table.specs.contracts.At.{bytesOf}
 use Rattle.table.proofs.Accessibles.{in-some}
 use Rattle.message.specs.Error.{Fault, HardwareError, CommunicationFailed, ReadFailed, OutOfRange, faultNumber, faultOf}
 use Rattle.message.specs.Reply.{failed, heldAs}

@@ -16,7 +16,7 @@ use Rattle.state.specs.declared.State.{State}
 use Rattle.state.specs.View.{isSet, lineBytes, storedText}
 
 -- "a stored length is over 256 ..": that, or a value is stored (its length is not 0) and is no stored form that fits, or the time is above the
--- limit; "State is also unfit if an error's class is not 1 to 4", where 0 is no error
+-- limit; "State is also unfit if an error's class is not 1 to 4", where 0 is no error [C-17]
 unfoldable pub settingUnfit : Settings → List ℕ → ℕ → Parameter → Bool
 settingUnfit s values p x =
     ltb 256 (getD (s .length) p 0)
@@ -24,7 +24,7 @@ settingUnfit s values p x =
     || ltb latest (getD (s .time) p 0)
     || ltb 4 (getD (s .error) p 0)
 
--- of these parameters, of which the first has the number p. "Places past the last parameter are not looked at."
+-- of these parameters, of which the first has the number p. "Places past the last parameter are not looked at." [C-19]
 unfoldable pub settingsUnfit : Settings → List ℕ → ℕ → List (Placed Parameter) → Bool
 settingsUnfit s values p [] = false
 settingsUnfit s values p (x ∷ xs) = settingUnfit s values p (x .it) || settingsUnfit s values (suc p) xs
@@ -43,6 +43,7 @@ clientUnfit modules s c =
     || pastLast (getD (s .active) c 0) modules
     || (not (isSet (s .open) c) && (isSet (s .length) c || isSet (s .overlong) c || isSet (s .active) c))
 
+-- [C-17, C-18]
 unfoldable pub isUnfit : Table → State → List ℕ → Bool
 isUnfit w s values =
     settingsUnfit (s .settings) values 0 (parameters w)

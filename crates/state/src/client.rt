@@ -3,6 +3,8 @@ use crate::Clients;
 use crate::bits::has_bit;
 use crate::bits::is_past;
 use ascii::write::put;
+use limits::CLIENTS;
+use limits::LINE;
 ghost use mathlib.Core.Path.{_≡_};
 ghost use mathlib.Core.Bool.{not, _&&_, _||_};
 ghost use Prim.Native.Nat.{_<_, _≤_};
@@ -12,7 +14,7 @@ ghost use Rattle.ascii.specs.Bytes.{any};
 ghost use Rattle.plain.specs.Node.{isActive, clientNumbers};
 ghost use Rattle.state.specs.View.{isSet, clientAt};
 ghost use Rattle.state.specs.Fit.{clientUnfit};
-ghost use Rattle.state.specs.Changed.{withOpened, withClosed, withEnded, withActive, withJoined};
+ghost use Rattle.state.specs.contracts.Changed.{withOpened, withClosed, withEnded, withActive, withJoined};
 
 // "Open begins with an empty line and nothing active".
 pub fn opened(s: Clients, c: usize) -> Clients
@@ -115,7 +117,7 @@ pub fn joined(s: Clients, c: usize, bytes: &[u8]) -> Clients
     let active = s.active;
     let mut lines = s.lines;
     let size = length[c] as usize;
-    if 1024 - size < bytes.len() {
+    if LINE - size < bytes.len() {
         overlong[c] = 1;
         length[c] = 0;
         return Clients {
@@ -126,7 +128,7 @@ pub fn joined(s: Clients, c: usize, bytes: &[u8]) -> Clients
             lines,
         };
     }
-    put(&mut lines, 1024 * c + size, bytes);
+    put(&mut lines, LINE * c + size, bytes);
     length[c] = (size + bytes.len()) as u16;
     Clients {
         open,
@@ -205,18 +207,18 @@ fn keeps_closed(s: Clients, c: usize) -> bool
     active[c] != 0
 }
 
-// The faults of one client in the order of document 01. A line over 1,024 bytes is not looked at: it may reach past the lines.
-fn client_unfit(s: Clients, modules: usize, c: usize) -> bool
-    requires { ⌜ (c < 8) × (modules ≤ 16) ⌝ }
+// The faults of one client in the order of document 01. A line over 1,024 bytes is not looked at: it may reach past the lines. The lines are lent
+// too, so that they are not copied for each client.
+fn client_unfit(s: Clients, lines: &[u8], modules: usize, c: usize) -> bool
+    requires { ⌜ (c < 8) × ((modules ≤ 16) × (now lines ≡ s .lines)) ⌝ }
     ensures { λ r. ⌜ r ≡ clientUnfit modules s c ⌝ }
 {
     let lengths = s.length;
     let length = lengths[c] as usize;
-    if 1024 < length {
+    if LINE < length {
         return true;
     }
-    let lines = s.lines;
-    let from = 1024 * c;
+    let from = LINE * c;
     let to = from + length;
     if has_feed(&lines[from..to]) {
         return true;
@@ -236,9 +238,10 @@ pub fn clients_unfit(s: Clients, modules: usize) -> bool
     requires { ⌜ modules ≤ 16 ⌝ }
     ensures { λ r. ⌜ r ≡ any (clientUnfit modules s) clientNumbers ⌝ }
 {
+    let lines = s.lines;
     let mut c = 0;
-    while c < 8 {
-        if client_unfit(s, modules, c) {
+    while c < CLIENTS {
+        if client_unfit(s, &lines, modules, c) {
             return true;
         }
         c += 1;

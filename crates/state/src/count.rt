@@ -2,15 +2,16 @@
 use crate::State;
 use counter::Counts;
 use counter::counted;
+use limits::CLIENTS;
 use outbox::tally::sent_to;
 ghost use mathlib.Core.Path.{_≡_};
 ghost use mathlib.Core.List.{List};
 ghost use Prim.Native.Nat.{_<_, _≤_};
 ghost use Rattle.counter.specs.Counts.{allCounted};
 ghost use Rattle.outbox.specs.Outbox.{Record};
-ghost use Rattle.outbox.specs.Tallied.{Holds};
+ghost use Rattle.outbox.specs.contracts.Tallied.{Holds};
 ghost use Rattle.state.specs.View.{countsAt};
-ghost use Rattle.state.specs.Counted.{withSent, Cleared, LineCounted, SentCounted};
+ghost use Rattle.state.specs.contracts.Counted.{withSent, Cleared, LineCounted, SentCounted};
 
 // "open set them to 0": client c's.
 pub fn cleared(s: State, c: usize) -> State
@@ -67,7 +68,7 @@ pub fn sent_counted(s: State, out: &[u8], written: usize) -> State
     let settings = s.settings;
     let mut counts = s.counts;
     let mut c = 0;
-    while c < 8 {
+    while c < CLIENTS {
         let one = counts[c];
         counts[c] = with_sent(one, out, written, c as u8);
         c += 1;

@@ -1,14 +1,15 @@
 // The stored value of a parameter, and the error in its place. Each parameter has 256 bytes of the values area, in order.
 use crate::Settings;
+use limits::PLACE;
 use message::say::Sensor;
 use message::say::sensor_of;
 use table::layout::Part;
 ghost use mathlib.Core.Path.{_≡_};
 ghost use Prim.Native.Nat.{_<_, _≤_};
 ghost use lib.ListN.{length, getD};
-ghost use Rattle.table.specs.At.{Inside};
+ghost use Rattle.table.specs.contracts.At.{Inside};
 ghost use Rattle.message.specs.Error.{faultOf};
-ghost use Rattle.message.specs.Said.{sensorFault};
+ghost use Rattle.message.specs.contracts.Said.{sensorFault};
 ghost use Rattle.state.specs.View.{shownBytes, withLength, withError};
 
 // Parameter k has a stored value of so many bytes, and no error, from this time on.
@@ -62,7 +63,7 @@ pub fn shown<'a>(
         let to = initial.to;
         return &table[from..to];
     }
-    let first = 256 * k;
+    let first = PLACE * k;
     let last = first + size;
     &values[first..last]
 }

@@ -7,18 +7,18 @@ use mathlib.Core.List.{List, [], _∷_, _++_, append-assoc, append-nil}
 use mathlib.Core.Option.{some}
 use mathlib.Core.Path.{_≡_, refl, sym, ap, ap₂, _∙_}
 use lib.ListN.{length, drop, getElem?, length-append}
-use Rattle.ascii.specs.Writer.{Puts}
-use Rattle.emit.specs.Emitted.{Emits}
+use Rattle.ascii.specs.contracts.Writer.{Puts}
+use Rattle.emit.specs.contracts.Emitted.{Emits}
 use Rattle.emit.proofs.Pieces.{both, nothing}
 use Rattle.table.specs.Table.{Parameter}
 use Rattle.table.specs.Layout.{tableOf}
 use Rattle.table.specs.Search.{Placed, parametersOf, parameters}
-use Rattle.table.specs.At.{bytesOf, parameterOf}
+use Rattle.table.specs.contracts.At.{bytesOf, parameterOf}
 use Rattle.table.specs.declared.layout.ParameterAt.{ParameterAt}
 use Rattle.search.specs.declared.cursor.Cursor.{Cursor}
 use Rattle.search.specs.declared.cursor.NextParameter as P
-use Rattle.search.specs.Left.{placed, OnWay, FirstCursor, NextParameterIs, ParameterIn}
-use Rattle.search.specs.Found.{ParameterNumbered}
+use Rattle.search.specs.contracts.Left.{placed, OnWay, FirstCursor, NextParameterIs, ParameterIn}
+use Rattle.search.specs.contracts.Found.{ParameterNumbered}
 use Rattle.search.proofs.Finds.{Counted, counted-parameters, number-end, number-is, number-on}
 use Rattle.report.specs.Judge.{tableNumber}
 use Rattle.sound.proofs.Lists.{Each}
@@ -28,11 +28,11 @@ use Rattle.fitness.proofs.Whole.{drop-there, past-64}
 use Rattle.figures.specs.declared.Tally.{Tally}
 use Rattle.figures.specs.declared.Figures.{Figures}
 use Rattle.figures.specs.Figures.{isSummed, figureLine}
-use Rattle.figures.specs.Tally.{tallyAt, tallyLine, Bounded, Tallies, TellsSummed}
+use Rattle.figures.specs.contracts.Tally.{tallyAt, tallyLine, Bounded, Tallies, TellsSummed}
 use Rattle.figures.proofs.Tallying.{figures-are-exact}
 use Rattle.figures.proofs.Telling.{line-short}
 use Rattle.summary.specs.Summary.{figureLines}
-use Rattle.summary.specs.Figured.{tallyLines, figuresOf, Placing, Tells, Tellable}
+use Rattle.summary.specs.contracts.Figured.{tallyLines, figuresOf, Placing, Tells, Tellable}
 
 -- one line, by what the code has for the names and for whether there is more than a count
 pub tells : (table : List ℕ) (f : Figures) (k : ℕ) (q : ParameterAt) (e : Cursor) (d g : List ℕ) (at r : ℕ) (m a : List ℕ) (s : Bool) (t : Tally)

@@ -10,19 +10,19 @@ use mathlib.Core.Path.{_≡_, refl, sym, ap, subst, _∙_}
 use lib.Dec.{eqb}
 use lib.ListN.{length, getD, drop, getElem?, length-append}
 use Rattle.ascii.specs.Text.{bytes}
-use Rattle.ascii.specs.Writer.{Puts}
+use Rattle.ascii.specs.contracts.Writer.{Puts}
 use Rattle.message.specs.Error.{Fault, HardwareError, CommunicationFailed, ReadFailed, OutOfRange, faultName, faultOf}
 use Rattle.message.specs.Reply.{Held, valued, failed, heldAs}
 use Rattle.table.specs.Table.{Parameter}
 use Rattle.table.specs.Layout.{tableOf}
 use Rattle.table.specs.Search.{Placed, parametersOf, parameters}
-use Rattle.table.specs.At.{bytesOf, parameterOf}
+use Rattle.table.specs.contracts.At.{bytesOf, parameterOf}
 use Rattle.table.specs.declared.layout.ParameterAt.{ParameterAt}
 use Rattle.table.proofs.Places.{initial-lies}
 use Rattle.search.specs.declared.cursor.Cursor.{Cursor}
 use Rattle.search.specs.declared.cursor.NextParameter as P
-use Rattle.search.specs.Left.{placed, OnWay, FirstCursor, NextParameterIs}
-use Rattle.search.specs.Found.{ParameterNumbered}
+use Rattle.search.specs.contracts.Left.{placed, OnWay, FirstCursor, NextParameterIs}
+use Rattle.search.specs.contracts.Found.{ParameterNumbered}
 use Rattle.search.proofs.Finds.{Counted, counted-parameters, number-end, number-is, number-on}
 use Rattle.report.specs.Judge.{tableNumber}
 use Rattle.plain.specs.Node as Node
@@ -40,8 +40,8 @@ use Rattle.state.proofs.Settled.{each-fit, fit-parts}
 use Rattle.state.proofs.Stands.{was-read, value-held}
 use Rattle.fitness.proofs.Whole.{drop-there, past-64}
 use Rattle.summary.specs.Summary.{heldText, valueLine, valueLines}
-use Rattle.summary.specs.Lines.{lineAt, Writable}
-use Rattle.summary.specs.Tells.{Told}
+use Rattle.summary.specs.contracts.Lines.{lineAt, Writable}
+use Rattle.summary.specs.contracts.Tells.{Told}
 use Rattle.summary.proofs.Texts.{line-length, Going, going-start, going-room, going-on, going-end, going-length}
 
 -- ## One parameter

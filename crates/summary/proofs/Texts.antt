@@ -11,19 +11,19 @@ use lib.ListN.{length, take, length-append}
 use borrow.Author.Tests.{eq-eqb, ne-eqb, eqb-true, eqb-false}
 use Rattle.ascii.specs.Text.{bytes}
 use Rattle.ascii.specs.Numbers.{decimal}
-use Rattle.ascii.specs.Writer.{Puts}
+use Rattle.ascii.specs.contracts.Writer.{Puts}
 use Rattle.ascii.proofs.Decimal.{decimal-short, decimal-low}
 use Rattle.ascii.proofs.Puts.{puts-length, puts-both}
 use Rattle.message.specs.declared.say.Fault.{Fault}
 use Rattle.message.specs.declared.say.Sensor.{Sensor}
 use Rattle.message.specs.declared.say.Sensor.the-variants.{Works, Fails}
 use Rattle.message.specs.Error.{faultName}
-use Rattle.message.specs.Said.{faultAs, heldBy}
+use Rattle.message.specs.contracts.Said.{faultAs, heldBy}
 use Rattle.trace.specs.declared.Reader.{Reader}
 use Rattle.trace.specs.Reader.{endOf}
-use Rattle.trace.specs.Takes.{progressOf}
+use Rattle.trace.specs.contracts.Takes.{progressOf}
 use Rattle.summary.specs.Summary.{heldText, valueLine, refusedLine, refusedLines, endLine, startLine}
-use Rattle.summary.specs.Lines.{offsetText}
+use Rattle.summary.specs.contracts.Lines.{offsetText}
 
 -- ## A parameter's line
 

@@ -3,6 +3,7 @@ use figures::Figures;
 use figures::emit_line;
 use figures::is_summed;
 use figures::tally_at;
+use limits::ACCESSIBLES;
 use search::cursor::Cursor;
 use search::cursor::NextParameter;
 use search::cursor::first_cursor;
@@ -10,8 +11,8 @@ use search::cursor::next_parameter;
 use table::layout::ParameterAt;
 use update::bytes_of;
 ghost use Prim.Native.Nat.{_≤_};
-ghost use Rattle.ascii.specs.Writer.{Puts};
-ghost use Rattle.summary.specs.Figured.{Placing, Tells, Tellable, figuresOf};
+ghost use Rattle.ascii.specs.contracts.Writer.{Puts};
+ghost use Rattle.summary.specs.contracts.Figured.{Placing, Tells, Tellable, figuresOf};
 
 // The line of parameter k.
 fn emit_figure(
@@ -44,7 +45,7 @@ pub fn put_figures(table: &[u8], out: &mut [u8], figures: Figures) -> usize
     let mut end = 0;
     let mut k = 0;
     let mut cursor = first_cursor(table);
-    while k < 64 {
+    while k < ACCESSIBLES {
         let NextParameter::At(p, next) = next_parameter(table, cursor) else {
             return end;
         };

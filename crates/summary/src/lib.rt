@@ -4,6 +4,7 @@ pub mod figured;
 use ascii::write::put;
 use ascii::write::put_byte;
 use ascii::write::put_decimal;
+use limits::ACCESSIBLES;
 use message::say::Fault;
 use message::say::Sensor;
 use replay::Replay;
@@ -22,15 +23,15 @@ ghost use Prim.Native.Nat.{_+_, _-_, _≤_, _<_};
 ghost use mathlib.Core.Bool.{true};
 ghost use mathlib.Core.Path.{_≡_};
 ghost use lib.ListN.{length, getD};
-ghost use Rattle.ascii.specs.Writer.{Puts};
+ghost use Rattle.ascii.specs.contracts.Writer.{Puts};
 ghost use Rattle.message.specs.Error.{faultName};
-ghost use Rattle.message.specs.Said.{faultAs, heldBy};
+ghost use Rattle.message.specs.contracts.Said.{faultAs, heldBy};
 ghost use Rattle.trace.specs.Reader.{endOf};
-ghost use Rattle.trace.specs.Takes.{progressOf};
+ghost use Rattle.trace.specs.contracts.Takes.{progressOf};
 ghost use Rattle.summary.specs.Summary.{heldText, refusedLine, refusedLines, endLine, startLine};
-ghost use Rattle.summary.specs.Lines.{heldLine, lineAt, Writable, offsetText};
+ghost use Rattle.summary.specs.contracts.Lines.{heldLine, lineAt, Writable, offsetText};
 ghost use Rattle.summary.specs.Theorems.{TextIsTheReplays};
-ghost use Rattle.summary.specs.Tells.{Told, countAt, linesOf, toldOf};
+ghost use Rattle.summary.specs.contracts.Tells.{Told, countAt, linesOf, toldOf};
 
 fn put_fault_name(out: &mut [u8], at: usize, fault: Fault) -> usize
     requires { ⌜ at + length (faultName (faultAs fault)) ≤ length (now out) ⌝ }
@@ -108,7 +109,7 @@ fn put_values<'a>(table: &'a [u8], values: &'a [u8], out: &mut [u8], state: Stat
     let mut end = 0;
     let mut k = 0;
     let mut cursor = first_cursor(table);
-    while k < 64 {
+    while k < ACCESSIBLES {
         let NextParameter::At(p, next) = next_parameter(table, cursor) else {
             return end;
         };

@@ -8,7 +8,7 @@ use mathlib.Core.Option.{Option, none, some}
 use lib.Dec.{eqb, ltb}
 use lib.ListN.{length, getD}
 use borrow.Author.Tests.{eqb-true, lt-ltb, le-ltb}
-use Rattle.ascii.specs.Writer.{Puts}
+use Rattle.ascii.specs.contracts.Writer.{Puts}
 use Rattle.table.specs.Table.{Table}
 use Rattle.table.specs.Layout.{tableOf}
 use Rattle.table.specs.Search.{parameters}
@@ -16,7 +16,7 @@ use Rattle.report.specs.Judge.{tableNumber}
 use Rattle.message.specs.Request.{activate, deactivate}
 use Rattle.message.specs.Reply.{Reply, active, inactive}
 use Rattle.outbox.specs.Outbox.{Record, final, encode, encodeAll}
-use Rattle.outbox.specs.Written.{RoomFor}
+use Rattle.outbox.specs.contracts.Written.{RoomFor}
 use Rattle.outbox.specs.Theorems.{Named}
 use Rattle.plain.specs.Node.{Client, closed, connected, Node, withClient, isActive, activated, updatesOf}
 use Rattle.plain.specs.Answer.{carried, activates, deactivates, inScope, outcome}
@@ -29,11 +29,11 @@ use Rattle.state.specs.declared.State.{State}
 use Rattle.state.specs.View.{isSet, bit, clientAt, view}
 use Rattle.state.specs.Fit.{pastLast}
 use Rattle.state.proofs.Becomes.{Sized}
-use Rattle.switch.specs.Scoped.{Scoped}
+use Rattle.switch.specs.contracts.Scoped.{Scoped}
 use Rattle.state.proofs.Masks.{no-bit, past-last, not-past}
 use Rattle.state.proofs.Stands.{fit-is-sound}
-use Rattle.outcome.specs.Outcome.{Activates}
-use Rattle.outcome.specs.Ready.{Ready}
+use Rattle.outcome.specs.contracts.Outcome.{Activates}
+use Rattle.outcome.specs.contracts.Ready.{Ready}
 
 -- an accepted table has at most 16 modules
 pub few : (table : List ℕ) → tableNumber table ≡ 0 → (i : ℕ) (m : List ℕ) → Scoped (length (tableOf table .modules)) i m → i < 16

@@ -1,1 +1,1 @@
-pub mod Scoped
+pub mod contracts

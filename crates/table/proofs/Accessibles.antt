@@ -11,7 +11,7 @@ use Rattle.ascii.specs.declared.Next.the-variants.{At, Bad}
 use Rattle.ascii.specs.Text.{bytes}
 use Rattle.ascii.specs.Bytes.{_>>=_, after, part}
 use Rattle.ascii.specs.Numbers.{unsigned}
-use Rattle.ascii.specs.Reader.{Ends, rest}
+use Rattle.ascii.specs.contracts.Reader.{Ends, rest}
 use Rattle.ascii.proofs.Follows.{rest-map}
 use Rattle.datainfo.specs.Layout.{counted, datainfoIn, datainfoAt}
 use Rattle.table.specs.Table as Table
@@ -23,7 +23,7 @@ use Rattle.table.specs.declared.layout.Flag as F
 use Rattle.table.specs.declared.layout.ParameterAt.{ParameterAt}
 use Rattle.table.specs.declared.layout.CommandAt.{CommandAt}
 use Rattle.table.specs.declared.layout.Accessible as A
-use Rattle.table.specs.At.{Sized, textsAt, TextsAt, FlagIs, accessibleBegins, accessibleAt, parameterOf, ParameterIs, commandOf, CommandIs, AccessibleIs}
+use Rattle.table.specs.contracts.At.{Sized, textsAt, TextsAt, FlagIs, accessibleBegins, accessibleAt, parameterOf, ParameterIs, commandOf, CommandIs, AccessibleIs}
 
 -- ## Readers that go on after a record's beginning
 

@@ -14,7 +14,7 @@ use Rattle.ascii.specs.Bytes.{isSome, same, after}
 use Rattle.ascii.specs.Names.{isText}
 use Rattle.table.specs.Layout.{begins, Readable, tableOf}
 use Rattle.table.specs.Rules.{editionGood}
-use Rattle.table.specs.At.{bytesOf, Inside, textIf, HeadRead, Given}
+use Rattle.table.specs.contracts.At.{bytesOf, Inside, textIf, HeadRead, Given}
 use Rattle.table.specs.declared.layout.Part.{Part}
 use Rattle.table.specs.declared.layout.HeadAt.{HeadAt}
 use Rattle.table.specs.declared.layout.Head as Head

@@ -10,10 +10,10 @@ use lib.ListN.{length, drop, length-drop}
 use lib.Dec.{eqb}
 use Rattle.ascii.specs.Text.{bytes}
 use Rattle.ascii.specs.Bytes.{_>>=_, after}
-use Rattle.ascii.specs.Reader.{rest}
+use Rattle.ascii.specs.contracts.Reader.{rest}
 use Rattle.ascii.proofs.Follows.{then-same}
 use Rattle.table.specs.Layout.{begins, parameterAt, commandAt, accessiblesAt, moduleAt, modulesAt}
-use Rattle.table.specs.At.{textsAt, accessibleBegins, accessibleAt, accessiblesFrom, headingAt, modulesFrom}
+use Rattle.table.specs.contracts.At.{textsAt, accessibleBegins, accessibleAt, accessiblesFrom, headingAt, modulesFrom}
 use Rattle.table.proofs.Leaves.{Within, failed, left, Rest, Ending, w-cond, w-then, r-then, r-cond, r-after, w-counted, w-flag, w-datainfo, w-unsigned, w-part, w-argument, w-marked}
 
 -- at most n bytes

@@ -18,8 +18,8 @@ use Rattle.table.specs.declared.layout.Heading as H
 use Rattle.table.specs.declared.judge.Test.{Test}
 use Rattle.table.specs.declared.judge.Test.the-variants.{Names, Rules, Initials}
 use Rattle.table.specs.declared.judge.Kind.the-variants.{Accessibles}
-use Rattle.table.specs.At.{bytesOf, Inside, accessiblesFrom, headingAt, moduleOf, HeadingIs}
-use Rattle.table.specs.Judged.{passed, passes, modulePasses, namesFrom, headPasses}
+use Rattle.table.specs.contracts.At.{bytesOf, Inside, accessiblesFrom, headingAt, moduleOf, HeadingIs}
+use Rattle.table.specs.contracts.Judged.{passed, passes, modulePasses, namesFrom, headPasses}
 use Rattle.table.proofs.Modules.{withThem, module-as, module-is}
 
 module _ (s : List ℕ) (noted : Bool) (note : Part) where

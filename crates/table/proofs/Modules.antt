@@ -12,7 +12,7 @@ use Rattle.ascii.specs.declared.Next.{Next}
 use Rattle.ascii.specs.declared.Next.the-variants.{At, Bad}
 use Rattle.ascii.specs.Text.{bytes}
 use Rattle.ascii.specs.Bytes.{_>>=_, isSome, after}
-use Rattle.ascii.specs.Reader.{Ends, rest}
+use Rattle.ascii.specs.contracts.Reader.{Ends, rest}
 use Rattle.ascii.proofs.Follows.{rest-map}
 use Rattle.table.specs.Table as Table
 use Rattle.table.specs.Layout.{begins, accessiblesAt, markedAt, noteAt, editionAt, moduleAt, modulesAt, headAt, wholeTable, readTable}
@@ -24,7 +24,7 @@ use Rattle.table.specs.declared.layout.ModuleAt.{ModuleAt}
 use Rattle.table.specs.declared.layout.Heading as H
 use Rattle.table.specs.declared.layout.HeadAt.{HeadAt}
 use Rattle.table.specs.declared.layout.Head as Head
-use Rattle.table.specs.At.{bytesOf, Inside, Sized, textsAt, TextsAt, accessibleBegins, accessibleAt, accessiblesFrom, MarkedRead, MarkedIs, textIf, headingAt, moduleOf, ModuleIs, HeadingIs, modulesFrom, headOf, HeadIs, HeadRead}
+use Rattle.table.specs.contracts.At.{bytesOf, Inside, Sized, textsAt, TextsAt, accessibleBegins, accessibleAt, accessiblesFrom, MarkedRead, MarkedIs, textIf, headingAt, moduleOf, ModuleIs, HeadingIs, modulesFrom, headOf, HeadIs, HeadRead}
 use Rattle.table.proofs.Records.{text-bad, text-is, text-inside}
 use Rattle.table.proofs.Accessibles.{goesOn, texts-then, rest-none, Got, got}
 use Rattle.table.proofs.Enough.{before, accessibles-stop, accessibles-more, accessible-less, modules-stop, modules-more, module-less}
@@ -32,18 +32,22 @@ use Rattle.table.proofs.Enough.{before, accessibles-stop, accessibles-m
 -- ## A text after a mark
 
 module _ (s mark : List ℕ) (at : ℕ) (n : Next) (hn : Ends s n (after mark (drop at s))) where
-  pub marked-absent : n ≡ Bad → markedAt mark (drop at s) ≡ some (none, drop at s)
+  pub marked-absent : at ≤ length s → n ≡ Bad → MarkedRead s mark at false (record { from = at; to = at })
   unfolding markedAt begins
-  marked-absent e = simp (rw e at hn)
+  marked-absent h e = record { is = simp (rw e at hn); inside = record { order = omega arith; within = h }; none = λ z. refl }
 
   module _ (a : ℕ) (en : n ≡ At a) (r : B.Bytes) (h : Sized s a 1 r) where
     pub marked-bad : r ≡ B.the-variants.Bad → markedAt mark (drop at s) ≡ none
     unfolding markedAt begins
     marked-bad e = simp ((rw en at hn) .0, text-bad s a r h e)
 
-    pub marked-good : (p : Part) → r ≡ B.the-variants.At p → MarkedRead s mark at p
+    pub marked-good : (p : Part) → r ≡ B.the-variants.At p → MarkedRead s mark at true p
     unfolding markedAt begins
-    marked-good p e = record { is = simp ((rw en at hn) .0, text-is s a r h p e); inside = text-inside s a r h p e }
+    marked-good p e = record {
+      is = simp ((rw en at hn) .0, text-is s a r h p e);
+      inside = text-inside s a r h p e;
+      none = λ z. absurd (false≢true (sym z));
+    }
 
 -- ## The beginning of a module
 
@@ -53,35 +57,22 @@ module _ (s : List ℕ) (at : ℕ) (t : T.Texts) (ht : TextsAt s t (textsAt (77 
   heading-untold e = simp (rw e at ht)
 
   module _ (p q : Part) (et : t ≡ T.the-variants.At p q) (n : N.Marked) (hn : MarkedIs s (78 ∷ 79 ∷ []) (q .to) n) where
-    pub heading-noted : (x : Part) → n ≡ N.the-variants.At x → ModuleIs s (record { name = p; description = q; noted = true; note = x; next = x .to }) (headingAt (drop at s))
+    pub heading-read : (b : Bool) (x : Part) → n ≡ N.the-variants.Read b x
+        → ModuleIs s (record { name = p; description = q; noted = b; note = x; next = x .to }) (headingAt (drop at s))
     unfolding headingAt bytes moduleOf
-    heading-noted x e =
+    heading-read b x e =
+        let y = rw et at ht in
+        let g = rw e at hn in
         record {
-          is = simp ((rw et at ht) .is, (rw e at hn) .is);
-          name = (rw et at ht) .name;
-          description = (rw et at ht) .description;
-          note = (rw e at hn) .inside;
-          nextWithin = (rw e at hn) .inside .within;
-          between = (rw et at ht) .between;
-          noteRead = (rw e at hn) .is;
+          is = simp (y .is, g .is);
+          name = y .name;
+          description = y .description;
+          note = g .inside;
+          nextWithin = g .inside .within;
+          between = y .between;
+          noteRead = g .is;
           noteEnd = refl;
-          noteless = λ z. absurd (false≢true (sym z));
-        }
-
-    pub heading-plain : n ≡ N.the-variants.Nothing → ModuleIs s (record { name = p; description = q; noted = false; note = record { from = q .to; to = q .to }; next = q .to }) (headingAt (drop at s))
-    unfolding headingAt bytes moduleOf
-    heading-plain e =
-        let w = (rw et at ht) .description .within in
-        record {
-          is = simp ((rw et at ht) .is, rw e at hn);
-          name = (rw et at ht) .name;
-          description = (rw et at ht) .description;
-          note = record { order = omega arith; within = w };
-          nextWithin = w;
-          between = (rw et at ht) .between;
-          noteRead = rw e at hn;
-          noteEnd = refl;
-          noteless = λ z. refl;
+          noteless = g .none;
         }
 
     pub heading-bad : n ≡ N.the-variants.Bad → headingAt (drop at s) ≡ none
@@ -190,9 +181,10 @@ module _ (s : List ℕ) (t : T.Texts) (ht : TextsAt s t (textsAt (78 ∷ 68 ∷ 
   head-bad e = head-as ∙ rw (rw e at ht)
 
   module _ (p q : Part) (e : t ≡ T.the-variants.At p q) (n : N.Marked) (hn : MarkedIs s (69 ∷ 68 ∷ []) (q .to) n) where
-    pub head-given : (x : Part) → n ≡ N.the-variants.At x → HeadIs s (record { id = p; description = q; edited = true; edition = x; first = x .to })
+    pub head-read : (b : Bool) (x : Part) → n ≡ N.the-variants.Read b x
+        → HeadIs s (record { id = p; description = q; edited = b; edition = x; first = x .to })
     unfolding headOf
-    head-given x z =
+    head-read b x z =
         let y = rw e at ht in
         let g = rw z at hn in
         record {
@@ -201,20 +193,6 @@ module _ (s : List ℕ) (t : T.Texts) (ht : TextsAt s t (textsAt (78 ∷ 68 ∷ 
           description = y .description;
           edition = g .inside;
           within = g .inside .within;
-        }
-
-    pub head-first : n ≡ N.the-variants.Nothing
-        → HeadIs s (record { id = p; description = q; edited = false; edition = record { from = q .to; to = q .to }; first = q .to })
-    unfolding headOf
-    head-first z =
-        let y = rw e at ht in
-        let w = y .description .within in
-        record {
-          is = head-as ∙ rw (y .is, rw z at hn);
-          id = y .name;
-          description = y .description;
-          edition = record { order = omega arith; within = w };
-          within = w;
         }
 
     pub head-unedited : n ≡ N.the-variants.Bad → headAt s ≡ none

@@ -12,7 +12,7 @@ use Rattle.ascii.specs.declared.Next.the-variants.{At, Bad}
 use Rattle.ascii.specs.Text.{bytes}
 use Rattle.ascii.specs.Bytes.{_>>=_, all, any, same}
 use Rattle.ascii.specs.Names.{isName, lowercase, distinct, unique}
-use Rattle.ascii.specs.Reader.{Ends, rest}
+use Rattle.ascii.specs.contracts.Reader.{Ends, rest}
 use Rattle.datainfo.specs.Rules.{goodNames}
 use Rattle.table.specs.Table as Table
 use Rattle.table.specs.Layout.{begins, accessiblesAt, moduleAt, modulesAt}
@@ -26,8 +26,8 @@ use Rattle.table.specs.declared.layout.Heading as H
 use Rattle.table.specs.declared.judge.Kind.{Kind}
 use Rattle.table.specs.declared.judge.Kind.the-variants.{Modules, Accessibles}
 use Rattle.table.specs.declared.judge.Named as N
-use Rattle.table.specs.At.{bytesOf, Inside, accessibleBegins, accessibleAt, accessiblesFrom, parameterOf, commandOf, AccessibleIs, headingAt, moduleOf, HeadingIs}
-use Rattle.table.specs.Judged.{passed, kindBegins, namedAt, namesFrom, NameIs, NamedIs, differs, howMany}
+use Rattle.table.specs.contracts.At.{bytesOf, Inside, accessibleBegins, accessibleAt, accessiblesFrom, parameterOf, commandOf, AccessibleIs, headingAt, moduleOf, HeadingIs}
+use Rattle.table.specs.contracts.Judged.{passed, kindBegins, namedAt, namesFrom, NameIs, NamedIs, differs, howMany}
 use Rattle.table.proofs.Accessibles.{got, in-some, rest-none}
 use Rattle.table.proofs.Enough.{before, accessibles-stop, accessibles-more, accessible-less, modules-stop, modules-more, module-less}
 use Rattle.table.proofs.Modules.{withThem, module-as, module-is, less}

@@ -16,8 +16,8 @@ use Rattle.ascii.specs.declared.Unsigned.{Unsigned}
 use Rattle.ascii.specs.declared.Unsigned.the-variants.{Read, Short}
 use Rattle.ascii.specs.Bytes.{_>>=_, after, part}
 use Rattle.ascii.specs.Numbers.{unsigned}
-use Rattle.ascii.specs.Read.{ReadsUnsigned}
-use Rattle.ascii.specs.Reader.{Ends}
+use Rattle.ascii.specs.contracts.Read.{ReadsUnsigned}
+use Rattle.ascii.specs.contracts.Reader.{Ends}
 use Rattle.datainfo.specs.Layout.{counted}
 use Rattle.datainfo.proofs.Ends.{one-byte, no-byte}
 use Rattle.table.specs.Layout.{begins, flag}
@@ -25,7 +25,7 @@ use Rattle.table.specs.declared.layout.Part.{Part}
 use Rattle.table.specs.declared.layout.Bytes as B
 use Rattle.table.specs.declared.layout.Texts as T
 use Rattle.table.specs.declared.layout.Flag as F
-use Rattle.table.specs.At.{bytesOf, Inside, SizedIs, Sized, textsAt, TextsAre, TextsAt, FlagIs}
+use Rattle.table.specs.contracts.At.{bytesOf, Inside, SizedIs, Sized, textsAt, TextsAre, TextsAt, FlagIs}
 
 -- ## Marks
 

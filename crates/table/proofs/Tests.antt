@@ -12,7 +12,7 @@ use Rattle.ascii.specs.declared.Next.the-variants.{At, Bad}
 use Rattle.ascii.specs.Text.{bytes}
 use Rattle.ascii.specs.Bytes.{_>>=_, all}
 use Rattle.ascii.specs.Names.{isText}
-use Rattle.ascii.specs.Reader.{Ends, rest}
+use Rattle.ascii.specs.contracts.Reader.{Ends, rest}
 use Rattle.datainfo.specs.Datainfo.{Datainfo}
 use Rattle.datainfo.specs.Rules as Datainfo
 use Rattle.datainfo.specs.Layout.{datainfoIn, datainfoAt, ReadableAt}
@@ -25,8 +25,8 @@ use Rattle.table.specs.declared.layout.CommandAt.{CommandAt}
 use Rattle.table.specs.declared.layout.Accessible as A
 use Rattle.table.specs.declared.judge.Test.{Test}
 use Rattle.table.specs.declared.judge.Test.the-variants.{Names, Rules, Initials}
-use Rattle.table.specs.At.{bytesOf, Inside, ArgumentReadable, accessibleBegins, accessibleAt, accessiblesFrom, parameterOf, commandOf, AccessibleIs, modulesFrom}
-use Rattle.table.specs.Judged.{passed, textPasses, infoPasses, valuePasses, passes}
+use Rattle.table.specs.contracts.At.{bytesOf, Inside, ArgumentReadable, accessibleBegins, accessibleAt, accessiblesFrom, parameterOf, commandOf, AccessibleIs, modulesFrom}
+use Rattle.table.specs.contracts.Judged.{passed, textPasses, infoPasses, valuePasses, passes}
 use Rattle.table.proofs.Accessibles.{in-some}
 use Rattle.table.proofs.Enough.{before, accessibles-stop, accessibles-more, modules-stop, modules-more}
 

@@ -13,7 +13,7 @@ use Rattle.ascii.specs.declared.Next.the-variants.{At, Bad}
 use Rattle.ascii.specs.Text.{bytes}
 use Rattle.ascii.specs.Bytes.{_>>=_, isSome, after, all}
 use Rattle.ascii.specs.Names.{isText}
-use Rattle.ascii.specs.Reader.{Ends, rest}
+use Rattle.ascii.specs.contracts.Reader.{Ends, rest}
 use Rattle.datainfo.specs.Rules.{goodNames, isBetween}
 use Rattle.table.specs.Table as Table
 use Rattle.table.specs.Layout.{begins, moduleAt, modulesAt, headAt, wholeTable, readTable, Readable, orEmpty, tableOf}
@@ -25,8 +25,8 @@ use Rattle.table.specs.declared.layout.Head as Head
 use Rattle.table.specs.declared.judge.Test.the-variants.{Names, Rules, Initials}
 use Rattle.table.specs.declared.judge.Kind.the-variants.{Modules, Accessibles}
 use Rattle.table.specs.declared.judge.Members as M
-use Rattle.table.specs.At.{bytesOf, accessiblesFrom, headingAt, moduleOf, HeadingIs, modulesFrom, textIf, headOf, HeadRead}
-use Rattle.table.specs.Judged.{passed, modulePasses, namesFrom, howMany, ModuleHas, MembersAre, few, numberBelow6}
+use Rattle.table.specs.contracts.At.{bytesOf, accessiblesFrom, headingAt, moduleOf, HeadingIs, modulesFrom, textIf, headOf, HeadRead}
+use Rattle.table.specs.contracts.Judged.{passed, modulePasses, namesFrom, howMany, ModuleHas, MembersAre, few, numberBelow6}
 use Rattle.table.proofs.Accessibles.{Got, got, in-some, rest-none}
 use Rattle.table.proofs.Enough.{before, modules-stop, modules-more, module-less}
 use Rattle.table.proofs.Modules.{withThem, module-as, module-is, table-none, table-from, less}

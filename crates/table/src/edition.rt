@@ -9,7 +9,7 @@ ghost use mathlib.Core.Option.{some};
 ghost use Rattle.ascii.specs.Text.{bytes};
 ghost use Rattle.table.specs.Layout.{begins, Readable};
 ghost use Rattle.table.specs.Rules.{editionGood};
-ghost use Rattle.table.specs.At.{Inside, textIf, EditionIs};
+ghost use Rattle.table.specs.contracts.At.{Inside, textIf, EditionIs};
 
 // The text that a table gives, or none: the first edition.
 pub enum Edition {

@@ -22,6 +22,9 @@ use ascii::names::is_name;
 use ascii::names::is_text;
 use ascii::names::same_lowercase;
 use form::is_stored;
+use limits::ACCESSIBLES;
+use limits::DATAINFO_LEVELS;
+use limits::MODULES;
 ghost use mathlib.Core.Path.{_≡_};
 ghost use mathlib.Core.Bool.{cond};
 ghost use mathlib.Core.List.{List};
@@ -37,10 +40,13 @@ ghost use Rattle.fit.specs.Fit.{isStored};
 ghost use Rattle.table.specs.Table.{Table, parameter, command};
 ghost use Rattle.table.specs.Layout.{argumentAt, moduleAt, wholeTable, readTable};
 ghost use Rattle.table.specs.Rules.{noteGood, countsGood, namesGood, datainfosGood, initialsGood};
-ghost use Rattle.table.specs.At.{bytesOf, Inside, ArgumentReadable, accessibleAt, accessiblesFrom, parameterOf, commandOf, moduleOf, modulesFrom};
+ghost use Rattle.table.specs.contracts.At.{bytesOf, Inside, ArgumentReadable, accessibleAt, accessiblesFrom, parameterOf, commandOf, moduleOf};
+ghost use Rattle.table.specs.contracts.At.{modulesFrom};
 ghost use Rattle.table.specs.declared.judge.Kind.the-variants as Kind;
 ghost use Rattle.table.specs.declared.judge.Test.the-variants as Test;
-ghost use Rattle.table.specs.Judged.{passed, textPasses, infoPasses, valuePasses, passes, modulePasses, headPasses, kindBegins, namedAt, namesFrom, differs, NamedIs, howMany, MembersAre, few, numberBelow6};
+ghost use Rattle.table.specs.contracts.Judged.{passed, textPasses, infoPasses, valuePasses, passes, modulePasses, headPasses, kindBegins, namedAt};
+ghost use Rattle.table.specs.contracts.Judged.{namesFrom};
+ghost use Rattle.table.specs.contracts.Judged.{differs, NamedIs, howMany, MembersAre, few, numberBelow6};
 
 // What is asked of each accessible: its texts and the names in its datainfo, or the rules of its datainfo, or its initial value.
 pub enum Test {
@@ -82,8 +88,8 @@ fn info_passes(s: &[u8], at: usize, test: Test) -> bool
     ensures { λ r. ⌜ ((d : Datainfo) (x : List ℕ) → datainfoIn 4 (drop at (now (s .entry))) ≡ some (d, x) → r ≡ infoPasses test d) ⌝ }
 {
     match test {
-        Test::Names => datainfo::rules::names_good(s, at, 4),
-        Test::Rules => datainfo::rules::rules_kept(s, at, 4),
+        Test::Names => datainfo::rules::names_good(s, at, DATAINFO_LEVELS),
+        Test::Rules => datainfo::rules::rules_kept(s, at, DATAINFO_LEVELS),
         Test::Initials => true,
     }
 }
@@ -112,7 +118,8 @@ fn part_is_stored(s: &[u8], info: usize, p: Part) -> bool
 // Whether an initial value passes.
 fn value_passes(s: &[u8], info: usize, p: Part, test: Test) -> bool
     requires { ⌜ ReadableAt (now s) info 4 × Inside (now s) p ⌝ }
-    ensures { λ r. ⌜ ((d : Datainfo) (x : List ℕ) → datainfoIn 4 (drop info (now (s .entry))) ≡ some (d, x) → r ≡ valuePasses test d (bytesOf (now (s .entry)) p)) ⌝ }
+    ensures { λ r. ⌜ ((d : Datainfo) (x : List ℕ) → datainfoIn 4 (drop info (now (s .entry))) ≡ some (d, x)
+        → r ≡ valuePasses test d (bytesOf (now (s .entry)) p)) ⌝ }
 {
     match test {
         Test::Names => true,
@@ -123,7 +130,8 @@ fn value_passes(s: &[u8], info: usize, p: Part, test: Test) -> bool
 
 fn parameter_passes(s: &[u8], q: ParameterAt, test: Test) -> bool
     requires { ⌜ (Inside (now s) (q .description) × Inside (now s) (q .initial)) × ReadableAt (now s) (q .info) 4 ⌝ }
-    ensures { λ r. ⌜ ((d : Datainfo) (x : List ℕ) → datainfoIn 4 (drop (q .info) (now (s .entry))) ≡ some (d, x) → r ≡ passes test (parameter (parameterOf (now (s .entry)) q d))) ⌝ }
+    ensures { λ r. ⌜ ((d : Datainfo) (x : List ℕ) → datainfoIn 4 (drop (q .info) (now (s .entry))) ≡ some (d, x)
+        → r ≡ passes test (parameter (parameterOf (now (s .entry)) q d))) ⌝ }
 {
     let description = q.description;
     let info = q.info;
@@ -139,7 +147,8 @@ fn parameter_passes(s: &[u8], q: ParameterAt, test: Test) -> bool
 
 fn command_passes(s: &[u8], q: CommandAt, test: Test) -> bool
     requires { ⌜ Inside (now s) (q .description) × ArgumentReadable (now s) (q .argument) (q .info) ⌝ }
-    ensures { λ r. ⌜ ((a : Option Datainfo) (x : List ℕ) → argumentAt (q .argument) (drop (q .info) (now (s .entry))) ≡ some (a, x) → r ≡ passes test (command (commandOf (now (s .entry)) q a))) ⌝ }
+    ensures { λ r. ⌜ ((a : Option Datainfo) (x : List ℕ) → argumentAt (q .argument) (drop (q .info) (now (s .entry))) ≡ some (a, x)
+        → r ≡ passes test (command (commandOf (now (s .entry)) q a))) ⌝ }
 {
     let description = q.description;
     let info = q.info;
@@ -429,10 +438,10 @@ fn counts_good(s: &[u8]) -> bool
     if n < 1 {
         return false;
     }
-    if 16 < n {
+    if MODULES < n {
         return false;
     }
-    accessibles_are_few(s, first, 64)
+    accessibles_are_few(s, first, ACCESSIBLES)
 }
 
 // Number 3: whether names and texts are good, and names unique where they have to be.

@@ -4,6 +4,8 @@ use ascii::Next;
 use ascii::Unsigned;
 use ascii::numbers::unsigned;
 use datainfo::layout::datainfo_end;
+use limits::DATAINFO_LEVELS;
+use limits::TABLE;
 ghost use mathlib.Core.Path.{_≡_};
 ghost use mathlib.Core.Bool.{_||_};
 ghost use mathlib.Core.List.{_∷_, []};
@@ -11,9 +13,10 @@ ghost use Prim.Native.Nat.{_≤_};
 ghost use lib.ListN.{length, drop};
 ghost use Rattle.ascii.specs.Bytes.{after, isSome};
 ghost use Rattle.ascii.specs.Text.{bytes};
-ghost use Rattle.ascii.specs.Reader.{Ends, rest};
+ghost use Rattle.ascii.specs.contracts.Reader.{Ends, rest};
 ghost use Rattle.table.specs.Layout.{begins, flag, argumentAt, parameterAt, commandAt, moduleAt, readTable};
-ghost use Rattle.table.specs.At.{accessibleBegins, accessibleAt, accessiblesFrom, headingAt, modulesFrom, textsAt, Sized, TextsAt, FlagIs, AccessibleIs, MarkedIs, HeadingIs, HeadRead};
+ghost use Rattle.table.specs.contracts.At.{accessibleBegins, accessibleAt, accessiblesFrom, headingAt, modulesFrom, textsAt, Sized, TextsAt, FlagIs};
+ghost use Rattle.table.specs.contracts.At.{AccessibleIs, MarkedIs, HeadingIs, HeadRead};
 
 // The bytes from one position up to another.
 pub struct Part {
@@ -92,10 +95,9 @@ pub enum Head {
     Bad,
 }
 
-// A text that was read after its mark, or that the mark isn't there.
+// A text after its mark: whether it is there, and where it lies; an empty part where the mark isn't there.
 pub enum Marked {
-    At(Part),
-    Nothing,
+    Read(bool, Part),
     Bad,
 }
 
@@ -189,7 +191,7 @@ fn parameter_at(s: &[u8], at: usize) -> Accessible
     let Flag::Is(readonly, info) = flag_at(s, c) else {
         return Accessible::Bad;
     };
-    let Next::At(e) = datainfo_end(s, info, 4) else {
+    let Next::At(e) = datainfo_end(s, info, DATAINFO_LEVELS) else {
         return Accessible::Bad;
     };
     let Bytes::At(initial) = sized_at(s, e, 2) else {
@@ -212,7 +214,7 @@ fn argument_end(s: &[u8], at: usize, has: bool) -> Next
     ensures { λ r. ⌜ Ends (now (s .entry)) r (rest (argumentAt has (drop at (now (s .entry))))) ⌝ }
 {
     if has {
-        return datainfo_end(s, at, 4);
+        return datainfo_end(s, at, DATAINFO_LEVELS);
     }
     Next::At(at)
 }
@@ -293,12 +295,12 @@ fn marked_at(s: &[u8], at: usize, a: u8, b: u8) -> Marked
     ensures { λ r. ⌜ MarkedIs (now (s .entry)) (a ∷ b ∷ []) at r ⌝ }
 {
     let Next::At(from) = mark_end(s, at, a, b) else {
-        return Marked::Nothing;
+        return Marked::Read(false, Part { from: at, to: at });
     };
     let Bytes::At(text) = sized_at(s, from, 1) else {
         return Marked::Bad;
     };
-    Marked::At(text)
+    Marked::Read(true, text)
 }
 
 // Whether a module follows.
@@ -318,29 +320,17 @@ pub fn heading_at(s: &[u8], at: usize) -> Heading
         return Heading::Bad;
     };
     let c = description.to;
-    match marked_at(s, c, b'N', b'O') {
-        Marked::At(note) => {
-            let next = note.to;
-            Heading::Read(ModuleAt {
-                name,
-                description,
-                noted: true,
-                note,
-                next,
-            })
-        }
-        Marked::Nothing => {
-            let note = Part { from: c, to: c };
-            Heading::Read(ModuleAt {
-                name,
-                description,
-                noted: false,
-                note,
-                next: c,
-            })
-        }
-        Marked::Bad => Heading::Bad,
-    }
+    let Marked::Read(noted, note) = marked_at(s, c, b'N', b'O') else {
+        return Heading::Bad;
+    };
+    let next = note.to;
+    Heading::Read(ModuleAt {
+        name,
+        description,
+        noted,
+        note,
+        next,
+    })
 }
 
 pub fn module_end(s: &[u8], at: usize) -> Next
@@ -377,36 +367,24 @@ pub fn head_at(s: &[u8]) -> Head
         return Head::Bad;
     };
     let c = description.to;
-    match marked_at(s, c, b'E', b'D') {
-        Marked::At(edition) => {
-            let first = edition.to;
-            Head::Read(HeadAt {
-                id,
-                description,
-                edited: true,
-                edition,
-                first,
-            })
-        }
-        Marked::Nothing => {
-            let edition = Part { from: c, to: c };
-            Head::Read(HeadAt {
-                id,
-                description,
-                edited: false,
-                edition,
-                first: c,
-            })
-        }
-        Marked::Bad => Head::Bad,
-    }
+    let Marked::Read(edited, edition) = marked_at(s, c, b'E', b'D') else {
+        return Head::Bad;
+    };
+    let first = edition.to;
+    Head::Read(HeadAt {
+        id,
+        description,
+        edited,
+        edition,
+        first,
+    })
 }
 
 // Whether the table's layout can be read.
 pub fn is_readable(s: &[u8]) -> bool
     ensures { λ r. ⌜ r ≡ isSome (readTable (now (s .entry))) ⌝ }
 {
-    if 16384 < s.len() {
+    if TABLE < s.len() {
         return false;
     }
     let Head::Read(h) = head_at(s) else {

@@ -7,17 +7,17 @@ use mathlib.Core.List.{List}
 use lib.ListN.{length}
 use lib.Seq.{length-sets}
 use Rattle.ascii.specs.Bytes.{isSome}
-use Rattle.ascii.specs.Writer.{Puts}
+use Rattle.ascii.specs.contracts.Writer.{Puts}
 use Rattle.table.specs.Layout.{readTable, Readable, tableOf}
 use Rattle.table.specs.declared.layout.ParameterAt.{ParameterAt}
 use Rattle.report.specs.Report.{report}
 use Rattle.report.specs.Judge.{tableNumber}
 use Rattle.report.proofs.Faults.{accepted-readable}
-use Rattle.describe.specs.Room.{RoomFor}
+use Rattle.describe.specs.contracts.Room.{RoomFor}
 use Rattle.describe.proofs.Numbered.{accepted-short}
 use Rattle.search.specs.declared.cursor.Cursor.{Cursor}
 use Rattle.search.specs.declared.cursor.NextParameter as N
-use Rattle.search.specs.Found.{NumberedParameter}
+use Rattle.search.specs.contracts.Found.{NumberedParameter}
 
 -- ## Reports
 

@@ -10,21 +10,21 @@ use lib.ListN.{length, drop, length-append, drop-of-length-le}
 use lib.Dec.{eqb}
 use lib.Seq.{drop-cons}
 use Rattle.ascii.specs.Text.{bytes}
-use Rattle.ascii.specs.Writer.{Puts}
+use Rattle.ascii.specs.contracts.Writer.{Puts}
 use Rattle.ascii.proofs.Puts.{puts-length, puts-both}
 use Rattle.ascii.proofs.Decimal.{seconds-low}
 use Rattle.message.specs.Error.{Fault}
 use Rattle.message.specs.Reply.{Held, valued, failed, heldAs, Report, updateWord, updateLine}
-use Rattle.message.specs.Said.{reportOf}
+use Rattle.message.specs.contracts.Said.{reportOf}
 use Rattle.message.proofs.Said.{held-short, report-length}
 use Rattle.outbox.specs.Outbox.{Record, update, body, encode, encodeAll}
-use Rattle.outbox.specs.Written.{RoomFor}
+use Rattle.outbox.specs.contracts.Written.{RoomFor}
 use Rattle.plain.specs.Node.{Client, isActive, clientNumbers, updatesTo}
 use Rattle.sound.proofs.Room.{encode-append, encode-one, puts-none}
 use Rattle.state.proofs.Judged.{number-at}
 use Rattle.update.specs.declared.Scope.{Scope}
 use Rattle.update.specs.declared.Scope.the-variants.{Module}
-use Rattle.update.specs.Scope.{wanted}
+use Rattle.update.specs.contracts.Scope.{wanted}
 
 -- ## Records one after another
 

@@ -10,23 +10,23 @@ use mathlib.Core.Path.{_≡_, refl, sym, ap, subst, _∙_}
 use lib.Dec.{eqb}
 use lib.ListN.{length, getD, drop, getElem?, length-append}
 use borrow.Author.Tests.{not-true, not-false}
-use Rattle.ascii.specs.Writer.{Puts}
+use Rattle.ascii.specs.contracts.Writer.{Puts}
 use Rattle.ascii.specs.Text.{bytes}
 use Rattle.message.specs.Error.{Fault, faultOf}
 use Rattle.message.specs.Reply.{heldAs, Report}
-use Rattle.message.specs.Said.{reportOf}
+use Rattle.message.specs.contracts.Said.{reportOf}
 use Rattle.outbox.specs.Outbox.{Record, update, body, encode, encodeAll}
-use Rattle.outbox.specs.Written.{RoomFor}
+use Rattle.outbox.specs.contracts.Written.{RoomFor}
 use Rattle.table.specs.Table.{Parameter}
 use Rattle.table.specs.Layout.{tableOf}
 use Rattle.table.specs.Search.{Placed, parametersOf, parameters}
-use Rattle.table.specs.At.{bytesOf, parameterOf}
+use Rattle.table.specs.contracts.At.{bytesOf, parameterOf}
 use Rattle.table.specs.declared.layout.ParameterAt.{ParameterAt}
 use Rattle.table.proofs.Places.{initial-lies}
 use Rattle.search.specs.declared.cursor.Cursor.{Cursor}
 use Rattle.search.specs.declared.cursor.NextParameter as P
-use Rattle.search.specs.Left.{placed, OnWay, FirstCursor, NextParameterIs}
-use Rattle.search.specs.Found.{ParameterNumbered}
+use Rattle.search.specs.contracts.Left.{placed, OnWay, FirstCursor, NextParameterIs}
+use Rattle.search.specs.contracts.Found.{ParameterNumbered}
 use Rattle.search.proofs.Finds.{Counted, counted-parameters, number-end, number-is, number-on}
 use Rattle.report.specs.Judge.{tableNumber}
 use Rattle.plain.specs.Node as Node
@@ -44,10 +44,10 @@ use Rattle.ascii.proofs.Lists.{neither}
 use Rattle.state.proofs.Settled.{each-fit, fit-parts}
 use Rattle.state.proofs.Stands.{was-read, value-held}
 use Rattle.fitness.proofs.Whole.{drop-there, past-64}
-use Rattle.outcome.specs.Ready.{Ready}
+use Rattle.outcome.specs.contracts.Ready.{Ready}
 use Rattle.update.specs.declared.Scope.{Scope}
-use Rattle.update.specs.Scope.{wanted}
-use Rattle.update.specs.Updatable.{shownReport, Updatable}
+use Rattle.update.specs.contracts.Scope.{wanted}
+use Rattle.update.specs.contracts.Updatable.{shownReport, Updatable}
 use Rattle.update.proofs.Sendings.{Going, going-start, going-room, going-on, going-end, going-length}
 
 -- ## One parameter

@@ -5,17 +5,19 @@ ghost use mathlib.Core.Bool.{cond};
 ghost use mathlib.Core.List.{[], _∷_};
 ghost use mathlib.Core.Path.{_≡_};
 ghost use lib.ListN.{length};
-ghost use Rattle.ascii.specs.Writer.{Puts};
-ghost use Rattle.message.specs.Said.{heldBy, reportOf};
+ghost use Rattle.ascii.specs.contracts.Writer.{Puts};
+ghost use Rattle.message.specs.contracts.Said.{heldBy, reportOf};
 ghost use Rattle.outbox.specs.Outbox.{encodeAll, update};
-ghost use Rattle.table.specs.At.{bytesOf, Inside};
+ghost use Rattle.table.specs.contracts.At.{bytesOf, Inside};
 ghost use Rattle.table.specs.Layout.{tableOf};
 ghost use Rattle.table.specs.Search.{parameters};
 ghost use Rattle.plain.specs.Node.{clientNumbers, updatesTo, updatesOf};
 ghost use Rattle.state.specs.View.{clientAt, view};
-ghost use Rattle.outcome.specs.Ready.{Ready};
-ghost use Rattle.update.specs.Scope.{wanted};
-ghost use Rattle.update.specs.Updatable.{shownReport, Updatable};
+ghost use Rattle.outcome.specs.contracts.Ready.{Ready};
+ghost use Rattle.update.specs.contracts.Scope.{wanted};
+ghost use Rattle.update.specs.contracts.Updatable.{shownReport, Updatable};
+use limits::ACCESSIBLES;
+use limits::CLIENTS;
 use message::say::Sensor;
 use outbox::write::put_update;
 use search::cursor::Cursor;
@@ -50,8 +52,11 @@ fn put_update_to(
     value: &[u8],
     time: u64,
 ) -> usize
-    requires { ⌜ (c < 8) × ((home < 16) × ((at + length (encodeAll (updatesTo (clientAt clients) home (reportOf (now «module») (now accessible) (heldBy sensor (now value)) time) (c ∷ []))) ≤ length (now out)) × (length (now «module») + length (now accessible) + length (now value) ≤ 1024))) ⌝ }
-    ensures { λ r. ⌜ Puts (now (out .entry)) at (encodeAll (updatesTo (clientAt clients) home (reportOf (now («module» .entry)) (now (accessible .entry)) (heldBy sensor (now (value .entry))) time) (c ∷ []))) (now (out .exit)) r ⌝ }
+    requires { ⌜ (c < 8) × ((home < 16) × ((at + length (encodeAll (updatesTo (clientAt clients) home
+        (reportOf (now «module») (now accessible) (heldBy sensor (now value)) time) (c ∷ []))) ≤ length (now out))
+        × (length (now «module») + length (now accessible) + length (now value) ≤ 1024))) ⌝ }
+    ensures { λ r. ⌜ Puts (now (out .entry)) at (encodeAll (updatesTo (clientAt clients) home
+        (reportOf (now («module» .entry)) (now (accessible .entry)) (heldBy sensor (now (value .entry))) time) (c ∷ []))) (now (out .exit)) r ⌝ }
 {
     if is_active(clients, c, home) {
         return put_update(out, at, c as u8, module, accessible, sensor, value, time);
@@ -71,12 +76,15 @@ pub fn put_updates_to(
     value: &[u8],
     time: u64,
 ) -> usize
-    requires { ⌜ (home < 16) × ((at + length (encodeAll (updatesTo (clientAt clients) home (reportOf (now «module») (now accessible) (heldBy sensor (now value)) time) clientNumbers)) ≤ length (now out)) × (length (now «module») + length (now accessible) + length (now value) ≤ 1024)) ⌝ }
-    ensures { λ r. ⌜ Puts (now (out .entry)) at (encodeAll (updatesTo (clientAt clients) home (reportOf (now («module» .entry)) (now (accessible .entry)) (heldBy sensor (now (value .entry))) time) clientNumbers)) (now (out .exit)) r ⌝ }
+    requires { ⌜ (home < 16) × ((at + length (encodeAll (updatesTo (clientAt clients) home
+        (reportOf (now «module») (now accessible) (heldBy sensor (now value)) time) clientNumbers)) ≤ length (now out))
+        × (length (now «module») + length (now accessible) + length (now value) ≤ 1024)) ⌝ }
+    ensures { λ r. ⌜ Puts (now (out .entry)) at (encodeAll (updatesTo (clientAt clients) home
+        (reportOf (now («module» .entry)) (now (accessible .entry)) (heldBy sensor (now (value .entry))) time) clientNumbers)) (now (out .exit)) r ⌝ }
 {
     let mut end = at;
     let mut c = 0;
-    while c < 8 {
+    while c < CLIENTS {
         end = put_update_to(
             out,
             end,
@@ -117,7 +125,8 @@ fn put_shown<'a>(
     next: Cursor,
 ) -> usize
     requires { ⌜ Updatable (now table) settings (now values) (now out) at client scope k p next ⌝ }
-    ensures { λ r. ⌜ Puts (now (out .entry)) at (encodeAll (cond (wanted scope (next .modules - 1)) (update client (shownReport (now (table .entry)) settings (now (values .entry)) k p next) ∷ []) [])) (now (out .exit)) r ⌝ }
+    ensures { λ r. ⌜ Puts (now (out .entry)) at (encodeAll (cond (wanted scope (next .modules - 1))
+        (update client (shownReport (now (table .entry)) settings (now (values .entry)) k p next) ∷ []) [])) (now (out .exit)) r ⌝ }
 {
     let home = next.modules - 1;
     if !wants(scope, home) {
@@ -144,13 +153,14 @@ pub fn put_updates_of<'a>(
     scope: Scope,
 ) -> usize
     requires { ⌜ Ready (now table) state (now values) (now out) client ⌝ }
-    ensures { λ r. ⌜ Puts (now (out .entry)) 0 (encodeAll (updatesOf client (wanted scope) (view (now (table .entry)) state (now (values .entry)) .values) 0 (parameters (tableOf (now (table .entry)))))) (now (out .exit)) r ⌝ }
+    ensures { λ r. ⌜ Puts (now (out .entry)) 0 (encodeAll (updatesOf client (wanted scope) (view (now (table .entry)) state (now (values .entry)) .values) 0
+        (parameters (tableOf (now (table .entry)))))) (now (out .exit)) r ⌝ }
 {
     let settings = state.settings;
     let mut end = 0;
     let mut k = 0;
     let mut cursor = first_cursor(table);
-    while k < 64 {
+    while k < ACCESSIBLES {
         let NextParameter::At(p, next) = next_parameter(table, cursor) else {
             return end;
         };

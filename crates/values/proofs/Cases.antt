@@ -8,15 +8,15 @@ use lib.ListN.{length, take, drop}
 use lib.Seq.{length-take-le}
 use Rattle.ascii.specs.declared.Next.{Next}
 use Rattle.ascii.specs.declared.Next.the-variants.{At}
-use Rattle.ascii.specs.Reader.{Ends, rest}
+use Rattle.ascii.specs.contracts.Reader.{Ends, rest}
 use Rattle.ascii.proofs.Puts.{puts-length}
 use Rattle.datainfo.specs.Datainfo.{Datainfo}
 use Rattle.datainfo.specs.Layout.{datainfoIn, ReadableAt}
 use Rattle.fit.specs.Fit.{isFit, severity}
-use Rattle.fit.specs.Verdict.{JudgesText}
+use Rattle.fit.specs.contracts.Verdict.{JudgesText}
 use Rattle.fit.specs.declared.Verdict.{Verdict}
 use Rattle.fit.specs.declared.Verdict.the-variants.{Fits}
-use Rattle.form.specs.Formed.{FitsAt, PutsForm}
+use Rattle.form.specs.contracts.Formed.{FitsAt, PutsForm}
 
 -- a datainfo that has an end can be read
 pub readable : (s : List ℕ) (r : Next) (e : ℕ) → Ends s r (rest (datainfoIn 4 (drop 0 s))) → r ≡ At e → ReadableAt s 0 4

@@ -5,8 +5,10 @@ use ascii::Next;
 use fit::Verdict;
 use libc::STDIN_FILENO;
 use libc::STDOUT_FILENO;
+use limits::DATAINFO_LEVELS;
+use limits::PLACE;
 ghost use Rattle.datainfo.specs.Layout.{ReadableAt};
-ghost use Rattle.form.specs.Formed.{FitsAt};
+ghost use Rattle.form.specs.contracts.Formed.{FitsAt};
 
 fn number(high: u8, low: u8) -> usize {
     high as usize * 256 + low as usize
@@ -16,7 +18,7 @@ fn number(high: u8, low: u8) -> usize {
 fn write_fit(info: &[u8], text: &[u8], stored: &mut [u8])
     requires { ⌜ FitsAt (now info) 0 (now text) ⌝ }
 {
-    if 256 <= stored.len() {
+    if PLACE <= stored.len() {
         let n = form::put_form(info, 0, stored, 0, text);
         io::write_all(STDOUT_FILENO, b"fits ");
         io::write_all(STDOUT_FILENO, &stored[..n]);
@@ -44,7 +46,7 @@ fn write_verdict(info: &[u8], text: &[u8], stored: &mut [u8])
 }
 
 fn judge_case(info: &[u8], text: &[u8], stored: &mut [u8]) {
-    match datainfo::layout::datainfo_end(info, 0, 4) {
+    match datainfo::layout::datainfo_end(info, 0, DATAINFO_LEVELS) {
         Next::At(_) => {
             write_verdict(info, text, stored);
         }

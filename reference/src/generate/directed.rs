@@ -3,6 +3,7 @@
 //! that is slow. Nothing in them is random.
 
 use super::encode;
+use super::lending;
 use super::parts::{
     array, blob, command, digit, double, enumeration, module, parameter, readonly, scaled, string,
     structure, table,
@@ -10,6 +11,7 @@ use super::parts::{
 use super::script::Script;
 use crate::datainfo::Datainfo;
 use crate::history::History;
+use crate::index::{FREE, INDEX};
 use crate::node::{MAX_TIME, MIN_VALUES};
 use crate::outbox::MIN_OUTBOX;
 use crate::table::{Accessible, Table};
@@ -82,6 +84,9 @@ fn over_good_tables() -> Vec<(&'static str, Script)> {
         ("checks of stored forms", checked_forms()),
         ("checks that store nothing", idle_checks()),
         ("checks without the record", unknown_checks()),
+        ("an index beside the table", index_beside()),
+        ("indexes that are no help", useless_indexes()),
+        ("indexes that are too short", short_indexes()),
     ]
 }
 
@@ -816,6 +821,84 @@ fn unknown_checks() -> Script {
     started(vec![three()])
         .open(0)
         .lines(&["*IDN?", "check t1:p 4", "check tx:p {", "check"])
+}
+
+/// Two accessibles that start from an index's last place, and one that starts
+/// from the first.
+fn round_the_end() -> Vec<Accessible> {
+    vec![
+        parameter("a19", digit(), "0"),
+        command("a237", None),
+        parameter("a76", digit(), "3"),
+    ]
+}
+
+/// A filled index, longer ones and none; what seeks and what doesn't.
+fn index_beside() -> Script {
+    let table = Table {
+        edition: Some(EDITION.as_bytes().to_vec()),
+        ..table(vec![module("m", round_the_end())])
+    };
+    let filled = lending::filled(&table);
+    Script::over(encode::table(&table))
+        .start()
+        .index(&filled)
+        .open(0)
+        .lines(&[
+            "read m:a76",
+            "do m:a237",
+            "check m:a19 5",
+            "read m:a282",
+            "read m:a237",
+            "read n:a19",
+        ])
+        .index(&[&filled[..], &[0]].concat())
+        .lines(&["change m:a76:x 4", "activate m:a19"])
+        .index(&[])
+        .lines(&["read m:a76"])
+}
+
+/// Free bytes, bytes that all offer the same, an index of the table in another
+/// order, and one that is scribbled over.
+fn useless_indexes() -> Script {
+    let mut reversed = round_the_end();
+    reversed.reverse();
+    let stale = lending::filled(&table(vec![module("m", reversed)]));
+    let mut scribbled = [FREE; INDEX];
+    (scribbled[INDEX - 1], scribbled[0]) = (200, 2);
+    Script::over(encode::table(&table(vec![module("m", round_the_end())])))
+        .start()
+        .open(0)
+        .index(&[FREE; INDEX])
+        .lines(&["do m:a237"])
+        .index(&[0; INDEX])
+        .lines(&["read m:a76"])
+        .index(&stale)
+        .lines(&["read m:a19", "read m:a76", "do m:a237"])
+        .index(&scribbled)
+        .lines(&["do m:a237", "check m:a19 1"])
+}
+
+/// Number 18 is judged straight after 8; no bytes are no index.
+fn short_indexes() -> Script {
+    started(vec![three()])
+        .index(&[FREE; INDEX - 1])
+        .open(0)
+        .values(SHORT_VALUES)
+        .open(0)
+        .at(LATE)
+        .open(8)
+        .index(&[FREE; INDEX])
+        .open(0)
+        .index(&[0])
+        .line(0, "change t1:p 4")
+        .outbox(SHORT_OUTBOX)
+        .line(0, "change t1:p 4")
+        .reading(0, "4")
+        .unreadable(0, 5)
+        .close(0)
+        .index(&[])
+        .line(0, "read t1:p")
 }
 
 /// One table for each of the numbers 1 to 5, then tables with two faults. An

@@ -1,7 +1,8 @@
 //! Histories as a host makes them: clients come and go, their bytes arrive in
-//! pieces, drivers report readings, and some calls are wrong.
+//! pieces, drivers report readings, indexes are lent, and some calls are wrong.
 
 use super::encode;
+use super::lending;
 use super::lines;
 use super::ramps;
 use super::tables;
@@ -37,7 +38,7 @@ fn over_table(random: Random, table: &Table, calls: usize) -> History {
     if !stays_refused {
         host.start();
     }
-    while host.calls.len() < calls {
+    while host.made() < calls {
         host.step(table);
     }
     host.history()
@@ -47,7 +48,7 @@ fn over_table(random: Random, table: &Table, calls: usize) -> History {
 fn over_faulty_table(random: Random, table: Vec<u8>, calls: usize) -> History {
     let mut host = Host::new(random, &table);
     host.start();
-    while host.calls.len() < calls {
+    while host.made() < calls {
         match host.random.below(5) {
             0 => host.open(),
             1 => host.close(),
@@ -89,6 +90,11 @@ impl Host {
         }
     }
 
+    /// How many calls there are.
+    pub(super) fn made(&self) -> usize {
+        self.calls.iter().filter(|call| call.is_made()).count()
+    }
+
     /// Makes a call. Bytes that a piece used are no longer waiting; those of a
     /// closed client are lost.
     pub(super) fn call(&mut self, call: Call) {
@@ -121,15 +127,34 @@ impl Host {
         self.call(Call::Start { values_len, time });
     }
 
-    fn step(&mut self, table: &Table) {
+    pub(super) fn step(&mut self, table: &Table) {
         match self.random.below(24) {
             0..=2 => self.open(),
             3 if self.random.one_in(3) => self.close(),
             4..=6 if self.random.one_in(4) => self.failure(table),
             4..=6 => self.reading(table),
             7 => self.refused_call(table),
+            8 => self.lend(table),
             _ => self.piece(table),
         }
+    }
+
+    /// Another index is lent from here on; one that is too short for one call
+    /// only, which has no other fault.
+    fn lend(&mut self, table: &Table) {
+        if self.random.one_in(4) {
+            let index = lending::short(&mut self.random);
+            self.call(Call::Lend { index });
+            match self.random.below(6) {
+                0 => self.open(),
+                1 => self.close(),
+                2 => self.reading(table),
+                3 => self.failure(table),
+                _ => self.piece(table),
+            }
+        }
+        let index = lending::any(&mut self.random, table);
+        self.call(Call::Lend { index });
     }
 
     fn open(&mut self) {
@@ -368,13 +393,13 @@ impl Host {
         ])
     }
 
-    fn values_len(&mut self) -> usize {
+    pub(super) fn values_len(&mut self) -> usize {
         *self
             .random
             .pick(&[MIN_VALUES, MIN_VALUES, MIN_VALUES, MIN_VALUES + 1, 20_000])
     }
 
-    fn outbox_len(&mut self) -> usize {
+    pub(super) fn outbox_len(&mut self) -> usize {
         *self
             .random
             .pick(&[MIN_OUTBOX, MIN_OUTBOX, MIN_OUTBOX, MIN_OUTBOX + 1, 40_000])
@@ -382,7 +407,7 @@ impl Host {
 
     /// Time mostly goes on, sometimes back; now and then a call has quite
     /// another time, such as the latest.
-    fn next_time(&mut self) -> u64 {
+    pub(super) fn next_time(&mut self) -> u64 {
         let step = self.random.below(3_000) as u64;
         match self.random.below(20) {
             0 => self.time = self.time.saturating_sub(2 * step),

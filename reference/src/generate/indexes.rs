@@ -84,7 +84,7 @@ fn chosen() -> Vec<Table> {
 
 /// A module with as many accessibles as there may be, of both kinds, which start
 /// from the places in turn.
-fn starting_from(places: &[usize]) -> Table {
+pub(super) fn starting_from(places: &[usize]) -> Table {
     let mut numbers = 0..;
     let mut one = |at: usize| {
         let place = places[at % places.len()];

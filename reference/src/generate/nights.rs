@@ -229,7 +229,8 @@ fn events(calls: &[Call]) -> Vec<Event> {
         Some(event(kind, number.min(255) as u8, time, bytes))
     };
     let record = |call: &Call| match call {
-        Call::Start { .. } => None,
+        Call::Start { .. } | Call::Lend { .. } => None,
+        Call::Readings { .. } => unreachable!("random histories have no lists"),
         Call::Open { client, time, .. } => event(Kind::Open, *client, *time, &[]),
         Call::Close { client, time, .. } => event(Kind::Close, *client, *time, &[]),
         Call::Piece {

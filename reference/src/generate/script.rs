@@ -128,9 +128,17 @@ impl Script {
         })
     }
 
+    /// The calls from here on are lent this index; none has no bytes.
+    pub(super) fn index(mut self, index: &[u8]) -> Script {
+        let index = index.to_vec();
+        self.calls.push(Call::Lend { index });
+        self
+    }
+
     fn call(mut self, make: impl FnOnce(Lent) -> Call) -> Script {
         self.calls.push(make(self.next));
-        self.next = Lent::usual(self.calls.len());
+        let made = self.calls.iter().filter(|call| call.is_made());
+        self.next = Lent::usual(made.count());
         self
     }
 }

@@ -1,12 +1,17 @@
 //! Another history with the same course: the same bytes of each client, the
 //! same order of line feeds, readings, reports of unreadable parameters, opens
-//! and closes with their times, but cut and mingled in another way. Refused calls are left out.
+//! and closes with their times, but cut and mingled in another way, and with
+//! other indexes. Refused calls are left out.
 
-use crate::history::{Call, History};
+use super::lending;
+use super::racks::Rack;
+use crate::history::{Answer, Call, History};
 use crate::line::LINE_FEED;
+use crate::list::MAX_ROWS;
 use crate::node::{CLIENTS, MAX_TIME, MIN_VALUES};
 use crate::outbox::MIN_OUTBOX;
 use crate::random::Random;
+use crate::table::Table;
 use std::collections::VecDeque;
 
 /// What both histories have in the same order.
@@ -67,9 +72,20 @@ pub(super) fn write(course: Course, table: &[u8], seed: u64) -> History {
         waiting: course.stretches.map(VecDeque::from),
         open: [false; CLIENTS],
     };
-    for event in &course.events {
+    let judged = Table::judge(table).expect("a start was accepted");
+    let mut events = &course.events[..];
+    while let Some((event, others)) = events.split_first() {
+        if writer.random.one_in(6) {
+            writer.lend(&judged);
+        }
         writer.mingle();
-        writer.write(event);
+        events = match writer.list(events, judged.parameters().len()) {
+            0 => {
+                writer.write(event);
+                others
+            }
+            listed => &events[listed..],
+        };
     }
     writer.finish();
     History {
@@ -82,24 +98,24 @@ pub(super) fn write(course: Course, table: &[u8], seed: u64) -> History {
 pub(super) fn course(history: &History) -> Option<Course> {
     let answers = history.run()?.answers;
     let accepted = history.calls.iter().zip(&answers);
-    let accepted = accepted.filter(|(_, answer)| answer.is_accepted());
-    let mut accepted = accepted.map(|(call, answer)| (call, answer.used));
+    let mut accepted = accepted.filter(|(_, answer)| answer.has_effect());
     let (start, _) = accepted.next()?;
     let mut course = Course {
         start: start.clone(),
         events: Vec::new(),
         stretches: std::array::from_fn(|_| vec![Stretch::default()]),
     };
-    for (call, used) in accepted {
-        course.add(call, used)?;
+    for (call, answer) in accepted {
+        course.add(call, answer)?;
     }
     matches!(course.start, Call::Start { .. }).then_some(course)
 }
 
 impl Course {
-    fn add(&mut self, call: &Call, used: usize) -> Option<()> {
+    fn add(&mut self, call: &Call, answer: &Answer) -> Option<()> {
         match call {
             Call::Start { .. } => return None,
+            Call::Lend { .. } => {}
             Call::Open { client, time, .. } => {
                 let (client, time) = (*client, *time);
                 self.end_stretch(client, Event::Open { client, time });
@@ -133,7 +149,16 @@ impl Course {
                 time,
                 bytes,
                 ..
-            } => self.add_bytes(*client, *time, &bytes[..used]),
+            } => self.add_bytes(*client, *time, &bytes[..answer.used]),
+            Call::Readings { rows, texts, .. } => {
+                for row in &rows[..answer.taken] {
+                    self.events.push(Event::Reading {
+                        parameter: row.parameter,
+                        time: row.time,
+                        text: row.text(texts)?.to_vec(),
+                    });
+                }
+            }
         }
         Some(())
     }
@@ -193,6 +218,42 @@ struct Writer {
 }
 
 impl Writer {
+    fn lend(&mut self, table: &Table) {
+        let index = lending::any(&mut self.random, table);
+        self.calls.push(Call::Lend { index });
+    }
+
+    /// Lists some readings at the front of the events anew, and says how many;
+    /// now and then the list stops after them.
+    fn list(&mut self, events: &[Event], parameters: usize) -> usize {
+        let front = events.iter().take(MAX_ROWS);
+        let front = front.take_while(|event| matches!(event, Event::Reading { .. }));
+        let front = front.count();
+        if front == 0 || self.random.one_in(2) {
+            return 0;
+        }
+        let listed = self.random.between(1, front);
+        let mut rack = Rack::default();
+        for event in &events[..listed] {
+            if let Event::Reading {
+                parameter,
+                time,
+                text,
+            } = event
+            {
+                rack.add(&mut self.random, *parameter, *time, text);
+            }
+        }
+        if self.random.one_in(4) {
+            while rack.len() < self.random.between(listed + 1, MAX_ROWS + 1).min(MAX_ROWS) {
+                rack.add_refused(&mut self.random, parameters as u64, 0);
+            }
+        }
+        let (values_len, outbox_len) = (self.length(MIN_VALUES), self.length(MIN_OUTBOX));
+        self.calls.push(rack.call(values_len, outbox_len));
+        listed
+    }
+
     /// Lets some clients' bytes arrive early, or an empty piece come.
     fn mingle(&mut self) {
         for _ in 0..self.random.below(4) {

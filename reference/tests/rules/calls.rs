@@ -18,6 +18,7 @@ fn number<Done>(result: Result<Done, Refusal>) -> u8 {
     result.map_or_else(Refusal::number, |_| 0)
 }
 
+// C-3, C-10
 #[test]
 fn starts() {
     assert_eq!(MAX_TIME, 9_999_999_999_999);
@@ -29,6 +30,7 @@ fn starts() {
     assert_eq!(start_number(&table(&[]), 0, LATE), 2);
 }
 
+// C-3
 #[test]
 fn a_start_shows_initial_values_with_its_time() {
     let mut node = started(&lab(), &[0], MAX_TIME);
@@ -38,6 +40,7 @@ fn a_start_shows_initial_values_with_its_time() {
     );
 }
 
+// C-12
 #[test]
 fn a_refused_start_over_a_good_table_can_be_gone_on_with() {
     for (values_len, time) in [(SMALL_VALUES, 5), (VALUES, LATE)] {
@@ -52,6 +55,7 @@ fn a_refused_start_over_a_good_table_can_be_gone_on_with() {
     }
 }
 
+// C-10, C-11
 #[test]
 fn every_call_over_a_faulty_table_is_refused_with_its_number() {
     // 512 ints of 17 bytes each in the table and 67 in the report.
@@ -78,6 +82,7 @@ fn every_call_over_a_faulty_table_is_refused_with_its_number() {
     }
 }
 
+// C-4, C-5
 #[test]
 fn opens_and_closes() {
     let mut node = started(&lab(), &[7], 0);
@@ -96,6 +101,7 @@ fn opens_and_closes() {
     assert_eq!(number(node.open(7, VALUES, MAX_TIME)), 0);
 }
 
+// C-4, C-5
 #[test]
 fn close_and_open_forget_the_line_and_what_was_active() {
     let mut node = started(&lab(), &[0], 0);
@@ -121,6 +127,7 @@ fn close_and_open_forget_the_line_and_what_was_active() {
     assert_eq!(ask(&mut node, 0, 0, "deactivate"), "inactive");
 }
 
+// C-10, C-12
 #[test]
 fn pieces_refused_from_the_lowest_number_up() {
     let mut node = started(&lab(), &[0], 0);
@@ -147,6 +154,7 @@ fn pieces_refused_from_the_lowest_number_up() {
     assert_eq!(number(node.piece(0, VALUES, OUTBOX, MAX_TIME, b"")), 0);
 }
 
+// C-10, C-12
 #[test]
 fn readings_refused_from_the_lowest_number_up() {
     let mut node = started(&lab(), &[0], 0);
@@ -185,6 +193,7 @@ fn readings_refused_from_the_lowest_number_up() {
 }
 
 /// "7 and 14 as for a reading; 16, unknown class, after 15".
+// C-8, C-10
 #[test]
 fn reports_of_broken_sensors_refused_from_the_lowest_number_up() {
     let mut node = started(&lab(), &[0], 0);
@@ -212,6 +221,7 @@ fn reports_of_broken_sensors_refused_from_the_lowest_number_up() {
     assert_eq!(number(node.unreadable(5, VALUES, OUTBOX, MAX_TIME, 4)), 0);
 }
 
+// C-2, C-7
 #[test]
 fn a_reading_may_set_a_readonly_parameter_and_go_back_in_time() {
     let mut node = started(&lab(), &[0], 500);

@@ -22,6 +22,7 @@ fn count(node: &mut Node, client: u64) -> String {
     ask(node, client, 500, "_count")
 }
 
+// L-25, L-29
 #[test]
 fn its_own_line_is_counted_and_its_reply_is_no_error() {
     let mut node = lab_node(&[0]);
@@ -30,6 +31,7 @@ fn its_own_line_is_counted_and_its_reply_is_no_error() {
     assert_eq!(node.state().counts[0], counts(2, 0, 0));
 }
 
+// L-25
 #[test]
 fn specifier_and_data_are_ignored() {
     let mut node = lab_node(&[0]);
@@ -39,6 +41,7 @@ fn specifier_and_data_are_ignored() {
     }
 }
 
+// L-26
 #[test]
 fn other_custom_actions_are_not_built() {
     let mut node = lab_node(&[0]);
@@ -55,6 +58,7 @@ fn other_custom_actions_are_not_built() {
     }
 }
 
+// L-29
 #[test]
 fn every_used_line_feed_is_a_line() {
     let mut node = lab_node(&[0]);
@@ -70,6 +74,7 @@ fn every_used_line_feed_is_a_line() {
     assert_eq!(node.state().counts[0], counts(3, 2, 0));
 }
 
+// L-29
 #[test]
 fn errors_are_the_replies_that_begin_so() {
     let mut node = lab_node(&[0]);
@@ -83,6 +88,7 @@ fn errors_are_the_replies_that_begin_so() {
     assert_eq!(node.state().counts[0], counts(3, 2, 0));
 }
 
+// L-29
 #[test]
 fn updates_are_counted_where_they_go_to() {
     let mut node = lab_node(&[0, 7]);
@@ -101,6 +107,7 @@ fn updates_are_counted_where_they_go_to() {
     assert_eq!(count(&mut node, 7), counted("2,0,7,1"));
 }
 
+// L-25
 #[test]
 fn active_modules_without_parameters_count_too() {
     let mut node = lab_node(&[0]);
@@ -113,6 +120,7 @@ fn active_modules_without_parameters_count_too() {
     assert_eq!(count(&mut node, 0), counted(&format!("6,0,{updates},2")));
 }
 
+// L-30
 #[test]
 fn an_open_begins_anew_a_close_keeps() {
     let mut node = lab_node(&[0]);
@@ -125,6 +133,7 @@ fn an_open_begins_anew_a_close_keeps() {
     assert_eq!(node.state().counts[0], counts(0, 0, 0));
 }
 
+// L-30
 #[test]
 fn each_stops_at_4_294_967_295() {
     let call = |bytes: &[u8]| Call::Piece {
@@ -141,16 +150,16 @@ fn each_stops_at_4_294_967_295() {
             values_len: VALUES,
             time: 0,
         };
-        kept.call(&lab(), &open);
+        kept.call(&lab(), &[], &open);
         kept.counts[0] = counts(first, first, first);
         // The first gets there, the second stays.
         for _ in 0..2 {
-            kept.call(&lab(), &call(b"change t1:x 1\n"));
-            kept.call(&lab(), &call(b"activate t1\n"));
+            kept.call(&lab(), &[], &call(b"change t1:x 1\n"));
+            kept.call(&lab(), &[], &call(b"activate t1\n"));
             let full = 4_294_967_295;
             assert_eq!(kept.counts[0], counts(full, full, full));
         }
-        let answer = kept.call(&lab(), &call(b"_count\n"));
+        let answer = kept.call(&lab(), &[], &call(b"_count\n"));
         let line = counted("4294967295,4294967295,4294967295,1");
         assert!(answer.outbox.ends_with(format!("{line}\n").as_bytes()));
         // What is counted of a closed client is no fault.

@@ -3,7 +3,8 @@
 //!
 //! A call is written as `@TIME` and what it is about, with lengths where they
 //! are unusual, ` = NUMBER` where it is refused and `used` where a piece is
-//! not used up. The records sent follow it. A run of twenty or more equal
+//! not used up; in a history that lends an index `steps` where there are any.
+//! The records sent follow it. A run of twenty or more equal
 //! characters is written as the character, `*` and the count.
 
 use crate::build::*;
@@ -26,6 +27,11 @@ fn assert_course(name: &str, expected: &str) {
 
 fn course(history: &History) -> Vec<String> {
     let answers = history.run().expect("a start comes first").answers;
+    let lends = history.calls.iter().any(|call| !call.is_made());
+    let steps = |answer: &Answer| match answer.steps {
+        1.. if lends => format!(" steps {}", answer.steps),
+        _ => String::new(),
+    };
     let lines = history
         .calls
         .iter()
@@ -33,7 +39,7 @@ fn course(history: &History) -> Vec<String> {
         .flat_map(|(call, answer)| {
             let records = outbox::read(&answer.outbox).expect("nothing but records");
             [
-                vec![call_line(call) + &ending(call, answer)],
+                vec![call_line(call) + &ending(call, answer) + &steps(answer)],
                 shown(&records),
             ]
             .concat()
@@ -68,12 +74,15 @@ fn call_line(call: &Call) -> String {
             class,
             ..
         } => format!("@{time} unreadable {parameter} {class}"),
+        Call::Lend { index } => format!("index of {} bytes", index.len()),
+        Call::Readings { .. } => unreachable!("directed histories have no lists"),
     }
 }
 
 /// What is unusual about the lengths and the answer.
 fn ending(call: &Call, answer: &Answer) -> String {
     let (values_len, outbox_len, offered) = match call {
+        Call::Lend { .. } | Call::Readings { .. } => (VALUES, OUTBOX, 0),
         Call::Start { values_len, .. }
         | Call::Open { values_len, .. }
         | Call::Close { values_len, .. } => (*values_len, OUTBOX, 0),
@@ -124,7 +133,8 @@ fn they_are_small_and_hold_together() {
     for scene in directed::all() {
         let (name, history) = (scene.name, &scene.history);
         assert!(history.table.len() <= 300, "{name}");
-        assert!((2..=11).contains(&history.calls.len()), "{name}");
+        let made = history.calls.iter().filter(|call| call.is_made());
+        assert!((2..=11).contains(&made.count()), "{name}");
         let starts = |call: &&Call| matches!(call, Call::Start { .. });
         assert_eq!(history.calls.iter().filter(starts).count(), 1, "{name}");
         watch(history);
@@ -140,6 +150,7 @@ fn their_names_differ() {
     assert_eq!(names.len(), count);
 }
 
+// L-19
 #[test]
 fn one_of_two_modules_deactivated() {
     assert_course(
@@ -165,6 +176,7 @@ fn one_of_two_modules_deactivated() {
     );
 }
 
+// C-4, C-5
 #[test]
 fn closed_and_opened_again() {
     assert_course(
@@ -185,6 +197,7 @@ fn closed_and_opened_again() {
     );
 }
 
+// L-23, T-28
 #[test]
 fn two_commands() {
     assert_course(
@@ -202,6 +215,7 @@ fn two_commands() {
     );
 }
 
+// L-2
 #[test]
 fn lines_of_1024_bytes() {
     // `ping`, a space and 1,019 bytes more; the return is one of them.
@@ -218,6 +232,7 @@ fn lines_of_1024_bytes() {
     );
 }
 
+// L-2
 #[test]
 fn lines_of_1025_bytes() {
     assert_course(
@@ -235,6 +250,7 @@ fn lines_of_1025_bytes() {
     );
 }
 
+// L-7
 #[test]
 fn names_that_do_not_do() {
     assert_course(
@@ -260,6 +276,7 @@ fn names_that_do_not_do() {
     );
 }
 
+// L-8
 #[test]
 fn refused_changes() {
     assert_course(
@@ -281,6 +298,7 @@ fn refused_changes() {
     );
 }
 
+// V-16
 #[test]
 fn members_of_a_struct() {
     assert_course(
@@ -305,6 +323,7 @@ fn members_of_a_struct() {
     );
 }
 
+// V-14, V-15
 #[test]
 fn counts_of_tuples_and_arrays() {
     assert_course(
@@ -327,6 +346,7 @@ fn counts_of_tuples_and_arrays() {
     );
 }
 
+// V-12
 #[test]
 fn characters_of_a_string() {
     assert_course(
@@ -348,6 +368,7 @@ fn characters_of_a_string() {
     );
 }
 
+// V-22
 #[test]
 fn stored_forms_of_256_and_257_bytes() {
     // With its quotes a string of 254 characters has 256 bytes.
@@ -367,6 +388,7 @@ fn stored_forms_of_256_and_257_bytes() {
     );
 }
 
+// V-6
 #[test]
 fn tokens_and_powers() {
     // With 0 and the dot 30 zeros make 32 bytes.
@@ -394,6 +416,7 @@ fn tokens_and_powers() {
     );
 }
 
+// V-9, V-10
 #[test]
 fn minus_zero_and_enum_members() {
     assert_course(
@@ -415,6 +438,7 @@ fn minus_zero_and_enum_members() {
     );
 }
 
+// V-11
 #[test]
 fn enum_members_by_name() {
     assert_course(
@@ -447,6 +471,7 @@ fn enum_members_by_name() {
     );
 }
 
+// V-20
 #[test]
 fn enum_members_inside_others() {
     assert_course(
@@ -467,6 +492,7 @@ fn enum_members_inside_others() {
     );
 }
 
+// V-22
 #[test]
 fn lengths_after_the_exchange() {
     let answers = history("lengths after the exchange").run().unwrap().answers;
@@ -492,6 +518,7 @@ fn lengths_after_the_exchange() {
     );
 }
 
+// C-10
 #[test]
 fn refused_opens_and_closes() {
     assert_course(
@@ -512,6 +539,7 @@ fn refused_opens_and_closes() {
     );
 }
 
+// C-10
 #[test]
 fn refused_pieces() {
     assert_course(
@@ -530,6 +558,7 @@ fn refused_pieces() {
     );
 }
 
+// C-10
 #[test]
 fn refused_readings() {
     assert_course(
@@ -552,6 +581,7 @@ fn refused_readings() {
     );
 }
 
+// L-28
 #[test]
 fn a_broken_sensor() {
     assert_course(
@@ -583,6 +613,7 @@ fn a_broken_sensor() {
     );
 }
 
+// L-28
 #[test]
 fn what_ends_an_error() {
     assert_course(
@@ -611,6 +642,7 @@ fn what_ends_an_error() {
     );
 }
 
+// C-10
 #[test]
 fn refused_reports_of_a_broken_sensor() {
     assert_course(
@@ -634,6 +666,7 @@ fn refused_reports_of_a_broken_sensor() {
     );
 }
 
+// L-22
 #[test]
 fn busy_before_changed() {
     assert_course(
@@ -676,6 +709,7 @@ fn busy_before_changed() {
     );
 }
 
+// L-22
 #[test]
 fn a_status_that_does_not_admit_busy() {
     assert_course(
@@ -713,6 +747,7 @@ fn a_status_that_does_not_admit_busy() {
     );
 }
 
+// L-22
 #[test]
 fn what_nearly_admits_busy() {
     assert_course(
@@ -749,6 +784,7 @@ fn what_nearly_admits_busy() {
     );
 }
 
+// L-22
 #[test]
 fn no_target_and_no_status() {
     assert_course(
@@ -788,6 +824,7 @@ fn no_target_and_no_status() {
     );
 }
 
+// L-22
 #[test]
 fn errors_of_a_status() {
     assert_course(
@@ -822,6 +859,7 @@ fn errors_of_a_status() {
     );
 }
 
+// C-10
 #[test]
 fn the_lowest_of_several_numbers() {
     assert_course(
@@ -840,6 +878,102 @@ fn the_lowest_of_several_numbers() {
     );
 }
 
+/// The places and the bytes looked at are worked out in `indexes`.
+// I-5, I-6
+#[test]
+fn indexes_beside_the_table() {
+    assert_course(
+        "an index beside the table",
+        r#"
+        @1000 start
+        index of 128 bytes
+        @2000 open 0
+        @3000 0 > read m:a76\n steps 2
+        0 < reply m:a76 [3,{"t":1.000}]
+        @4000 0 > do m:a237\n steps 2
+        0 DC 0 
+        0 < done m:a237 [null,{"t":4.000}]
+        @5000 0 > check m:a19 5\n steps 1
+        0 < checked m:a19 [5,{"t":5.000}]
+        @6000 0 > read m:a282\n steps 7
+        0 < error_read m:a282 ["NoSuchParameter","no such parameter",{}]
+        @7000 0 > read m:a237\n steps 2
+        0 < error_read m:a237 ["NoSuchParameter","no such parameter",{}]
+        @8000 0 > read n:a19\n
+        0 < error_read n:a19 ["NoSuchModule","no such module",{}]
+        index of 129 bytes
+        @9000 0 > change m:a76:x 4\n steps 2
+        0 DR 1 4
+        0 < changed m:a76 [4,{"t":9.000}]
+        @10000 0 > activate m:a19\n
+        0 * update m:a19 [0,{"t":1.000}]
+        0 * update m:a76 [4,{"t":9.000}]
+        0 < active m
+        index of 0 bytes
+        @11000 0 > read m:a76\n steps 3
+        0 < reply m:a76 [4,{"t":9.000}]
+        "#,
+    );
+    // A free byte and two accessibles; 128 bytes and three accessibles; the
+    // other order's bytes are 1 at place 127, 0 and 2 after it; 200, the number
+    // of another accessible and a free byte, then two accessibles.
+    assert_course(
+        "indexes that are no help",
+        r#"
+        @1000 start
+        @2000 open 0
+        index of 128 bytes
+        @3000 0 > do m:a237\n steps 3
+        0 DC 0 
+        0 < done m:a237 [null,{"t":3.000}]
+        index of 128 bytes
+        @4000 0 > read m:a76\n steps 131
+        0 < reply m:a76 [3,{"t":1.000}]
+        index of 128 bytes
+        @5000 0 > read m:a19\n steps 2
+        0 < reply m:a19 [0,{"t":1.000}]
+        @6000 0 > read m:a76\n steps 2
+        0 < reply m:a76 [3,{"t":1.000}]
+        @7000 0 > do m:a237\n steps 1
+        0 DC 0 
+        0 < done m:a237 [null,{"t":7.000}]
+        index of 128 bytes
+        @8000 0 > do m:a237\n steps 5
+        0 DC 0 
+        0 < done m:a237 [null,{"t":8.000}]
+        @9000 0 > check m:a19 1\n
+        0 < error_check m:a19 ["ProtocolError","malformed or unknown request",{}]
+        "#,
+    );
+}
+
+// I-8, C-10
+#[test]
+fn indexes_that_are_too_short() {
+    assert_course(
+        "indexes that are too short",
+        r#"
+        @1000 start
+        index of 127 bytes
+        @2000 open 0 = 18
+        @3000 open 0 values=16383 = 8
+        @10000000000000 open 8 = 18
+        index of 128 bytes
+        @5000 open 0
+        index of 1 bytes
+        @6000 0 > change t1:p 4\n = 18
+        @7000 0 > change t1:p 4\n outbox=32767 = 7
+        @8000 reading 0 4 = 18
+        @9000 unreadable 0 5 = 18
+        @10000 close 0 = 18
+        index of 0 bytes
+        @11000 0 > read t1:p\n steps 1
+        0 < reply t1:p [3,{"t":1.000}]
+        "#,
+    );
+}
+
+// C-12
 #[test]
 fn refused_starts_over_a_good_table() {
     assert_course(
@@ -868,6 +1002,7 @@ fn refused_starts_over_a_good_table() {
     );
 }
 
+// C-6
 #[test]
 fn pieces_of_two_clients() {
     assert_course(
@@ -885,6 +1020,7 @@ fn pieces_of_two_clients() {
     );
 }
 
+// C-6
 #[test]
 fn several_lines_in_one_piece() {
     assert_course(
@@ -903,6 +1039,7 @@ fn several_lines_in_one_piece() {
     );
 }
 
+// C-2
 #[test]
 fn times_that_go_back() {
     assert_course(
@@ -925,6 +1062,7 @@ fn times_that_go_back() {
     );
 }
 
+// T-35
 #[test]
 fn notes_that_are_not_told() {
     assert_course(
@@ -959,6 +1097,7 @@ fn assert_faulty(name: &str, table: &[&[u8]], number: u8) {
     );
 }
 
+// T-37
 #[test]
 fn tables_with_one_fault() {
     let (front, end) = (b"ND\x01s\x00", b"EN");
@@ -1002,6 +1141,7 @@ fn tables_with_one_fault() {
     );
 }
 
+// T-37
 #[test]
 fn tables_with_two_faults() {
     let (front, end) = (b"ND\x01s\x00", b"EN");
@@ -1026,6 +1166,7 @@ fn tables_with_two_faults() {
     );
 }
 
+// C-10
 #[test]
 fn a_table_counts_before_what_a_call_is_lent() {
     assert_course(
@@ -1037,6 +1178,7 @@ fn a_table_counts_before_what_a_call_is_lent() {
     );
 }
 
+// V-9
 #[test]
 fn whole_numbers_of_a_scaled() {
     assert_course(
@@ -1066,6 +1208,7 @@ fn whole_numbers_of_a_scaled() {
     );
 }
 
+// V-13
 #[test]
 fn sizes_of_a_blob() {
     assert_course(
@@ -1097,6 +1240,7 @@ fn sizes_of_a_blob() {
     );
 }
 
+// T-14
 #[test]
 fn scaled_and_blobs_inside() {
     assert_course(
@@ -1117,6 +1261,7 @@ fn scaled_and_blobs_inside() {
     );
 }
 
+// L-15, L-24
 #[test]
 fn the_next_edition() {
     assert_course(
@@ -1140,6 +1285,7 @@ fn the_next_edition() {
     );
 }
 
+// L-24
 #[test]
 fn refused_checks() {
     assert_course(
@@ -1169,6 +1315,7 @@ fn refused_checks() {
     );
 }
 
+// L-24
 #[test]
 fn checks_of_stored_forms() {
     assert_course(
@@ -1186,6 +1333,7 @@ fn checks_of_stored_forms() {
     );
 }
 
+// L-24
 #[test]
 fn checks_that_store_nothing() {
     assert_course(
@@ -1211,6 +1359,7 @@ fn checks_that_store_nothing() {
     );
 }
 
+// L-24, L-26
 #[test]
 fn checks_without_the_record() {
     assert_course(

@@ -15,6 +15,7 @@ fn double_up_to(mantissa: i64, power: i8) -> Datainfo {
     }
 }
 
+// V-5, V-6, V-8
 #[test]
 fn e1_to_e8_values_of_a_double() {
     let to_300 = double_up_to(300, 0);
@@ -40,6 +41,7 @@ fn e1_to_e8_values_of_a_double() {
     }
 }
 
+// L-13, L-18
 #[test]
 fn e9_activate_with_a_parameter_names_the_module_alone() {
     let mut node = started(&lab(), &[0], 5);
@@ -47,12 +49,14 @@ fn e9_activate_with_a_parameter_names_the_module_alone() {
     assert_eq!(line_of(records.last().unwrap()), "active t1");
 }
 
+// L-17
 #[test]
 fn e10_ping_without_a_token_leaves_two_spaces() {
     let mut node = started(&lab(), &[0], 5);
     assert_eq!(ask(&mut node, 0, 5, "ping"), r#"pong  [null,{"t":0.005}]"#);
 }
 
+// L-3
 #[test]
 fn e11_an_empty_line_has_neither_action_nor_specifier() {
     let mut node = started(&lab(), &[0], 5);
@@ -62,6 +66,7 @@ fn e11_an_empty_line_has_neither_action_nor_specifier() {
     );
 }
 
+// L-1
 #[test]
 fn e12_return_and_line_feed_in_two_pieces_end_one_line() {
     let mut node = started(&lab(), &[0], 5);
@@ -72,6 +77,7 @@ fn e12_return_and_line_feed_in_two_pieces_end_one_line() {
     assert_eq!(written, [&b"RP\x00\x00\x1a"[..], line].concat());
 }
 
+// L-21, C-20 to C-22
 #[test]
 fn the_outbox_example_byte_for_byte() {
     let kelvin = double((0, 0), (300, 0));
@@ -96,6 +102,7 @@ fn the_outbox_example_byte_for_byte() {
     assert_eq!(written, expected.concat());
 }
 
+// L-11
 #[test]
 fn times_are_written_in_seconds_with_three_decimals() {
     let expected = [

@@ -49,6 +49,7 @@ fn number(min: i64, max: i64) -> (Vec<u8>, &'static str) {
     (int(min, max), "0")
 }
 
+//
 #[test]
 fn the_lines_of_the_document() {
     let mode = enumeration(&[("off", 0), ("on", 1)]);
@@ -69,6 +70,7 @@ fn the_lines_of_the_document() {
     assert_eq!(figures(&parameters, &events), expected);
 }
 
+//
 #[test]
 fn only_accepted_settings_count_and_the_same_value_counts_again() {
     let events = [
@@ -91,6 +93,7 @@ fn only_accepted_settings_count_and_the_same_value_counts_again() {
     assert_eq!(figures(&[number(0, 20)], &failed), ["p0 count 0 none"]);
 }
 
+//
 #[test]
 fn minus_zero_is_zero_and_sums_are_exact() {
     let events = [reading(0, "-0"), reading(0, "-0")];
@@ -105,6 +108,7 @@ fn minus_zero_is_zero_and_sums_are_exact() {
     assert_eq!(figures(&[number(-1 << 31, (1 << 31) - 1)], &ends), expected);
 }
 
+//
 #[test]
 fn limits_of_32_bits_are_within_and_one_more_is_not() {
     let least = -1 << 31;
@@ -132,6 +136,7 @@ fn limits_of_32_bits_are_within_and_one_more_is_not() {
     assert_eq!(wide, ["p0 count 0"]);
 }
 
+//
 #[test]
 fn other_types_have_a_count_only() {
     let parameters = [
@@ -156,6 +161,7 @@ fn other_types_have_a_count_only() {
     assert_eq!(figures(&parameters, &events), expected);
 }
 
+//
 #[test]
 fn a_change_of_part_of_a_struct_counts() {
     let pair = partial(&[(1, "a", int(0, 9)), (1, "b", int(0, 9))]);
@@ -170,6 +176,7 @@ fn a_change_of_part_of_a_struct_counts() {
     );
 }
 
+//
 #[test]
 fn a_parameter_is_full_at_65_535_settings_and_keeps_those() {
     // By the residues of 7 k, 19 settings in a row are -9 to 9, which sum to 0.
@@ -191,6 +198,7 @@ fn a_parameter_is_full_at_65_535_settings_and_keeps_those() {
     }
 }
 
+//
 #[test]
 fn figures_come_last_and_none_after_a_refused_start() {
     let table = one_module(&[pa("p", "", 0, &int(0, 9), b"1")]);

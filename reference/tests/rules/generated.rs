@@ -142,6 +142,7 @@ fn fitting_values_fit_with_or_without_spaces() {
     }
 }
 
+// V-22
 #[test]
 fn values_of_256_bytes_fit_and_those_of_257_do_not() {
     let mut made = 0;
@@ -180,6 +181,7 @@ fn has_enum(datainfo: &Datainfo) -> bool {
 }
 
 /// Names are put in at any depth, so that texts of all lengths meet the limit.
+// V-19 to V-21
 #[test]
 fn sent_values_are_stored_as_the_fitting_ones_they_are_made_of() {
     let (mut grown, mut shrunk) = (0, 0);
@@ -232,6 +234,7 @@ pub fn some_histories() -> impl Iterator<Item = History> {
     (0..400).map(|seed| histories::history(seed, 60))
 }
 
+// H-6 to H-9
 #[test]
 fn histories_hold_together() {
     let mut all = Seen::default();
@@ -249,6 +252,7 @@ fn histories_hold_together() {
 
 /// Targets are changed with a status that becomes busy, seen by somebody or
 /// not, and without.
+// L-22
 #[test]
 fn histories_change_targets() {
     let (mut seen, mut unseen, mut without) = (0, 0, 0);
@@ -289,6 +293,7 @@ fn changed_target(record: &Record) -> Option<String> {
 
 /// What a client's counts are by what was used and sent since its last accepted
 /// open.
+// H-11
 #[test]
 fn counts_are_those_of_the_history() {
     let mut counted = 0;
@@ -325,6 +330,7 @@ fn counts_are_those_of_the_history() {
 
 /// Where a table has notes, a node answers and ends as on the table without
 /// them.
+// T-35
 #[test]
 fn notes_alter_no_answer() {
     let mut count = 0;
@@ -449,7 +455,15 @@ pub fn course(history: &History) -> (Vec<Vec<Vec<u8>>>, Vec<String>) {
     let mut events = Vec::new();
     for (call, answer) in history.calls.iter().zip(&outcome.answers) {
         match call {
-            _ if !answer.is_accepted() => {}
+            _ if !answer.has_effect() => {}
+            Call::Lend { .. } => {}
+            Call::Readings { rows, texts, .. } => {
+                for row in &rows[..answer.taken] {
+                    let (parameter, time) = (row.parameter, row.time);
+                    let text = row.text(texts).expect("a text in its buffer");
+                    events.push(format!("reading {parameter} {time} {text:?}"));
+                }
+            }
             Call::Start { time, .. } => events.push(format!("start {time}")),
             Call::Open { client, time, .. } => {
                 streams[*client as usize].push(Vec::new());
@@ -492,15 +506,16 @@ pub fn course(history: &History) -> (Vec<Vec<Vec<u8>>>, Vec<String>) {
     (streams, events)
 }
 
+// H-4, H-5
 #[test]
 fn second_histories_send_the_same_and_end_the_same() {
-    let (mut compared, mut mingled) = (0, 0);
+    let (mut compared, mut mingled, mut other_steps) = (0, 0, 0);
     for (seed, first) in some_histories().enumerate() {
         let Some(second) = second::second(&first, seed as u64) else {
             continue;
         };
         let (one, other) = (first.run().unwrap(), second.run().unwrap());
-        assert!(other.answers.iter().all(|answer| answer.is_accepted()));
+        assert!(other.answers.iter().all(|answer| answer.has_effect()));
         assert_eq!(course(&first), course(&second));
         let sent = |answers: &[reference::history::Answer]| -> Vec<u8> {
             answers
@@ -512,8 +527,13 @@ fn second_histories_send_the_same_and_end_the_same() {
         assert_eq!(one.end, other.end);
         compared += 1;
         mingled += usize::from(first.calls != second.calls);
+        let steps = |answers: &[reference::history::Answer]| -> usize {
+            answers.iter().map(|answer| answer.steps).sum()
+        };
+        other_steps += usize::from(steps(&one.answers) != steps(&other.answers));
     }
     assert!(compared > 250 && mingled > 250, "{compared} {mingled}");
+    assert!(other_steps > 150, "{other_steps}");
 }
 
 #[test]
@@ -588,7 +608,7 @@ fn the_printed_histories_have_all_kinds_of_records_and_numbers_but_6_and_9() {
         .iter()
         .flat_map(|one| one.numbers[1..].to_vec())
         .collect();
-    let expected = (0..=16).filter(|number| ![6, 9].contains(number));
+    let expected = (0..=18).filter(|number| ![6, 9, 17].contains(number));
     assert_eq!(later, expected.collect());
 }
 

@@ -4,6 +4,7 @@
 use crate::build::*;
 use crate::program::{printed, printed_bytes};
 use reference::history::{Answer, Call};
+use reference::index::{FREE, INDEX};
 use reference::kept::Kept;
 use reference::node::MAX_TIME;
 use reference::operation::{input, output, Operation, Poke};
@@ -73,7 +74,7 @@ fn unreadable(parameter: u64, class: u64) -> Call {
 fn begun(table: &[u8]) -> Kept {
     let mut kept = Kept::new(VALUES);
     for call in [start(), open(0), piece(0, "ping"), reading(0, "4")] {
-        assert_eq!(kept.call(table, &call).number, 0);
+        assert_eq!(kept.call(table, &[], &call).number, 0);
     }
     kept
 }
@@ -99,7 +100,7 @@ fn assert_unfit(pokes: &[Poke]) {
             number: 9,
             ..Answer::default()
         };
-        assert_eq!(after.call(&two_parameters(), &call), unfit);
+        assert_eq!(after.call(&two_parameters(), &[], &call), unfit);
         assert_eq!(after, kept);
     }
 }
@@ -108,7 +109,7 @@ fn assert_unfit(pokes: &[Poke]) {
 fn assert_fit(pokes: &[Poke]) {
     let mut kept = poked(pokes);
     for call in [open(1), piece(0, "\n"), reading(0, "5"), close(0)] {
-        assert_eq!(kept.call(&two_parameters(), &call).number, 0);
+        assert_eq!(kept.call(&two_parameters(), &[], &call).number, 0);
     }
 }
 
@@ -128,6 +129,7 @@ fn long_value(length: u16) -> [Poke; 2] {
     ]
 }
 
+// C-17
 #[test]
 fn unfit_settings() {
     assert_unfit(&long_value(257));
@@ -144,13 +146,14 @@ fn unfit_settings() {
 }
 
 /// Stored values have numbers: a name is unfit, even one as long as its number.
+// C-17, V-23
 #[test]
 fn unfit_names() {
     let modes = enumeration(&[("off", 0), ("on", 1_000)]);
     let table = one_module(&[pa("m", "", 0, &modes, b"0")]);
     let mut kept = Kept::new(VALUES);
     for call in [start(), open(0), reading(0, "\"on\"")] {
-        assert_eq!(kept.call(&table, &call).number, 0);
+        assert_eq!(kept.call(&table, &[], &call).number, 0);
     }
     assert!(kept.values.starts_with(b"1000\0") && kept.is_fit(&table));
     for name in ["\"on\"", "\"off\"", "\"no\""] {
@@ -163,6 +166,7 @@ fn unfit_names() {
 }
 
 /// Classes 1 to 4 are fit; what is stored behind an error is judged as ever.
+// C-17
 #[test]
 fn unfit_errors() {
     for class in 0..=4 {
@@ -182,24 +186,26 @@ fn unfit_errors() {
 
 /// An error writes its class and its time, and nothing else; the next value
 /// takes its class away.
+// L-28, C-17
 #[test]
 fn errors_leave_the_stored_value() {
     let table = two_parameters();
     let mut kept = begun(&table);
     let before = kept.clone();
-    assert_eq!(kept.call(&table, &unreadable(0, 3)).number, 0);
+    assert_eq!(kept.call(&table, &[], &unreadable(0, 3)).number, 0);
     let mut expected = before.clone();
     expected.settings[0].error = 3;
     expected.settings[0].time = 9;
     assert_eq!(kept, expected);
-    assert_eq!(kept.call(&table, &unreadable(1, 4)).number, 0);
+    assert_eq!(kept.call(&table, &[], &unreadable(1, 4)).number, 0);
     assert_eq!((kept.settings[1].length, kept.settings[1].error), (0, 4));
     assert_eq!(kept.values, before.values);
-    assert_eq!(kept.call(&table, &reading(0, "5")).number, 0);
+    assert_eq!(kept.call(&table, &[], &reading(0, "5")).number, 0);
     assert_eq!((kept.settings[0].length, kept.settings[0].error), (1, 0));
     assert_eq!((kept.settings[0].time, kept.values[0]), (8, b'5'));
 }
 
+// C-18
 #[test]
 fn unfit_clients() {
     let line = |bytes: &str, length| {
@@ -221,6 +227,7 @@ fn unfit_clients() {
     assert_fit(&[Poke::Counts(7, 1)]);
 }
 
+// C-18
 #[test]
 fn unfit_closed_clients() {
     assert_unfit(&[Poke::LineLength(7, 1)]);
@@ -230,13 +237,15 @@ fn unfit_closed_clients() {
     assert_fit(&[Poke::Lines(7_168, b"\n".to_vec())]);
 }
 
-/// Of the other numbers those up to 8 are lower.
+/// Of the other numbers those up to 8 are judged before it, and 18.
+// C-10
 #[test]
 fn unfit_with_other_faults() {
-    let number = |table: &[u8], call| {
+    let lent = |table: &[u8], index: &[u8], call| {
         let mut kept = poked(&[Poke::Overlong(7, 1)]);
-        kept.call(table, &call).number
+        kept.call(table, index, &call).number
     };
+    let number = |table: &[u8], call| lent(table, &[], call);
     let good = two_parameters();
     assert_eq!(number(b"", open(1)), 1);
     let short = |values_len, outbox_len, time| Call::Piece {
@@ -253,6 +262,11 @@ fn unfit_with_other_faults() {
     assert_eq!(number(&good, short(VALUES - 1, OUTBOX, MAX_TIME + 1)), 8);
     assert_eq!(number(&good, short(VALUES, OUTBOX, MAX_TIME + 1)), 9);
     assert_eq!(number(&good, start()), 0);
+    let too_short = [FREE; INDEX - 1];
+    assert_eq!(lent(&good, &too_short, short(VALUES - 1, OUTBOX, 0)), 8);
+    assert_eq!(lent(&good, &too_short, short(VALUES, OUTBOX, 0)), 18);
+    assert_eq!(lent(&good, &[FREE; INDEX], short(VALUES, OUTBOX, 0)), 9);
+    assert_eq!(lent(&good, &too_short, start()), 0);
 }
 
 /// The sum of the bytes, each times a power of 257, by its remainder.
@@ -276,6 +290,14 @@ fn what_a_program_is_to_print() {
         Operation::Call(open(1)),
         Operation::Call(close(0)),
         Operation::Call(piece(1, "change t1:p  5 \nx")),
+        Operation::Call(Call::Lend {
+            index: vec![7; INDEX - 1],
+        }),
+        Operation::Call(close(1)),
+        Operation::Call(Call::Lend {
+            index: vec![7; INDEX],
+        }),
+        Operation::Call(piece(1, "read t1:q\n")),
         Operation::Call(piece(1, "\\")),
         Operation::Poke(Poke::Open(3, 7)),
         Operation::Poke(Poke::Overlong(3, 9)),
@@ -288,16 +310,24 @@ fn what_a_program_is_to_print() {
     let order = [&b"DR\x01\x00\x02\x005"[..], b"RP\x01\x00\x1d"].concat();
     let written = [&order[..], b"changed t1:p [5,{\"t\":0.007}]\n"].concat();
     assert_eq!(written.len(), 7 + 5 + 29);
-    let rest: Vec<u8> = pattern.skip(written.len()).collect();
+    let rest: Vec<u8> = pattern.clone().skip(written.len()).collect();
     let sent = digest([written, rest].concat().into_iter());
     let values = digest([vec![b'5'], vec![0; 19_999]].concat().into_iter());
+    let error = b"error_read t1:q [\"NoSuchParameter\",\"no such parameter\",{}]\n";
+    let error = [&b"RP\x01\x00\x3b"[..], error].concat();
+    assert_eq!(error.len(), 5 + 59);
+    let rest: Vec<u8> = pattern.skip(error.len()).collect();
+    let told = digest([error, rest].concat().into_iter());
+    // Of the index 128 bytes that offer nothing, and both accessibles.
     let expected = format!(
         "# a\\09b c\n\
-         start 0 0 0 {untouched} 0\n\
-         open 0 0 0 {untouched} 0\n\
-         close 12 0 0 {untouched} 0 kept\n\
-         piece 0 16 41 {sent} {values} DR\\01\\00\\02\\005RP\\01\\00\\1dchanged t1:p [5,{{\"t\":0.007}}]\\0a\n\
-         piece 0 1 0 {untouched} {values}\n\
+         start 0 0 0 0 {untouched} 0\n\
+         open 0 0 0 0 {untouched} 0\n\
+         close 12 0 0 0 {untouched} 0 kept\n\
+         piece 0 16 41 1 {sent} {values} DR\\01\\00\\02\\005RP\\01\\00\\1dchanged t1:p [5,{{\"t\":0.007}}]\\0a\n\
+         close 18 0 0 0 {untouched} {values} kept\n\
+         piece 0 10 64 130 {told} {values} RP\\01\\00;error_read t1:q [\"NoSuchParameter\",\"no such parameter\",{{}}]\\0a\n\
+         piece 0 1 0 0 {untouched} {values}\n\
          client 0 0 0 0 0\n\
          client 1 1 0 0 1 \\5c\n\
          client 2 0 0 0 0\n\
@@ -309,7 +339,7 @@ fn what_a_program_is_to_print() {
          parameter 0 1 0 7\n\
          parameter 1 0 2 5\n\
          counts 0 0 0 0\n\
-         counts 1 1 0 0\n\
+         counts 1 2 1 0\n\
          counts 2 0 0 0\n\
          counts 3 4294967294 4294967294 4294967294\n\
          counts 4 0 0 0\n\
@@ -326,6 +356,9 @@ fn what_a_program_reads() {
         Operation::Table(b"ND".to_vec()),
         Operation::Call(piece(2, "ab")),
         Operation::Call(unreadable(3, 258)),
+        Operation::Call(Call::Lend {
+            index: b"xyz".to_vec(),
+        }),
         Operation::Poke(Poke::StoredTime(63, 258)),
         Operation::Poke(Poke::StoredError(63, 4)),
         Operation::Poke(Poke::Values(256, b"1".to_vec())),
@@ -348,6 +381,11 @@ fn what_a_program_reads() {
         &number(9),
         &[0x40, 0, 0x80, 0, 0, 8],
         &[0, 0, 0, 0, 0, 0, 1, 2],
+        b"I",
+        &number(0),
+        &number(0),
+        &[0, 0, 0, 0, 0, 3],
+        b"xyz",
         b"t",
         &number(63),
         &[0, 0, 0, 0, 0, 0, 1, 2],
@@ -388,11 +426,11 @@ fn the_script_has_every_number() {
     let all = |lowest: u8, highest: u8| (lowest..=highest).collect::<Vec<_>>();
     let expected = [
         ("start", [all(0, 6), vec![8, 10]].concat()),
-        ("open", [all(0, 6), all(8, 11), vec![13]].concat()),
-        ("close", [all(0, 6), all(8, 12)].concat()),
-        ("piece", all(0, 12)),
-        ("reading", [all(0, 10), vec![14, 15]].concat()),
-        ("unreadable", [all(0, 10), vec![14, 16]].concat()),
+        ("open", [all(0, 6), all(8, 11), vec![13, 18]].concat()),
+        ("close", [all(0, 6), all(8, 12), vec![18]].concat()),
+        ("piece", [all(0, 12), vec![18]].concat()),
+        ("reading", [all(0, 10), vec![14, 15, 18]].concat()),
+        ("unreadable", [all(0, 10), vec![14, 16, 18]].concat()),
     ];
     for (name, numbers) in expected {
         let mut found: Vec<u8> = answers

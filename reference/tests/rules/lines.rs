@@ -18,6 +18,7 @@ fn error(action: &str, specifier: &str, class: &str) -> String {
     format!("error_{action} {specifier} [\"{class}\",\"{text}\",{{}}]")
 }
 
+// L-15
 #[test]
 fn identification() {
     let mut node = lab_node(&[0]);
@@ -29,6 +30,7 @@ fn identification() {
     }
 }
 
+// L-17
 #[test]
 fn ping_repeats_its_token() {
     let mut node = lab_node(&[0]);
@@ -47,6 +49,7 @@ fn ping_repeats_its_token() {
     }
 }
 
+// L-20
 #[test]
 fn read_as_in_secop() {
     let mut node = lab_node(&[0]);
@@ -82,6 +85,7 @@ fn read_as_in_secop() {
     }
 }
 
+// L-21
 #[test]
 fn change_as_in_secop() {
     let mut node = lab_node(&[0, 1, 2, 6]);
@@ -130,6 +134,7 @@ fn change_as_in_secop() {
     );
 }
 
+// L-23
 #[test]
 fn do_as_in_secop() {
     let mut node = lab_node(&[3]);
@@ -157,6 +162,7 @@ fn do_as_in_secop() {
     );
 }
 
+// L-18
 #[test]
 fn activate_sends_the_values_first() {
     let mut node = lab_node(&[0, 1]);
@@ -195,6 +201,7 @@ fn activate_sends_the_values_first() {
     assert_eq!(ask(&mut node, 1, 5_000, "activate idle"), "active idle");
 }
 
+// L-18, L-19
 #[test]
 fn activation_is_one_set_of_modules() {
     let mut node = lab_node(&[0]);
@@ -223,6 +230,7 @@ fn activation_is_one_set_of_modules() {
     }
 }
 
+// C-7
 #[test]
 fn a_reading_sends_updates_only() {
     let mut node = lab_node(&[0, 4, 5]);
@@ -243,6 +251,7 @@ fn a_reading_sends_updates_only() {
     );
 }
 
+// L-7, L-9
 #[test]
 fn protocol_errors_repeat_what_was_sent() {
     let mut node = lab_node(&[0]);
@@ -315,6 +324,7 @@ fn protocol_errors_repeat_what_was_sent() {
     );
 }
 
+// L-8, L-10
 #[test]
 fn errors_of_each_class_in_their_order() {
     let mut node = lab_node(&[0]);
@@ -383,6 +393,7 @@ fn errors_of_each_class_in_their_order() {
     assert_eq!(node.state(), &before);
 }
 
+// L-9
 #[test]
 fn errors_repeat_the_whole_specifier() {
     let mut node = lab_node(&[0]);
@@ -396,6 +407,7 @@ fn errors_repeat_the_whole_specifier() {
     );
 }
 
+// V-22
 #[test]
 fn a_change_of_more_than_256_bytes_is_out_of_range() {
     let mut node = lab_node(&[0]);
@@ -408,6 +420,7 @@ fn a_change_of_more_than_256_bytes_is_out_of_range() {
     assert_eq!(records[0].body.len(), 257);
 }
 
+// L-3
 #[test]
 fn bytes_outside_32_to_126_spoil_a_line() {
     let mut node = lab_node(&[0]);
@@ -443,6 +456,7 @@ fn ping_of(length: usize, end: &str) -> String {
     format!("ping {}{end}", "x".repeat(length - 5 - end.len()))
 }
 
+// L-2
 #[test]
 fn a_line_has_at_most_1_024_bytes_before_its_line_feed() {
     let mut node = lab_node(&[0]);
@@ -461,6 +475,7 @@ fn a_line_has_at_most_1_024_bytes_before_its_line_feed() {
     }
 }
 
+// L-2
 #[test]
 fn overlong_lines_in_pieces() {
     use reference::line::Unfinished;
@@ -479,6 +494,7 @@ fn overlong_lines_in_pieces() {
     assert_eq!(node.state().clients[0].line, Unfinished::Bytes(Vec::new()));
 }
 
+// C-6
 #[test]
 fn a_piece_is_used_up_to_its_first_line_feed() {
     let mut node = lab_node(&[0, 1]);
@@ -493,6 +509,7 @@ fn a_piece_is_used_up_to_its_first_line_feed() {
     assert_eq!(written, b"RP\x00\x00\x09inactive\n");
 }
 
+// L-1
 #[test]
 fn a_line_has_the_time_of_its_line_feed() {
     let mut node = lab_node(&[0]);

@@ -1,4 +1,4 @@
-//! The rules of document 01, one by one. What is expected is taken from the
+//! The rules of `docs/RULES.md`, one by one: a test names those that it tries. What is expected is taken from the
 //! documents or worked out by hand from them.
 
 mod build;
@@ -11,6 +11,8 @@ mod generated;
 mod indexes;
 mod kept;
 mod lines;
+mod lists;
+mod page;
 mod partial;
 mod program;
 mod quieter;

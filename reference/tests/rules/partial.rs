@@ -78,6 +78,7 @@ fn orders(places: &[usize]) -> Vec<Vec<usize>> {
     all
 }
 
+// V-17, V-21
 #[test]
 fn every_part_in_every_order() {
     for given in 0..32u8 {
@@ -97,6 +98,7 @@ fn every_part_in_every_order() {
     }
 }
 
+// V-17
 #[test]
 fn only_optional_members_are_left_out() {
     let mut node = node([1, 0, 1, 1, 1]);
@@ -106,6 +108,7 @@ fn only_optional_members_are_left_out() {
     assert_eq!(asked(&mut node, r#" { "i" : 5 } "#), changed(merged));
 }
 
+// V-16
 #[test]
 fn keys_twice_and_unknown_keys() {
     for data in [
@@ -124,6 +127,7 @@ fn keys_twice_and_unknown_keys() {
     assert_eq!(asked(&mut node([1; 5]), r#"{"p":101}"#), RANGE);
 }
 
+// V-22
 #[test]
 fn counted_after_the_merge() {
     for (length, fits) in [(255, true), (256, true), (257, false)] {
@@ -136,6 +140,7 @@ fn counted_after_the_merge() {
     }
 }
 
+// V-18
 #[test]
 fn in_error_nothing_is_left_out() {
     let mut node = node([1; 5]);
@@ -151,6 +156,62 @@ fn in_error_nothing_is_left_out() {
     assert_eq!(asked(&mut node, r#"{"p":7}"#), changed(&merged));
 }
 
+// V-17, V-18, L-24
+/// Five settings of which only the mode is required, over a table of the next
+/// edition, and client 5 watches.
+#[test]
+fn two_of_five_settings_are_checked_and_changed() {
+    let percent = || int(0, 100);
+    let settings = partial(&[
+        (0, "mode", enumeration(&[("off", 0), ("on", 1)])),
+        (1, "p", percent()),
+        (1, "i", percent()),
+        (1, "limit", double((0, 0), (300, 0))),
+        (1, "name", string(0, 8)),
+    ]);
+    let initial = br#"{"mode":0,"p":20,"i":3,"limit":300,"name":"a b"}"#;
+    let table = table(&[
+        ed("ISSE,SECoP,x"),
+        mo("t1", "stage"),
+        pa("heater", "settings", 0, &settings, initial),
+    ]);
+    let mut node = started(&table, &[2, 5], 0);
+    send(&mut node, 5, 0, "activate t1");
+    let sent =
+        |node: &mut Node, time: u64, line: &str| crate::build::shown(&send(node, 2, time, line));
+    let wrong = [format!("2 < {WRONG}")];
+    let merged = r#"{"mode":1,"p":20,"i":6,"limit":300,"name":"a b"}"#;
+    assert_eq!(
+        sent(&mut node, 1_000, r#"check t1:heater {"i":6,"mode":"on"}"#),
+        [format!(r#"2 < checked t1:heater [{merged},{{"t":1.000}}]"#)]
+    );
+    let line = r#"change t1:heater { "i" : 6, "mode" : "on" }"#;
+    assert_eq!(
+        sent(&mut node, 1_500, line),
+        [
+            format!("2 DR 0 {merged}"),
+            format!(r#"5 * update t1:heater [{merged},{{"t":1.500}}]"#),
+            format!(r#"2 < changed t1:heater [{merged},{{"t":1.500}}]"#),
+        ]
+    );
+    let line = r#"change t1:heater {"i":7}"#;
+    assert_eq!(sent(&mut node, 2_000, line), wrong);
+    assert!(node.unreadable(0, VALUES, OUTBOX, 2_500, 1).is_ok());
+    let line = r#"change t1:heater {"mode":0}"#;
+    assert_eq!(sent(&mut node, 3_000, line), wrong);
+    let line = r#"change t1:heater {"name":"","limit":1e1,"i":7,"p":0,"mode":0}"#;
+    let whole = r#"{"mode":0,"p":0,"i":7,"limit":1e1,"name":""}"#;
+    assert_eq!(
+        sent(&mut node, 3_500, line),
+        [
+            format!("2 DR 0 {whole}"),
+            format!(r#"5 * update t1:heater [{whole},{{"t":3.500}}]"#),
+            format!(r#"2 < changed t1:heater [{whole},{{"t":3.500}}]"#),
+        ]
+    );
+}
+
+// V-17
 #[test]
 fn all_are_required_elsewhere() {
     let inner = partial(&[(1, "a", boolean()), (1, "b", boolean())]);
@@ -179,6 +240,7 @@ fn all_are_required_elsewhere() {
     );
 }
 
+// V-21, T-27
 #[test]
 fn in_table_order() {
     let info = partial(&[(1, "a", boolean()), (0, "b", boolean())]);
@@ -192,6 +254,7 @@ fn in_table_order() {
     assert_eq!(stored, Ok(br#"{"a":true,"b":false}"#.to_vec()));
 }
 
+// T-25, T-33
 #[test]
 fn flags_in_the_layout_and_in_the_report() {
     let inner = partial(&[(1, "x", boolean())]);
@@ -236,6 +299,7 @@ fn changers(history: &History, answers: &[Answer]) -> Vec<u64> {
     pieces.filter_map(one).collect()
 }
 
+// V-17, H-5
 #[test]
 fn parts_by_turns_in_second_histories() {
     let mut several = 0;
@@ -243,7 +307,7 @@ fn parts_by_turns_in_second_histories() {
         let first = turns::history(seed);
         let second = second::second(&first, seed + 1_000).expect("one accepted start");
         let (one, other) = (first.run().unwrap(), second.run().unwrap());
-        assert!(other.answers.iter().all(|answer| answer.is_accepted()));
+        assert!(other.answers.iter().all(|answer| answer.has_effect()));
         let sent = |answers: &[Answer]| -> Vec<u8> {
             let outboxes = answers.iter().map(|answer| &answer.outbox[..]);
             outboxes.collect::<Vec<_>>().concat()

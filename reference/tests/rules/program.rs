@@ -63,6 +63,11 @@ fn run_answers_a_history_written_by_hand() {
          piece 2 16384 32768 6 70\n\
          reading 0 16384 32768 7 66616c7365 = -\n\
          reading 1 16384 32768 7 -\n\
+         readings 16384 32768 66616c7365 0,8,0,5 1,8,0,5\n\
+         readings 16384 32768 -\n\
+         index 00\n\
+         unreadable 0 16384 32768 8 257\n\
+         index -\n\
          unreadable 0 16384 32768 8 257\n\
          unreadable 0 16384 32768 9 2 = 0\n\
          close 1 16384 10000000000000\n\
@@ -77,11 +82,16 @@ fn run_answers_a_history_written_by_hand() {
          start 16384 5 = 0\n\
          open 2 16384 5 = 0\n\
          open 2 16384 5 = 13\n\
-         piece 2 16384 32768 5 {change}70 = 0 16 4452020005007472756552500200\
+         piece 2 16384 32768 5 {change}70 = 0 16 1 4452020005007472756552500200\
          1f{reply}\n\
-         piece 2 16384 32768 6 70 = 0 1 -\n\
+         piece 2 16384 32768 6 70 = 0 1 0 -\n\
          reading 0 16384 32768 7 66616c7365 = 0 -\n\
          reading 1 16384 32768 7 - = 14 -\n\
+         readings 16384 32768 66616c7365 0,8,0,5 1,8,0,5 = 14 1 -\n\
+         readings 16384 32768 - = 0 0 -\n\
+         index 00\n\
+         unreadable 0 16384 32768 8 257 = 18 -\n\
+         index -\n\
          unreadable 0 16384 32768 8 257 = 16 -\n\
          unreadable 0 16384 32768 9 2 = 0 -\n\
          close 1 16384 10000000000000 = 10\n\
@@ -227,6 +237,14 @@ fn definitions_of_a_refused_start() {
                 time: 7,
                 bytes: b"'\\u{0}\"\0\x7f\n".to_vec(),
             },
+            Call::Lend {
+                index: b"\xff1".to_vec(),
+            },
+            Call::Close {
+                client: 7,
+                values_len: 1,
+                time: 8,
+            },
         ],
     };
     // No module: number 2, for every call.
@@ -241,10 +259,12 @@ history-1 =
       calls =
           withArea (Open 7 6) 1
           ∷ withOutbox (Piece 0 (bytes "'\\u{0}\"\0\u{7f}\n") 7) 2 3
+          ∷ beside (bytes "ÿ1") (withArea (Close 7 8) 1)
           ∷ [];
       due =
-          record { number = 2; used = 0; written = bytes "" }
-          ∷ record { number = 2; used = 0; written = bytes "" }
+          record { number = 2; used = 0; written = bytes ""; steps = 0 }
+          ∷ record { number = 2; used = 0; written = bytes ""; steps = 0 }
+          ∷ record { number = 2; used = 0; written = bytes ""; steps = 0 }
           ∷ [];
     }
 

@@ -53,6 +53,7 @@ fn evening() -> History {
     }
 }
 
+// H-12
 #[test]
 fn ones_own_lines_and_accepted_changes_stay() {
     let first = evening();
@@ -72,6 +73,7 @@ fn ones_own_lines_and_accepted_changes_stay() {
     }
 }
 
+// H-12
 #[test]
 fn whole_lines_go_and_all_else_stays() {
     for (seed, first) in some_histories().enumerate() {
@@ -113,6 +115,7 @@ fn ends(history: &History) -> (Vec<Record>, State) {
     (outbox::read(&sent).unwrap(), outcome.end)
 }
 
+// H-12
 #[test]
 fn left_out_lines_are_nothing_to_the_client() {
     let (mut lines, mut commands, mut errors) = (0, 0, 0);

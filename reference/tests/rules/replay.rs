@@ -41,6 +41,7 @@ fn without_figures(text: &[u8]) -> String {
     others.map(|line| format!("{line}\n")).collect()
 }
 
+//
 #[test]
 fn a_record_has_mark_number_time_length_and_bytes() {
     let event = Event {
@@ -55,11 +56,13 @@ fn a_record_has_mark_number_time_length_and_bytes() {
     assert_eq!(marks, [b"EO", b"EC", b"EP", b"ER", b"EF"]);
 }
 
+//
 #[test]
 fn an_empty_trace_shows_initial_values() {
     assert_eq!(stage(&[]), "t1:target 4\nt1:mode 0\n");
 }
 
+//
 #[test]
 fn each_event_makes_its_call() {
     let trace = [
@@ -78,6 +81,7 @@ fn each_event_makes_its_call() {
     assert_eq!(stage(&trace[..3]), "t1:target 12\nt1:mode 1\n");
 }
 
+//
 #[test]
 fn an_error_is_told_by_its_class_until_a_value_comes() {
     let names = [
@@ -95,6 +99,7 @@ fn an_error_is_told_by_its_class_until_a_value_comes() {
     }
 }
 
+//
 #[test]
 fn unused_bytes_are_offered_again_and_a_half_line_stays() {
     let trace = [
@@ -106,6 +111,7 @@ fn unused_bytes_are_offered_again_and_a_half_line_stays() {
     assert_eq!(stage(&trace), "t1:target 1\nt1:mode 1\n");
 }
 
+//
 #[test]
 fn refused_events_are_counted_by_number_lowest_first() {
     let trace = [
@@ -125,6 +131,7 @@ fn refused_events_are_counted_by_number_lowest_first() {
     assert_eq!(stage(&trace), format!("t1:target 4\nt1:mode 0\n{refused}"));
 }
 
+//
 #[test]
 fn a_wrong_mark_or_length_ends_the_replay_at_its_record() {
     let first = record(b"ER", 0, 5, b"7");
@@ -152,6 +159,7 @@ fn a_wrong_mark_or_length_ends_the_replay_at_its_record() {
     );
 }
 
+//
 #[test]
 fn a_half_record_is_told_and_not_run() {
     let first = record(b"ER", 0, 5, b"7");
@@ -169,6 +177,7 @@ fn a_half_record_is_told_and_not_run() {
     assert_eq!(stage(&[b"X".to_vec()]), "t1:target 4\nt1:mode 0\nhalf 0\n");
 }
 
+//
 #[test]
 fn the_longest_piece_and_reading_are_taken() {
     let mut spaces = vec![b' '; 4_095];
@@ -186,6 +195,7 @@ fn the_longest_piece_and_reading_are_taken() {
     assert_eq!(stage(&trace), "t1:target 1\nt1:mode 0\n");
 }
 
+//
 #[test]
 fn a_refused_start_tells_its_number_only() {
     let trace = record(b"EO", 0, 5, b"");
@@ -196,6 +206,7 @@ fn a_refused_start_tells_its_number_only() {
     assert!(told(&lab(), MAX_TIME, b"").starts_with(b"t1:value 295.13\n"));
 }
 
+//
 #[test]
 fn outboxes_are_handed_on_in_order() {
     let mut replay = Replay::start(&lab(), 5).expect("a good table");
@@ -224,6 +235,7 @@ fn in_pieces(random: &mut Random, night: &Night) -> Option<Replay> {
     Some(replay)
 }
 
+//
 #[test]
 fn a_trace_may_arrive_cut_anywhere() {
     for seed in 0..300 {
@@ -284,6 +296,7 @@ fn generated_nights_reach_all_that_may_be_told() {
     assert_eq!(all, expected);
 }
 
+//
 #[test]
 fn the_directed_night_is_told_as_worked_out() {
     let Night { table, time, trace } = nights::directed();

@@ -20,11 +20,13 @@ fn argument_report(argument: &[u8]) -> String {
 
 const WHOLE: &str = r#"{"modules":{"t1":{"interface_classes":[],"description":"stage","accessibles":{"value":{"description":"reading","readonly":true,"datainfo":{"type":"double","min":0,"max":300}},"mode":{"description":"heater","readonly":false,"datainfo":{"type":"enum","members":{"off":0,"on":1}}},"stop":{"description":"stop","datainfo":{"type":"command"}}}}},"equipment_id":"demo","description":"one stage"}"#;
 
+// T-31 to T-34
 #[test]
 fn the_whole_report_of_document_01() {
     assert_eq!(report_of(&report_example()), WHOLE);
 }
 
+// L-16
 #[test]
 fn describe_sends_the_report_whatever_follows() {
     let mut node = started(&report_example(), &[4], 0);
@@ -34,6 +36,7 @@ fn describe_sends_the_report_whatever_follows() {
     }
 }
 
+// T-35
 #[test]
 fn notes_are_left_out() {
     let noted = table(&[
@@ -50,6 +53,7 @@ fn notes_are_left_out() {
     assert_eq!(report_of(&plain), expected);
 }
 
+// T-33
 #[test]
 fn the_keys_of_each_type_stand_in_order() {
     let expected = [

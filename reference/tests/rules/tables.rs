@@ -21,6 +21,7 @@ fn parameter_number(datainfo: &[u8], initial: &[u8]) -> u8 {
     number(&one_module(&[pa("p", "", 0, datainfo, initial)]))
 }
 
+// T-2, T-3
 #[test]
 fn a_table_is_read_as_it_is_written() {
     let bytes = [
@@ -63,6 +64,7 @@ fn a_table_is_read_as_it_is_written() {
     );
 }
 
+// T-37
 #[test]
 fn good_tables() {
     assert_eq!(number(&lab()), 0);
@@ -72,6 +74,7 @@ fn good_tables() {
     assert_eq!(number(&empty_texts), 0);
 }
 
+// T-6
 #[test]
 fn number_1_every_cut_and_every_addition() {
     let bytes = lab();
@@ -83,6 +86,7 @@ fn number_1_every_cut_and_every_addition() {
     }
 }
 
+// T-3, T-6
 #[test]
 fn number_1_records_out_of_place() {
     let (module, note, command) = (mo("m", ""), no(""), cm("c", ""));
@@ -111,6 +115,7 @@ fn number_1_records_out_of_place() {
     }
 }
 
+// T-3, T-6
 #[test]
 fn number_1_an_edition_out_of_place() {
     let (module, note, command) = (mo("m", ""), no(""), cm("c", ""));
@@ -136,6 +141,7 @@ fn number_1_an_edition_out_of_place() {
     }
 }
 
+// T-11
 #[test]
 fn number_3_an_edition_that_begins_otherwise() {
     let number_of = |text: &str| number(&table(&[ed(text), mo("m", "")]));
@@ -174,6 +180,7 @@ fn number_3_an_edition_that_begins_otherwise() {
     assert_eq!(number(&table(&[ed("x"), mo("m", ""), limits])), 3);
 }
 
+// T-5, T-6
 #[test]
 fn number_1_flags_and_types() {
     for flag in [2, 3, 127, 128, 255] {
@@ -190,6 +197,7 @@ fn number_1_flags_and_types() {
     }
 }
 
+// T-23, T-24
 #[test]
 fn a_scaled_and_a_blob_are_read_as_they_are_written() {
     let scaled_bytes = [
@@ -234,6 +242,7 @@ fn a_scaled_and_a_blob_are_read_as_they_are_written() {
     }
 }
 
+// T-14
 #[test]
 fn number_1_a_fifth_level() {
     let wrap = |inner: &[u8]| array(0, 1, inner);
@@ -256,6 +265,7 @@ fn number_1_a_fifth_level() {
     }
 }
 
+// T-1
 #[test]
 fn number_1_more_than_16_384_bytes() {
     // Each command: 2 for the mark, 1 + 3 name, 1 + 255 description, 1 flag.
@@ -274,6 +284,7 @@ fn number_1_more_than_16_384_bytes() {
     assert_eq!(number(&padded(16_385)), 1);
 }
 
+// T-12
 #[test]
 fn number_2_counts_of_modules_and_accessibles() {
     let modules =
@@ -293,6 +304,7 @@ fn number_2_counts_of_modules_and_accessibles() {
     assert_eq!(number(&spread(25)), 2);
 }
 
+// T-8
 #[test]
 fn number_3_bad_names() {
     let longest = "n".repeat(63);
@@ -316,6 +328,7 @@ fn number_3_bad_names() {
     }
 }
 
+// T-9
 #[test]
 fn number_3_repeated_names() {
     assert_eq!(number(&table(&[mo("abc", ""), mo("aBc", "")])), 3);
@@ -349,6 +362,7 @@ fn number_3_repeated_names() {
     assert_eq!(number(&table(&[mo("a_", ""), mo("a", "")])), 0);
 }
 
+// T-10
 #[test]
 fn number_3_bad_texts() {
     let good = " !#[]~";
@@ -369,6 +383,7 @@ fn number_3_bad_texts() {
     }
 }
 
+// T-26
 #[test]
 fn number_4_limits_in_the_wrong_order() {
     assert_eq!(argument_number(&double((3, 2), (300, 0))), 0);
@@ -388,6 +403,7 @@ fn number_4_limits_in_the_wrong_order() {
     assert_eq!(argument_number(&array(1, 0, &boolean())), 4);
 }
 
+// T-23, T-26
 #[test]
 fn number_4_scales_and_limits_of_scaled_and_blob() {
     let scale = |mantissa, power| argument_number(&scaled((mantissa, power), 0, 1));
@@ -417,6 +433,7 @@ fn number_4_scales_and_limits_of_scaled_and_blob() {
     assert_eq!(parameter_number(&scaled((0, 0), 0, 1), b"2"), 4);
 }
 
+// T-26
 #[test]
 fn number_4_powers_counts_and_enum_values() {
     for power in [-128, -31, 31, 127] {
@@ -451,6 +468,7 @@ fn number_4_powers_counts_and_enum_values() {
     assert_eq!(parameter_number(&array(0, 1, &int(1, 0)), b"[]"), 4);
 }
 
+// T-7
 #[test]
 fn number_4_a_count_that_runs_past_the_end_is_1() {
     let mut bytes = one_module(&[cm_with("c", "", &tuple(&[boolean()]))]);
@@ -460,6 +478,7 @@ fn number_4_a_count_that_runs_past_the_end_is_1() {
     assert_eq!(number(&bytes), 1);
 }
 
+// T-27
 #[test]
 fn number_5_initial_values() {
     let quoted = |length: usize| format!("\"{}\"", "x".repeat(length - 2));
@@ -519,6 +538,7 @@ fn bulky_argument(levels: usize) -> Vec<u8> {
     }
 }
 
+// T-36
 #[test]
 fn number_6_reports_over_32_000_bytes() {
     let outside = r#"{"modules":{},"equipment_id":"","description":""}"#.len();
@@ -563,6 +583,7 @@ fn number_6_reports_over_32_000_bytes() {
     assert_eq!(written[..18], *b"RP\x07\x7d\x0edescribing . ");
 }
 
+// T-37
 #[test]
 fn of_several_faults_the_lowest_is_told() {
     let long_report = [

@@ -35,6 +35,7 @@ fn assert_faults(bytes: &[u8], fault: ValueFault, texts: &[&str]) {
 
 use ValueFault::{BadJson, RangeError, WrongType};
 
+// V-1 to V-3
 #[test]
 fn what_is_no_json_is_no_json_for_any_type() {
     let deep_array = format!("{}{}", "[".repeat(9), "]".repeat(9));
@@ -104,6 +105,7 @@ fn what_is_no_json_is_no_json_for_any_type() {
     }
 }
 
+// V-1
 #[test]
 fn eight_levels_are_json() {
     let deep_array = format!("{}{}", "[".repeat(8), "]".repeat(8));
@@ -114,6 +116,7 @@ fn eight_levels_are_json() {
     assert_faults(&boolean(), BadJson, &[&format!("[0,{mixed}]")]);
 }
 
+// V-7
 #[test]
 fn bool_takes_the_two_words_only() {
     assert_fit(&boolean(), &["true", "false"]);
@@ -130,6 +133,7 @@ fn bool_takes_the_two_words_only() {
     assert_faults(&boolean(), WrongType, &texts);
 }
 
+// V-5, V-8
 #[test]
 fn double_compares_exactly() {
     let to_300 = double((0, 0), (300, 0));
@@ -176,6 +180,7 @@ fn double_compares_exactly() {
     assert_faults(&to_300, WrongType, &["null", "\"1\"", "true", "[1]", "{}"]);
 }
 
+// V-5, T-15
 #[test]
 fn double_limits_may_be_negative_and_have_powers() {
     let narrow = double((-3, -30), (-1, -30));
@@ -204,6 +209,7 @@ fn double_limits_may_be_negative_and_have_powers() {
     assert_faults(&same, RangeError, &["299.999", "300.001"]);
 }
 
+// V-6
 #[test]
 fn a_token_has_at_most_32_bytes() {
     let to_300 = double((0, 0), (300, 0));
@@ -223,6 +229,7 @@ fn a_token_has_at_most_32_bytes() {
     assert_faults(&boolean(), WrongType, &[&digits_33]);
 }
 
+// V-9
 #[test]
 fn int_takes_whole_tokens_within_its_limits() {
     let full = int(i64::MIN, i64::MAX);
@@ -251,6 +258,7 @@ fn int_takes_whole_tokens_within_its_limits() {
     assert_faults(&low, RangeError, &["-4", "-1", "0", "-0", "2", "3"]);
 }
 
+// V-9, T-23
 #[test]
 fn scaled_takes_what_an_int_takes_whatever_its_scale() {
     for scale in [(1, 0), (1, -30), (i64::MAX, 30), (25, -4)] {
@@ -278,6 +286,7 @@ fn scaled_takes_what_an_int_takes_whatever_its_scale() {
     }
 }
 
+// V-13
 #[test]
 fn blob_takes_the_base64_of_as_many_bytes_as_its_limits_say() {
     let any = blob(0, 65535);
@@ -330,6 +339,7 @@ fn zeros(size: usize) -> String {
     format!("\"{}{}\"", "A".repeat(digits), "=".repeat(padding))
 }
 
+// V-13, V-22
 #[test]
 fn of_a_blob_189_bytes_go_into_the_stored_form() {
     for (min, max) in [(0, 65535), (0, 190), (189, 192)] {
@@ -352,6 +362,7 @@ fn of_a_blob_189_bytes_go_into_the_stored_form() {
     assert_faults(&list, WrongType, &[&format!("[{},\"B\"]", zeros(189))]);
 }
 
+// T-14
 #[test]
 fn scaled_and_blobs_stand_inside_other_datainfos() {
     let inside = structure(&[
@@ -383,6 +394,7 @@ fn scaled_and_blobs_stand_inside_other_datainfos() {
     );
 }
 
+// V-10
 #[test]
 fn enum_takes_the_numbers_of_its_members() {
     let members = enumeration(&[("off", 0), ("on", 1), ("low", i32::MIN), ("high", i32::MAX)]);
@@ -422,6 +434,7 @@ fn assert_stored(bytes: &[u8], pairs: &[(&str, &str)]) {
     }
 }
 
+// V-11
 #[test]
 fn an_enum_takes_the_names_of_its_members_too() {
     let longest = "n".repeat(63);
@@ -488,6 +501,7 @@ fn an_enum_takes_the_names_of_its_members_too() {
     assert_faults(&members, WrongType, &["true", "null"]);
 }
 
+// V-20
 #[test]
 fn names_are_exchanged_at_any_depth_where_an_enum_is() {
     let mode = enumeration(&[("off", 0), ("on", 12)]);
@@ -521,6 +535,7 @@ fn names_are_exchanged_at_any_depth_where_an_enum_is() {
     );
 }
 
+// V-4, V-11
 #[test]
 fn a_type_fault_wins_over_a_name_that_nobody_has() {
     let mode = enumeration(&[("off", 0), ("on", 1)]);
@@ -541,6 +556,7 @@ fn a_type_fault_wins_over_a_name_that_nobody_has() {
     assert_faults(&array(0, 1, &mode), RangeError, &[r#"["on","on"]"#]);
 }
 
+// V-22
 #[test]
 fn the_256_bytes_are_counted_after_the_exchange() {
     let mode = enumeration(&[("a", i32::MIN), ("number_7", 7), ("b", 10), ("c", 100)]);
@@ -561,6 +577,7 @@ fn the_256_bytes_are_counted_after_the_exchange() {
     assert_faults(&list, WrongType, &[&shrunk("true"), &grown("\"c\",true")]);
 }
 
+// V-12
 #[test]
 fn string_counts_each_escape_as_one_character() {
     let three = string(3, 3);
@@ -595,6 +612,7 @@ fn string_counts_each_escape_as_one_character() {
     assert_fit(&string(0, 0), &["\"\""]);
 }
 
+// V-4, V-14
 #[test]
 fn array_counts_its_elements_and_judges_all() {
     let two_ints = array(1, 2, &int(0, 9));
@@ -621,6 +639,7 @@ fn array_counts_its_elements_and_judges_all() {
     assert_fit(&array(0, 0, &int(0, 9)), &["[]"]);
 }
 
+// V-15
 #[test]
 fn tuple_has_exactly_its_count() {
     let pair = tuple(&[int(0, 9), boolean()]);
@@ -633,6 +652,7 @@ fn tuple_has_exactly_its_count() {
     );
 }
 
+// V-16
 #[test]
 fn struct_has_every_member_exactly_once() {
     let settings = structure(&[("p", int(0, 9)), ("Q", boolean())]);
@@ -657,6 +677,7 @@ fn struct_has_every_member_exactly_once() {
     );
 }
 
+// V-4
 #[test]
 fn a_type_fault_anywhere_wins_over_a_range_fault_anywhere() {
     let nested = array(0, 1, &tuple(&[int(0, 9), string(0, 1)]));
@@ -676,6 +697,7 @@ fn a_type_fault_anywhere_wins_over_a_range_fault_anywhere() {
     );
 }
 
+// V-19
 #[test]
 fn the_stored_form_has_no_spaces_outside_strings() {
     let settings = structure(&[("p", array(0, 9, &int(0, 9))), ("q", string(0, 9))]);
@@ -694,6 +716,7 @@ fn the_stored_form_has_no_spaces_outside_strings() {
     );
 }
 
+// V-22
 #[test]
 fn a_stored_form_over_256_bytes_is_out_of_range() {
     let long = string(0, 1000);

@@ -38,6 +38,9 @@ pub fn watch(history: &History) -> Seen {
     for call in &history.calls {
         let before = player.node().map(|node| node.state().clone());
         let answer = player.call(call).expect("a start comes first");
+        if !call.is_made() {
+            continue;
+        }
         let records = outbox::read(&answer.outbox).expect("nothing but records");
         if let Call::Start { time, .. } = call {
             let start_time = if answer.is_accepted() { *time } else { 0 };
@@ -45,7 +48,7 @@ pub fn watch(history: &History) -> Seen {
                 .ok()
                 .map(|table| Watcher::new(&table, start_time));
             assert!(records.is_empty());
-        } else if !answer.is_accepted() {
+        } else if !answer.has_effect() {
             assert_eq!((answer.used, answer.outbox.len()), (0, 0));
             assert_eq!(before.as_ref(), player.node().map(|node| node.state()));
         } else {
@@ -115,6 +118,7 @@ impl Watcher {
     fn follow(&mut self, call: &Call, answer: &Answer, records: &[Record]) {
         match call {
             Call::Start { .. } => unreachable!("starts are followed elsewhere"),
+            Call::Lend { .. } => unreachable!("lending is no call"),
             Call::Open { client, .. } => self.set_open(*client as usize, true, records),
             Call::Close { client, .. } => self.set_open(*client as usize, false, records),
             Call::Reading {
@@ -123,6 +127,17 @@ impl Watcher {
                 text,
                 ..
             } => self.follow_reading(*parameter as usize, *time, text, records),
+            Call::Readings { rows, texts, .. } => {
+                let mut records = records;
+                for row in &rows[..answer.taken] {
+                    let text = row.text(texts).expect("a text in its buffer");
+                    let parameter = row.parameter as usize;
+                    let (own, others) = records.split_at(self.told(parameter).len());
+                    self.follow_reading(parameter, row.time, text, own);
+                    records = others;
+                }
+                assert!(records.is_empty());
+            }
             Call::Unreadable {
                 parameter,
                 time,
@@ -189,15 +204,19 @@ impl Watcher {
         self.parameters[parameter].1 = report.to_string();
     }
 
-    /// Exactly the open clients that have the module active, lowest first.
+    /// The open clients that have the parameter's module active, lowest first.
+    fn told(&self, parameter: usize) -> Vec<u8> {
+        let module = self.module_of(&self.parameters[parameter].0);
+        (0..CLIENTS as u8)
+            .filter(|&client| self.open[client as usize] && self.active[client as usize][module])
+            .collect()
+    }
+
+    /// Exactly those.
     fn expect_updates(&self, parameter: usize, records: &[Record]) {
         let (specifier, report) = &self.parameters[parameter];
-        let module = self.module_of(specifier);
-        let expected: Vec<u8> = (0..CLIENTS as u8)
-            .filter(|&client| self.open[client as usize] && self.active[client as usize][module])
-            .collect();
         let clients: Vec<u8> = records.iter().map(|record| record.client).collect();
-        assert_eq!(clients, expected);
+        assert_eq!(clients, self.told(parameter));
         for record in records {
             assert_eq!(record.mark, Mark::Update);
             let action = update_action(report);

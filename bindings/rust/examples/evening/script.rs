@@ -7,8 +7,6 @@ pub enum Entry {
 }
 
 pub struct Event {
-    /// Which line of the script it is, from 1.
-    pub line: usize,
     /// Milliseconds since midnight.
     pub time: u64,
     pub who: String,
@@ -29,55 +27,69 @@ pub enum Act {
     Fail(String, String),
 }
 
-/// The entries of a script, or the first line that is none.
-pub fn entries(script: &str) -> Result<Vec<Entry>, String> {
-    let numbered = script.lines().zip(1..);
-    let kept = numbered.filter(|(line, _)| !line.trim().is_empty() && !line.starts_with('#'));
-    kept.map(|(line, number)| entry(line, number).ok_or_else(|| fault(number, "can't be read")))
-        .collect()
-}
-
-pub fn fault(line: usize, text: &str) -> String {
-    format!("line {line} of the script: {text}")
-}
-
-fn entry(line: &str, number: usize) -> Option<Entry> {
+/// What a line of a script says, or what was expected in its place.
+pub fn entry(line: &str) -> Result<Entry, String> {
     if let Some(caption) = line.strip_prefix("--") {
-        return Some(Entry::Caption(caption.trim().to_string()));
+        return Ok(Entry::Caption(caption.trim().to_string()));
     }
-    let (clock, rest) = line.split_once(' ')?;
-    let (who, what) = rest.trim_start().split_once(' ')?;
-    let what = what.trim_start();
-    Some(Entry::Event(Event {
-        line: number,
-        time: milliseconds(clock)?,
+    let (time, rest) = word(line);
+    let (who, what) = word(rest);
+    let Some(milliseconds) = milliseconds(time) else {
+        return Err(format!("expected a time, as 20:00:10; found {time}"));
+    };
+    Ok(Entry::Event(Event {
+        time: milliseconds,
         who: who.to_string(),
         what: what.to_string(),
         act: act(who, what)?,
     }))
 }
 
-fn act(who: &str, what: &str) -> Option<Act> {
-    match (who, what) {
-        ("node", "starts") => return Some(Act::Start),
-        ("node", _) => return None,
-        ("driver", _) => {
-            if let Some(report) = what.strip_prefix("! ") {
-                let (parameter, error) = report.split_once(' ')?;
-                return Some(Act::Fail(parameter.to_string(), error.to_string()));
-            }
-            let (parameter, value) = what.strip_prefix("> ")?.split_once(' ')?;
-            return Some(Act::Read(parameter.to_string(), value.to_string()));
-        }
-        (_, "connects") => return Some(Act::Connect),
-        (_, "leaves" | "is cut off") => return Some(Act::Leave),
-        _ => {}
+/// A line's first word, and what follows the spaces after it.
+fn word(line: &str) -> (&str, &str) {
+    let (word, rest) = line.split_once([' ', '\t']).unwrap_or((line, ""));
+    (word, rest.trim_start())
+}
+
+fn act(who: &str, what: &str) -> Result<Act, String> {
+    let (mark, rest) = what.split_once([' ', '\t']).unwrap_or((what, ""));
+    let expected = match (who, mark) {
+        ("", _) => "expected after the time: node, driver or the name of a client",
+        ("node", _) if what == "starts" => return Ok(Act::Start),
+        ("node", _) => "expected: node starts",
+        ("driver", ">" | "!") => return driven(mark, rest),
+        ("driver", _) => "expected: driver > MODULE:PARAMETER VALUE, or driver ! MODULE:PARAMETER ERROR",
+        (_, ">") => return Ok(Act::Send([rest.as_bytes(), b"\n"].concat())),
+        (_, "~") if !rest.is_empty() => return Ok(Act::Send(rest.as_bytes().to_vec())),
+        _ if what == "connects" => return Ok(Act::Connect),
+        _ if what == "leaves" || what == "is cut off" => return Ok(Act::Leave),
+        _ => "expected of a client: connects, leaves, is cut off, > and a line, or ~ and some bytes of one",
+    };
+    Err(format!("{expected}; found {}", found(what)))
+}
+
+/// A value that a driver has read, or why it can't.
+fn driven(mark: &str, report: &str) -> Result<Act, String> {
+    let (parameter, rest) = report.split_once([' ', '\t']).unwrap_or((report, ""));
+    let (parameter, rest) = (parameter.to_string(), rest.to_string());
+    match (mark, rest.as_str()) {
+        (">", "") => Err(format!(
+            "expected MODULE:PARAMETER and a value; found {}",
+            found(report)
+        )),
+        (_, "") => Err(format!(
+            "expected MODULE:PARAMETER and an error; found {}",
+            found(report)
+        )),
+        (">", _) => Ok(Act::Read(parameter, rest)),
+        _ => Ok(Act::Fail(parameter, rest)),
     }
-    let (mark, bytes) = what.split_once(' ')?;
-    match mark {
-        ">" => Some(Act::Send([bytes.as_bytes(), b"\n"].concat())),
-        "~" => Some(Act::Send(bytes.as_bytes().to_vec())),
-        _ => None,
+}
+
+fn found(what: &str) -> &str {
+    match what {
+        "" => "the end of the line",
+        _ => what,
     }
 }
 

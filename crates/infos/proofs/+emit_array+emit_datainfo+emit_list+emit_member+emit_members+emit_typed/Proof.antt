@@ -9,7 +9,7 @@ use Rattle.ascii.specs.Text.{bytes}
 use Rattle.ascii.proofs.Bytes.{ended-within}
 use Rattle.datainfo.specs.Layout.{datainfoIn}
 use Rattle.datainfo.proofs.Own.{unsigned-within}
-use Rattle.infos.specs.Texts.{countText}
+use Rattle.infos.specs.contracts.Texts.{countText}
 use Rattle.emit.proofs.Says.{Leads}
 use Rattle.infos.proofs.Infos.{array-none, array-one, array-told}
 use Rattle.infos.proofs.Nested.{member-plain, member-variant, member-field, toCome, members-none, members-start, list-told, members-end, members-bad, members-more, typed-double, typed-int, typed-bool, typed-enum, typed-string, typed-array, typed-tuple, typed-struct, typed-scaled, typed-blob, typed-partial, typed-unknown, datainfo-fifth, datainfo-none, datainfo-some}

@@ -1,10 +1,10 @@
 -- `line::answer_line` meets its contract. Assumes nothing.
 use native.Mathlib.Omega.{arith}
-use mathlib.Core.Path.{refl, subst}
+use mathlib.Core.Path.{subst}
 use mathlib.Core.List.{[]}
-use Rattle.message.specs.Parsed.{Parses}
+use Rattle.message.specs.contracts.Parsed.{Parses}
 use Rattle.line.proofs.Carried.{error-room}
-use Rattle.line.proofs.Answers.{bad-answered}
+use Rattle.line.proofs.Answers.{bad-replied}
 use borrow.Author.Needs.{needs}
 use Rattle.line.proofs.answer_line.Statement.{statement}
 use Rattle.line.proofs.answer_line.Tie as tie
@@ -26,20 +26,18 @@ slice-aggregate-put-final-error-2 c = search needs
 
 put-final-error-requires : tie.Need-put-final-error-requires
 put-final-error-requires c κs =
-    let at = c .before .before .before .before .before .before .before .before .before .before in
+    let at = c .before .before .before .before .before .before .before .before .before .before .before in
     error-room (at .args .out .now) (at .args .client) (at .pre .0 .lent .room) [] [] _ (omega arith) (omega arith)
 
 same-length : tie.Need-same-length
 same-length c = search needs
 
 returns : tie.Need-returns
-returns c =
-    let at = c .before .before .before .before .before .before .before .before .before .before .before .before .before in
-    bad-answered (at .args .table .now) (at .args .state) (at .args .values .now) (at .args .out .now) (at .args .client) (at .args .time) (at .pre .0) (at .args .line .now) (subst (Parses (at .args .line .now)) (c .before .before .before .before .before .before .enum-told .given .1) (c .before .before .before .before .before .before .before .before .part-line .ensures)) _ _ refl (c .before .before .put-final-error .ensures)
+returns c = search bad-replied
 
-answer-parts-requires : tie.Need-answer-parts-requires
-answer-parts-requires c κs =
-    let at = c .before .before .before .before .before .before .before .before .before .before in
+reply-parts-requires : tie.Need-reply-parts-requires
+reply-parts-requires c κs =
+    let at = c .before .before .before .before .before .before .before .before .before .before .before in
     (at .pre .0, (at .pre .1 .0, (at .pre .1 .1, subst (Parses (at .args .line .now)) (c .before .before .before .action .given .1) (c .before .before .before .before .before .part-line .ensures))))
 
 same-length-2 : tie.Need-same-length-2
@@ -63,7 +61,7 @@ answer-line-spec =
     put-final-error-requires
     same-length
     returns
-    answer-parts-requires
+    reply-parts-requires
     same-length-2
     same-length-3
     returns-2)

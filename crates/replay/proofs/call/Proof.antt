@@ -10,11 +10,17 @@ cast-number c = search needs
 enum-told : tie.Need-enum-told
 enum-told c = search needs
 
+slice-aggregate-jihfasul-open : tie.Need-slice-aggregate-jihfasul-open
+slice-aggregate-jihfasul-open c = search needs
+
 jihfasul-open-requires : tie.Need-jihfasul-open-requires
 jihfasul-open-requires c κs = search needs
 
 enum-told-2 : tie.Need-enum-told-2
 enum-told-2 c = search needs
+
+slice-aggregate-jihfasul-close : tie.Need-slice-aggregate-jihfasul-close
+slice-aggregate-jihfasul-close c = search needs
 
 jihfasul-close-requires : tie.Need-jihfasul-close-requires
 jihfasul-close-requires c κs = search needs
@@ -22,11 +28,17 @@ jihfasul-close-requires c κs = search needs
 enum-told-3 : tie.Need-enum-told-3
 enum-told-3 c = search needs
 
+slice-aggregate-jihfasul-piece : tie.Need-slice-aggregate-jihfasul-piece
+slice-aggregate-jihfasul-piece c = search needs
+
 jihfasul-piece-requires : tie.Need-jihfasul-piece-requires
 jihfasul-piece-requires c κs = search needs
 
 enum-told-4 : tie.Need-enum-told-4
 enum-told-4 c = search needs
+
+slice-aggregate-jihfasul-reading : tie.Need-slice-aggregate-jihfasul-reading
+slice-aggregate-jihfasul-reading c = search needs
 
 jihfasul-reading-requires : tie.Need-jihfasul-reading-requires
 jihfasul-reading-requires c κs = search needs
@@ -36,6 +48,9 @@ enum-told-5 c = search needs
 
 class-in-requires : tie.Need-class-in-requires
 class-in-requires c κs = search needs
+
+slice-aggregate-jihfasul-unreadable : tie.Need-slice-aggregate-jihfasul-unreadable
+slice-aggregate-jihfasul-unreadable c = search needs
 
 jihfasul-unreadable-requires : tie.Need-jihfasul-unreadable-requires
 jihfasul-unreadable-requires c κs = search needs
@@ -85,15 +100,20 @@ call-spec =
     (tie.spec
     cast-number
     enum-told
+    slice-aggregate-jihfasul-open
     jihfasul-open-requires
     enum-told-2
+    slice-aggregate-jihfasul-close
     jihfasul-close-requires
     enum-told-3
+    slice-aggregate-jihfasul-piece
     jihfasul-piece-requires
     enum-told-4
+    slice-aggregate-jihfasul-reading
     jihfasul-reading-requires
     enum-told-5
     class-in-requires
+    slice-aggregate-jihfasul-unreadable
     jihfasul-unreadable-requires
     same-length
     returns

@@ -2,7 +2,7 @@
 use native.Mathlib.Omega.{arith}
 use Rattle.ascii.proofs.Puts.{puts-both}
 use Rattle.summary.proofs.Texts.{line-length, line-parts}
-use Rattle.message.specs.Said.{heldBy}
+use Rattle.message.specs.contracts.Said.{heldBy}
 use Rattle.summary.specs.Summary.{heldText}
 use borrow.Author.Needs.{needs}
 use Rattle.summary.proofs.put_line.Statement.{statement}

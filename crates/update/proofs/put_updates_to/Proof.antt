@@ -3,7 +3,7 @@ use borrow.Author.Needs.{needs}
 use native.Mathlib.Omega.{arith}
 use Prim.Native.Nat.{_-_, _≤_}
 use lib.ListN.{drop}
-use Rattle.message.specs.Said.{heldBy, reportOf}
+use Rattle.message.specs.contracts.Said.{heldBy, reportOf}
 use Rattle.plain.specs.Node.{clientNumbers, updatesTo}
 use Rattle.state.specs.View.{clientAt}
 use Rattle.update.proofs.Sendings.{Going, going-start, going-length, next-room, next-sent, all-sent}

@@ -12,6 +12,7 @@ use crate::table::Table;
 pub(super) struct Course {
     operations: Vec<Operation>,
     table: Vec<u8>,
+    index: Vec<u8>,
     kept: Kept,
     time: u64,
 }
@@ -21,6 +22,7 @@ impl Course {
         Course {
             operations: Vec::new(),
             table: Vec::new(),
+            index: Vec::new(),
             kept: Kept::new(VALUES_AREA),
             time: 0,
         }
@@ -57,8 +59,20 @@ impl Course {
     }
 
     pub(super) fn call(&mut self, call: Call) {
-        self.kept.call(&self.table, &call);
+        match &call {
+            Call::Lend { index } => self.index = index.clone(),
+            _ => {
+                self.kept.call(&self.table, &self.index, &call);
+            }
+        }
         self.operations.push(Operation::Call(call));
+    }
+
+    /// The calls from here on are lent an index; none has no bytes.
+    pub(super) fn lend(&mut self, index: &[u8]) {
+        self.call(Call::Lend {
+            index: index.to_vec(),
+        });
     }
 
     pub(super) fn poke(&mut self, poke: Poke) {
@@ -93,6 +107,7 @@ impl Course {
         for call in &history.calls {
             self.call(call.clone());
         }
+        self.lend(&[]);
         self.show();
     }
 

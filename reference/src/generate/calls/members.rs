@@ -1,17 +1,19 @@
 //! Part of a struct: every part of five members in every order, keys twice and
-//! unknown keys, 255 to 257 bytes after the merge, the same after an error, and
-//! where all members are required.
+//! unknown keys, 255 to 257 bytes after the merge, the same after an error,
+//! where all members are required, and what `check` shows of a part.
 
 use super::course::Course;
 use crate::datainfo::Datainfo;
 use crate::generate::encode;
 use crate::generate::parts::{command, digit, enumeration, module, parameter, string, table};
+use crate::table::{Module, Table};
 
 pub(super) fn all(course: &mut Course) {
     every_part(course);
     around_the_limit(course);
     in_error(course);
     elsewhere(course);
+    checked(course);
 }
 
 const NAMES: [&str; 5] = ["p", "i", "d", "ramp", "mode"];
@@ -30,9 +32,15 @@ fn heater(optional: [bool; 5]) -> Datainfo {
 
 /// A node with a heater that client 1 watches and client 0 changes.
 fn heated(course: &mut Course, name: &str, optional: [bool; 5]) {
-    let heater = parameter("heater", heater(optional), INITIAL);
-    let modules = vec![module("t1", vec![heater])];
-    course.started(name, &encode::table(&table(modules)));
+    watched(course, name, table(vec![heaters(optional)]));
+}
+
+fn heaters(optional: [bool; 5]) -> Module {
+    module("t1", vec![parameter("heater", heater(optional), INITIAL)])
+}
+
+fn watched(course: &mut Course, name: &str, table: Table) {
+    course.started(name, &encode::table(&table));
     course.open(0);
     course.open(1);
     course.line(1, "activate t1");
@@ -156,5 +164,46 @@ fn elsewhere(course: &mut Course) {
         course.line(0, &format!("do t1:go {data}"));
     }
     course.line(0, "describe");
+    course.show();
+}
+
+/// By turns with changes, over a table of the next edition: a check judges and
+/// shows the merged value, and nothing is stored.
+fn checked(course: &mut Course) {
+    let mut table = table(vec![heaters([true, false, true, true, true])]);
+    table.edition = Some(b"ISSE,SECoP,x".to_vec());
+    watched(course, "check of part of a struct", table);
+    let check = |course: &mut Course, data: &str| {
+        course.line(0, &format!("check t1:heater {data}"));
+    };
+    for data in [
+        r#"{"i":5}"#,
+        r#"{"mode":"off","i":5}"#,
+        r#"{ "ramp" : "b c" , "i" : 6 }"#,
+        r#"{"p":5}"#,
+        "{}",
+        r#"{"i":6,"i":6}"#,
+        r#"{"i":6,"x":1}"#,
+        r#"{"i":10}"#,
+        r#"{"i":6,"mode":"of"}"#,
+        r#"{"i":}"#,
+        "",
+    ] {
+        check(course, data);
+    }
+    change(course, r#"{"i":7,"mode":"off"}"#);
+    check(course, r#"{"d":8,"i":9}"#);
+    for length in 255..=257 {
+        let ramp = "x".repeat(length - INITIAL.len() + 1);
+        check(course, &format!(r#"{{"i":1,"ramp":"{ramp}"}}"#));
+    }
+    course.line(0, "read t1:heater");
+    course.unreadable(0, 1);
+    for data in [r#"{"i":5}"#, r#"{"i":10}"#, INITIAL] {
+        check(course, data);
+    }
+    course.line(0, "read t1:heater");
+    course.reading(0, r#"{"mode":"on","ramp":"b","d":1,"i":2,"p":3}"#);
+    check(course, r#"{"i":5}"#);
     course.show();
 }

@@ -1,12 +1,14 @@
 //! What a program that makes the calls is run on: the documents' examples and
-//! exchanges, every refusal and every unfit state for each call, long lines in
-//! all cuttings, and random histories.
+//! exchanges, every refusal and every unfit state for each call, every kind of
+//! index, long lines in all cuttings, and random histories.
 
+mod beside;
 mod course;
 mod exchanges;
 mod long;
 mod members;
 mod pokes;
+mod racks;
 mod ramps;
 mod refusals;
 mod unfit;
@@ -36,6 +38,13 @@ pub fn changes(seed: u64) -> Vec<Operation> {
     course.operations()
 }
 
+/// Lists of readings, which that program doesn't make.
+pub fn lists() -> Vec<Operation> {
+    let mut course = Course::new();
+    racks::all(&mut course);
+    course.operations()
+}
+
 /// What doesn't follow from a seed.
 fn fixed() -> Course {
     let mut course = Course::new();
@@ -46,6 +55,7 @@ fn fixed() -> Course {
         course.history(scene.name, &scene.history);
     }
     refusals::all(&mut course);
+    beside::all(&mut course);
     unfit::all(&mut course);
     long::all(&mut course);
     course

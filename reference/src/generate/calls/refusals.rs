@@ -1,5 +1,5 @@
 //! Every number for each call that can answer with it, and pairs of faults,
-//! where the lower number is due.
+//! where the one that is judged first is due.
 
 use super::course::Course;
 use crate::generate::parts::{array, command, digit, enumeration, module, parameter, table};
@@ -36,15 +36,16 @@ pub(super) fn all(course: &mut Course) {
     restarted(course);
 }
 
-/// The numbers from 7 on that a kind of call can answer with.
+/// The numbers from 7 on that a kind of call can answer with, in the order in
+/// which they are judged.
 fn numbers(kind: Kind) -> &'static [u8] {
     match kind {
         Kind::Start => &[8, 10],
-        Kind::Open => &[8, 9, 10, 11, 13],
-        Kind::Close => &[8, 9, 10, 11, 12],
-        Kind::Piece => &[7, 8, 9, 10, 11, 12],
-        Kind::Reading => &[7, 8, 9, 10, 14, 15],
-        Kind::Unreadable => &[7, 8, 9, 10, 14, 16],
+        Kind::Open => &[8, 18, 9, 10, 11, 13],
+        Kind::Close => &[8, 18, 9, 10, 11, 12],
+        Kind::Piece => &[7, 8, 18, 9, 10, 11, 12],
+        Kind::Reading => &[7, 8, 18, 9, 10, 14, 15],
+        Kind::Unreadable => &[7, 8, 18, 9, 10, 14, 16],
     }
 }
 
@@ -99,9 +100,12 @@ fn faulty_call(kind: Kind, faults: &[u8], now: u64) -> Call {
 fn make(course: &mut Course, kind: Kind, faults: &[u8]) {
     let unfit = [Poke::Overlong(7, 1)];
     let pokes = if faults.contains(&9) { &unfit[..] } else { &[] };
+    let index: &[u8] = if faults.contains(&18) { &[0; 127] } else { &[] };
     course.poked_for(pokes, |course| {
         let now = course.now();
+        course.lend(index);
         course.call(faulty_call(kind, faults, now));
+        course.lend(&[]);
     });
 }
 

@@ -1,7 +1,7 @@
 -- `accepted::pieces::answer_counted` meets its contract. Assumes nothing.
 use borrow.Author.Needs.{needs}
 use Rattle.state.proofs.Becomes.{clients-sized}
-use Rattle.accepted.proofs.Joins.{sent-few, sent-answered}
+use Rattle.accepted.proofs.Joins.{replied-few, replied-counted}
 use Rattle.accepted.proofs.pieces.answer_counted.Statement.{statement}
 use Rattle.accepted.proofs.pieces.answer_counted.Tie as tie
 
@@ -10,9 +10,10 @@ answer-held-requires c κs = search needs
 
 sent-counted-requires : tie.Need-sent-counted-requires
 sent-counted-requires c κs =
-    let start = c .before .before .before .before .before .before .before .before .before .before .before in
+    let start = c .before .before .before .before .before .before .before .before .before .before .before .before .before .before in
     let z = clients-sized (start .args .state .clients) (start .good .1 .1 .1 .0 .1 .1 .0) in
-    sent-few _ (start .args .state) _ _ _ (start .args .time) (start .pre .0) z (start .pre .1) (c .before .before .before .before .before .answer-held .ensures)
+    replied-few _ (start .args .state) _ _ _ (start .args .time) (start .pre .0) (start .args .bytes .now) z (start .pre .1 .0) (start .pre .1 .1) _
+    (c .before .before .before .before .before .before .answer-held .ensures)
 
 same-length : tie.Need-same-length
 same-length c = search needs
@@ -22,10 +23,12 @@ same-length-2 c = search needs
 
 returns : tie.Need-returns
 returns c =
-    let start = c .before .before .before .before .before .before .before .before .before .before .before .before in
+    let start = c .before .before .before .before .before .before .before .before .before .before .before .before .before .before .before in
     let z = clients-sized (start .args .state .clients) (start .good .1 .1 .1 .0 .1 .1 .0) in
-    let held = c .before .before .before .before .before .before .answer-held .ensures in
-    sent-answered _ (start .args .state) _ _ _ (start .args .time) (start .pre .0) z (start .pre .1) held _ (c .sent-counted .ensures)
+    replied-counted _ (start .args .state) _ _ _ (start .args .time) (start .pre .0) (start .args .bytes .now) z (start .pre .1 .0) (start .pre .1 .1) _
+    (c .before .before .before .before .before .before .before .answer-held .ensures) _ (c .sent-counted .ensures)
 
 pub answer-counted-spec : {M : Type 1} → statement M
-answer-counted-spec = tie.close (tie.spec answer-held-requires sent-counted-requires same-length same-length-2 returns)
+answer-counted-spec =
+    tie.close
+    (tie.spec answer-held-requires sent-counted-requires same-length same-length-2 returns)

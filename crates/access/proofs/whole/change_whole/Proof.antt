@@ -10,8 +10,8 @@ judge-change-requires c κs =
     let start = c .before .before .before .before .before .before in
     info-known (parameter-known _ (start .pre .0 .lent .accepted) _ _ _ _ _ (start .pre .1 .1))
 
-enum-known-class : tie.Need-enum-known-class
-enum-known-class c = search needs
+enum-known-fault : tie.Need-enum-known-fault
+enum-known-fault c = search needs
 
 enum-told : tie.Need-enum-told
 enum-told c = search needs
@@ -24,7 +24,7 @@ set-requires c κs =
 returns : tie.Need-returns
 returns c =
     let start = c .before .before .before .before .before .before .before .before .before .before in
-    change-refused _ (start .args .state) _ _ _ _ (start .pre .0) _ _ _ _ _ _ (start .pre .1 .1) _ (c .before .before .before .judge-change .ensures) _ (c .before .class .given .1)
+    change-refused _ (start .args .state) _ _ _ _ (start .pre .0) _ _ _ _ _ _ (start .pre .1 .1) _ (c .before .before .before .judge-change .ensures) _ (c .before .fault .given .1)
 
 same-length : tie.Need-same-length
 same-length c = search needs
@@ -43,7 +43,7 @@ change-whole-spec =
     tie.close
     (tie.spec
     judge-change-requires
-    enum-known-class
+    enum-known-fault
     enum-told
     set-requires
     returns

@@ -6,10 +6,10 @@ use Prim.Native.Nat.{_≤_, _-_}
 use mathlib.Core.Path.{_≡_, refl}
 use lib.ListN.{length}
 use Rattle.ascii.proofs.Bytes.{ended-within}
-use Rattle.table.specs.At.{accessiblesFrom}
+use Rattle.table.specs.contracts.At.{accessiblesFrom}
 use Rattle.table.proofs.Modules.{accessibles-less}
-use Rattle.emit.specs.Emitted.{told}
-use Rattle.describe.specs.Texts.{accessiblesText}
+use Rattle.emit.specs.contracts.Emitted.{told}
+use Rattle.describe.specs.contracts.Texts.{accessiblesText}
 use Rattle.emit.proofs.Says.{Leads}
 use Rattle.describe.proofs.structure.emit_accessibles.Statement.{statement}
 use Rattle.describe.proofs.structure.emit_accessibles.Tie as tie

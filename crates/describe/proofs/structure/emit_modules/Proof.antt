@@ -6,10 +6,10 @@ use Prim.Native.Nat.{_≤_, _-_}
 use mathlib.Core.Path.{_≡_, refl}
 use lib.ListN.{length}
 use Rattle.ascii.proofs.Bytes.{ended-within}
-use Rattle.table.specs.At.{modulesFrom}
+use Rattle.table.specs.contracts.At.{modulesFrom}
 use Rattle.table.proofs.Modules.{modules-less}
-use Rattle.emit.specs.Emitted.{told}
-use Rattle.describe.specs.Texts.{modulesText}
+use Rattle.emit.specs.contracts.Emitted.{told}
+use Rattle.describe.specs.contracts.Texts.{modulesText}
 use Rattle.emit.proofs.Says.{Leads}
 use Rattle.describe.proofs.structure.emit_modules.Statement.{statement}
 use Rattle.describe.proofs.structure.emit_modules.Tie as tie

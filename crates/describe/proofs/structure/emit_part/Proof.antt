@@ -1,5 +1,5 @@
 -- `describe::structure::emit_part` meets its contract. Assumes nothing.
-use Rattle.table.specs.At.{bytesOf}
+use Rattle.table.specs.contracts.At.{bytesOf}
 use borrow.Author.Needs.{needs}
 use Rattle.describe.proofs.structure.emit_part.Statement.{statement}
 use Rattle.describe.proofs.structure.emit_part.Tie as tie

@@ -1,5 +1,5 @@
 -- `describe::structure::emit_part_key` meets its contract. Assumes nothing.
-use Rattle.table.specs.At.{bytesOf}
+use Rattle.table.specs.contracts.At.{bytesOf}
 use borrow.Author.Needs.{needs}
 use Rattle.describe.proofs.structure.emit_part_key.Statement.{statement}
 use Rattle.describe.proofs.structure.emit_part_key.Tie as tie

@@ -4,16 +4,17 @@ use lib.ListN.{length}
 use Prim.Native.Nat.{_≤_}
 use borrow.Author.Needs.{needs, sfits-of}
 use native.Mathlib.Omega.{arith}
+use Rattle.decimal.proofs.Values.{roomy}
 use Rattle.datainfo.proofs.Own.{unsigned-within, signed-within}
 use Rattle.fit.proofs.Figures.{Members, members-short, members-first, members-over, members-nameless, members-cut, members-found, members-more}
 use Rattle.fit.proofs.fit.member_fit.Statement.{statement}
 use Rattle.fit.proofs.fit.member_fit.Tie as tie
 
 abbrev Inv-loop : tie.InvT-loop
-Inv-loop s at t members from i₀ left₀ i left = (i ≤ length s) × Members s at t i left
+Inv-loop s at t members from sent i₀ left₀ i left = (i ≤ length s) × Members s at t i left
 
 abbrev μ-loop : tie.MeasureT-loop
-μ-loop s at t members from i₀ left₀ i left = left
+μ-loop s at t members from sent i₀ left₀ i left = left
 
 unsigned-requires : tie.Need-unsigned-requires Inv-loop μ-loop
 unsigned-requires c κs = search needs
@@ -26,6 +27,9 @@ enum-told c = search needs
 
 returns : tie.Need-returns Inv-loop μ-loop
 returns c = search members-short
+
+value-of-requires : tie.Need-value-of-requires Inv-loop μ-loop
+value-of-requires c κs = search needs
 
 loop-holds : tie.Need-loop-holds Inv-loop μ-loop
 loop-holds c = (search unsigned-within, search members-first)
@@ -54,8 +58,8 @@ enum-told-3 c = search needs
 returns-3 : tie.Need-returns-3 Inv-loop μ-loop
 returns-3 c = search members-cut
 
-is-between-requires : tie.Need-is-between-requires Inv-loop μ-loop
-is-between-requires c κs = search needs
+lies-between-requires : tie.Need-lies-between-requires Inv-loop μ-loop
+lies-between-requires c κs = search roomy
 
 returns-4 : tie.Need-returns-4 Inv-loop μ-loop
 returns-4 c = search (members-found, sfits-of)
@@ -82,6 +86,7 @@ member-fit-spec =
     enum-known-members
     enum-told
     returns
+    value-of-requires
     loop-holds
     counted-end-requires
     enum-known-n
@@ -91,7 +96,7 @@ member-fit-spec =
     enum-known-value
     enum-told-3
     returns-3
-    is-between-requires
+    lies-between-requires
     returns-4
     sub-left
     loop-less

@@ -5,7 +5,7 @@ use mathlib.Core.Path.{_≡_, refl}
 use lib.ListN.{length, drop}
 use Rattle.ascii.proofs.Bytes.{ended-within}
 use Rattle.datainfo.specs.Layout.{datainfoIn}
-use Rattle.datainfo.specs.Members.{membersAt}
+use Rattle.datainfo.specs.contracts.Members.{membersAt}
 use Rattle.datainfo.proofs.Own.{unsigned-within}
 use Rattle.fit.proofs.Walks.{Inside, inside-ends, inside-at}
 use Rattle.form.proofs.Fields.{field-within}

@@ -4,7 +4,7 @@ use mathlib.Core.Path.{_≡_, refl, subst}
 use Rattle.table.specs.Layout.{tableOf}
 use Rattle.message.specs.declared.line.Verb.the-variants as Verb
 use Rattle.plain.specs.Answer.{does, outcome}
-use Rattle.line.specs.Asked.{isBuilt}
+use Rattle.line.specs.contracts.Asked.{isBuilt}
 use Rattle.line.proofs.Sought.{lacks, command-comes}
 use borrow.Author.Needs.{needs}
 use Rattle.line.proofs.named.at_command.Statement.{statement}

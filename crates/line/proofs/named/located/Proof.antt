@@ -1,17 +1,8 @@
 -- `line::named::located` meets its contract. Assumes nothing.
-use mathlib.Core.Path.{subst}
-use Rattle.report.proofs.Faults.{accepted-readable}
-use Rattle.search.specs.Found.{Locates}
-use Rattle.sound.proofs.Accepted.{accepted}
-use Rattle.line.proofs.Sought.{homeless, nothing}
+use Rattle.line.proofs.Sought.{located-parameter, located-command, located-nowhere, located-nothing}
 use borrow.Author.Needs.{needs}
 use Rattle.line.proofs.named.located.Statement.{statement}
 use Rattle.line.proofs.named.located.Tie as tie
-
-locate-requires : tie.Need-locate-requires
-locate-requires c κs =
-    let given = c .before .before .before .before .before .before .pre .0 .lent .accepted in
-    (accepted-readable _ given, accepted _ given .names)
 
 enum-told : tie.Need-enum-told
 enum-told c = search needs
@@ -22,56 +13,23 @@ enum-told-2 c = search needs
 missing-requires : tie.Need-missing-requires
 missing-requires c κs = search needs
 
-enum-known-k : tie.Need-enum-known-k
-enum-known-k c = search needs
+enum-known-located : tie.Need-enum-known-located
+enum-known-located c = search needs
 
 at-parameter-requires : tie.Need-at-parameter-requires
-at-parameter-requires c κs =
-    let start = c .before .before .before .before .before .before .before .before .before .before .before .before in (
-      start .pre .0,
-      (
-        start .pre .1 .0,
-        (
-          subst (Locates (start .args .table .now) (start .args .«module» .now) (start .args .name .now))
-              (c .before .before .before .k .given .1) (c .before .before .before .before .before .locate .ensures),
-          start .pre .1 .1,
-        ),
-      ),
-    )
+at-parameter-requires c κs = (search needs, (search needs, (search located-parameter, search needs)))
 
-enum-known-k-2 : tie.Need-enum-known-k-2
-enum-known-k-2 c = search needs
+enum-known-located-2 : tie.Need-enum-known-located-2
+enum-known-located-2 c = search needs
 
 at-command-requires : tie.Need-at-command-requires
-at-command-requires c κs =
-    let start = c .before .before .before .before .before .before .before .before .before .before .before in (
-      start .pre .0 .lent,
-      (
-        start .pre .1 .0,
-        (
-          subst (Locates (start .args .table .now) (start .args .«module» .now) (start .args .name .now))
-              (c .before .before .k2 .given .1) (c .before .before .before .before .locate .ensures),
-          start .pre .1 .1 .0,
-        ),
-      ),
-    )
+at-command-requires c κs = (search needs, (search needs, (search located-command, search needs)))
 
 returns : tie.Need-returns
-returns c =
-    let start = c .before .before .before .before .before .before .before .before .before in
-    homeless (start .args .table .now) (start .args .«module» .now) (start .args .name .now) (start .args .verb) (start .args .text .now) _ _ _ _ _
-    (start .pre .1 .1 .0)
-    (subst (Locates (start .args .table .now) (start .args .«module» .now) (start .args .name .now)) (c .enum-told .given .1)
-    (c .before .before .locate .ensures))
+returns c = search located-nowhere
 
 returns-2 : tie.Need-returns-2
-returns-2 c =
-    let start = c .before .before .before .before .before .before .before .before .before .before in
-    rw (c .missing .ensures)
-    (nothing (start .args .table .now) (start .args .«module» .now) (start .args .name .now) (start .args .verb) (start .args .text .now) _ _ _ _ _
-    (start .pre .1 .1 .0)
-    (subst (Locates (start .args .table .now) (start .args .«module» .now) (start .args .name .now)) (c .before .enum-told2 .given .1)
-    (c .before .before .before .locate .ensures)))
+returns-2 c = search located-nothing
 
 same-length : tie.Need-same-length
 same-length c = search needs
@@ -92,13 +50,12 @@ pub located-spec : {M : Type 1} → statement M
 located-spec =
     tie.close
     (tie.spec
-    locate-requires
     enum-told
     enum-told-2
     missing-requires
-    enum-known-k
+    enum-known-located
     at-parameter-requires
-    enum-known-k-2
+    enum-known-located-2
     at-command-requires
     returns
     returns-2

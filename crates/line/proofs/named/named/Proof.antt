@@ -1,7 +1,7 @@
 -- `line::named::named` meets its contract. Assumes nothing.
 use borrow.Author.Needs.{needs}
 use Rattle.report.proofs.Faults.{accepted-readable}
-use Rattle.line.proofs.Sought.{built, unbuilt}
+use Rattle.line.proofs.Sought.{built, unbuilt, located-built}
 use Rattle.line.proofs.named.named.Statement.{statement}
 use Rattle.line.proofs.named.named.Tie as tie
 
@@ -12,7 +12,7 @@ returns : tie.Need-returns
 returns c = search unbuilt
 
 located-requires : tie.Need-located-requires
-located-requires c κs = (search needs, (search needs, (search built, search needs)))
+located-requires c κs = (search needs, (search needs, (search built, (search needs, search located-built))))
 
 same-length : tie.Need-same-length
 same-length c = search needs

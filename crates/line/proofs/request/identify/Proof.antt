@@ -1,6 +1,6 @@
 -- `line::request::identify` meets its contract. Assumes nothing.
 use borrow.Author.Needs.{needs}
-use Rattle.table.specs.At.{bytesOf}
+use Rattle.table.specs.contracts.At.{bytesOf}
 use Rattle.report.proofs.Faults.{accepted-readable}
 use Rattle.line.proofs.Carried.{given-order, given-within, identification-room, edition-room, identified-first, identified-given}
 use Rattle.line.proofs.request.identify.Statement.{statement}

@@ -1,9 +1,10 @@
 -- `line::request::outcome` meets its contract: each kind of request has a function of its own. Assumes nothing.
 use mathlib.Core.Path.{refl, subst}
 use Rattle.ascii.specs.Text.{bytes}
-use Rattle.message.specs.Parsed.{Inside}
+use Rattle.message.specs.contracts.Parsed.{Inside}
 use Rattle.plain.specs.Answer.{outcome}
 use Rattle.line.proofs.Carried.{part-short, data-short}
+use Rattle.line.proofs.Seeks.{named-located}
 use borrow.Author.Needs.{needs}
 use Rattle.line.proofs.request.outcome.Statement.{statement}
 use Rattle.line.proofs.request.outcome.Tie as tie
@@ -29,7 +30,7 @@ bytes-of-requires c κs = search needs
 ping-requires : tie.Need-ping-requires
 ping-requires c κs =
     let at = c .before .before .before .before .before .before .before .before in
-    let p = at .pre .1 .1 in
+    let p = at .pre .1 .1 .0 in
     (at .pre .0 .lent .room, (at .pre .1 .0, rw (c .bytes-of .ensures) (part-short (at .args .line .now) (at .args .specifier) (p .specifier-in) (p .short))))
 
 enum-known-asked : tie.Need-enum-known-asked
@@ -44,7 +45,7 @@ enum-known-asked-2 c = search needs
 bytes-of-requires-2 : tie.Need-bytes-of-requires-2
 bytes-of-requires-2 c κs =
     let at = c .before .before .before .before .before .before .before .before .before in
-    subst (Inside (at .args .line .now)) (c .before .before .before .asked2 .given .1) (at .pre .1 .1 .inside)
+    subst (Inside (at .args .line .now)) (c .before .before .before .asked2 .given .1) (at .pre .1 .1 .0 .inside)
 
 switch-module-requires : tie.Need-switch-module-requires
 switch-module-requires c κs = search needs
@@ -55,28 +56,31 @@ enum-known-asked-3 c = search needs
 bytes-of-requires-3 : tie.Need-bytes-of-requires-3
 bytes-of-requires-3 c κs =
     let at = c .before .before .before .before .before .before .before in
-    subst (Inside (at .args .line .now)) (c .before .asked3 .given .1) (at .pre .1 .1 .inside) .0
+    subst (Inside (at .args .line .now)) (c .before .asked3 .given .1) (at .pre .1 .1 .0 .inside) .0
 
 bytes-of-requires-4 : tie.Need-bytes-of-requires-4
 bytes-of-requires-4 c κs =
     let at = c .before .before .before .before .before .before .before .before in
-    subst (Inside (at .args .line .now)) (c .before .before .asked3 .given .1) (at .pre .1 .1 .inside) .1
+    subst (Inside (at .args .line .now)) (c .before .before .asked3 .given .1) (at .pre .1 .1 .0 .inside) .1
 
 slice-aggregate-data-of : tie.Need-slice-aggregate-data-of
 slice-aggregate-data-of c = search needs
 
 data-of-requires : tie.Need-data-of-requires
 unfolding bytes
-data-of-requires c κs = (c .before .before .before .before .before .before .before .before .before .before .pre .1 .1 .payload-in, refl)
+data-of-requires c κs = (c .before .before .before .before .before .before .before .before .before .before .pre .1 .1 .0 .payload-in, refl)
 
 named-requires : tie.Need-named-requires
 named-requires c κs =
     let at = c .before .before .before .before .before .before .before .before .before .before .before .before .before in
-    let p = at .pre .1 .1 in (
+    let p = at .pre .1 .1 .0 in (
       at .pre .0,
       (
         at .pre .1 .0,
-        rw (c .before .before .data-of .ensures) (data-short _ (part-short (at .args .line .now) (at .args .payload) (p .payload-in) (p .short))),
+        (
+          rw (c .before .before .data-of .ensures) (data-short _ (part-short (at .args .line .now) (at .args .payload) (p .payload-in) (p .short))),
+          search named-located,
+        ),
       ),
     )
 

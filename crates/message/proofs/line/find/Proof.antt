@@ -3,7 +3,7 @@ use Prim.Native.Nat.{_≤_, _-_}
 use native.Mathlib.Omega.{arith}
 use mathlib.Core.Path.{_≡_, refl}
 use lib.ListN.{length, drop}
-use Rattle.message.specs.Parsed.{fromStop}
+use Rattle.message.specs.contracts.Parsed.{fromStop}
 use Rattle.message.proofs.Cuts.{find-more, find-here, find-end}
 use Rattle.message.proofs.line.find.Statement.{statement}
 use Rattle.message.proofs.line.find.Tie as tie

@@ -1,6 +1,6 @@
 -- `message::say::error_length` meets its contract. Assumes nothing.
 use native.Mathlib.Omega.{arith}
-use Rattle.message.specs.Said.{denialOf}
+use Rattle.message.specs.contracts.Said.{denialOf}
 use Rattle.message.proofs.Said.{error-length}
 use borrow.Author.Needs.{needs}
 use Rattle.message.proofs.say.error_length.Statement.{statement}

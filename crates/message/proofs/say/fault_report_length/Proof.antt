@@ -1,7 +1,7 @@
 -- `message::say::fault_report_length` meets its contract. Assumes nothing.
 use native.Mathlib.Omega.{arith}
 use Rattle.ascii.proofs.Decimal.{seconds-low}
-use Rattle.message.specs.Said.{faultAs}
+use Rattle.message.specs.contracts.Said.{faultAs}
 use Rattle.message.proofs.Said.{front-short, fault-length}
 use borrow.Author.Needs.{needs}
 use Rattle.message.proofs.say.fault_report_length.Statement.{statement}

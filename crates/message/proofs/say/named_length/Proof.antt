@@ -2,7 +2,7 @@
 use native.Mathlib.Omega.{arith}
 use Rattle.ascii.proofs.Decimal.{seconds-low}
 use lib.ListN.{length-append}
-use Rattle.message.specs.Said.{sensorFault, heldBy}
+use Rattle.message.specs.contracts.Said.{sensorFault, heldBy}
 use Rattle.message.proofs.Said.{held-short, report-length}
 use borrow.Author.Needs.{needs}
 use Rattle.message.proofs.say.named_length.Statement.{statement}

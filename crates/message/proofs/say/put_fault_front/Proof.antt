@@ -1,7 +1,7 @@
 -- `message::say::put_fault_front` meets its contract. Assumes nothing.
 use Rattle.ascii.specs.Text.{bytes}
 use Rattle.message.specs.Error.{faultName}
-use Rattle.message.specs.Said.{faultFront}
+use Rattle.message.specs.contracts.Said.{faultFront}
 use borrow.Author.Needs.{needs}
 use Rattle.message.proofs.say.put_fault_front.Statement.{statement}
 use Rattle.message.proofs.say.put_fault_front.Tie as tie

@@ -1,7 +1,7 @@
 -- `message::say::report_length` meets its contract. Assumes nothing.
 use native.Mathlib.Omega.{arith}
 use Rattle.ascii.proofs.Decimal.{seconds-low}
-use Rattle.message.specs.Said.{sensorFault, heldBy}
+use Rattle.message.specs.contracts.Said.{sensorFault, heldBy}
 use Rattle.message.proofs.Said.{held-short, report-length}
 use borrow.Author.Needs.{needs}
 use Rattle.message.proofs.say.report_length.Statement.{statement}

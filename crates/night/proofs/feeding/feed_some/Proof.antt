@@ -37,6 +37,9 @@ slice-aggregate-feed c = search needs
 feed-requires : tie.Need-feed-requires
 feed-requires c κs = search needs
 
+goes-on-requires : tie.Need-goes-on-requires
+goes-on-requires c κs = search needs
+
 same-length : tie.Need-same-length
 same-length c = search needs
 
@@ -44,7 +47,7 @@ same-length-2 : tie.Need-same-length-2
 same-length-2 c = search needs
 
 returns-2 : tie.Need-returns-2
-returns-2 c = let fed = c .before .before .before .before in running-on
+returns-2 c = let fed = c .before .before .before .before .before in running-on
     (fed .before .before .before .before .before .before .before .before .before .before .before .before .before .before .pre) (fed .feed .ensures)
 
 pub feed-some-spec : {M : Type 1} → statement M
@@ -62,6 +65,7 @@ feed-some-spec =
     array-share-prefix-buffer
     slice-aggregate-feed
     feed-requires
+    goes-on-requires
     same-length
     same-length-2
     returns-2)

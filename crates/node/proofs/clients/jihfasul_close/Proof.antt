@@ -21,7 +21,7 @@ quiet-requires-2 c κs = search needs
 
 returns-2 : tie.Need-returns-2
 returns-2 c =
-    let high : 7 < c .before .before .before .before .before .before .args .client = omega arith in
+    let high : 7 < c .before .before .before .before .before .before .before .args .client = omega arith in
     search close-high
 
 is-open-requires : tie.Need-is-open-requires
@@ -41,7 +41,7 @@ quiet-requires-4 c κs = search needs
 
 returns-4 : tie.Need-returns-4
 returns-4 c =
-    let start = c .before .before .before .before .before .before .before .before .before .before .before .before in
+    let start = c .before .before .before .before .before .before .before .before .before .before .before .before .before in
     let z = clients-sized (start .args .state .clients) (start .good .1 .1 .0 .1 .1 .0) in
     search (close-good, z)
 

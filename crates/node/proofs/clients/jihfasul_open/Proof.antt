@@ -21,7 +21,7 @@ quiet-requires-2 c κs = search needs
 
 returns-2 : tie.Need-returns-2
 returns-2 c =
-    let high : 7 < c .before .before .before .before .before .before .args .client = omega arith in
+    let high : 7 < c .before .before .before .before .before .before .before .args .client = omega arith in
     search open-high
 
 is-open-requires : tie.Need-is-open-requires
@@ -46,10 +46,10 @@ returns-4 : tie.Need-returns-4
 returns-4 c =
     let asked = c .before .before .before .before .before .before in
     let lent = asked .before .before .before .before in
-    let start = lent .before .before .before in
+    let start = lent .before .before .before .before in
     let z = clients-sized (start .args .state .clients) (start .good .1 .1 .0 .1 .1 .0) in
     let low : start .args .client ≤ 7 = omega arith in
-    open-good _ (start .args .state) _ _ (start .args .time) (lent .lent-number .ensures) (c .before .before .before .before .before .before .before .before .before .if1 .left) low (asked .is-open .ensures)
+    open-good _ (start .args .state) _ _ _ (start .args .time) (lent .lent-number .ensures) (c .before .before .before .before .before .before .before .before .before .if1 .left) low (asked .is-open .ensures)
     (c .before .before .before .before .before .if3 .left) z (c .before .before .opened .ensures) (c .before .cleared .ensures) (c .quiet4 .ensures)
 
 pub jihfasul-open-spec : {M : Type 1} → statement M

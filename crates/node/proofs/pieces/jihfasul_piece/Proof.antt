@@ -1,7 +1,7 @@
 -- `node::pieces::jihfasul_piece` meets its contract. Assumes nothing.
 use borrow.Author.Needs.{needs}
 use Rattle.state.proofs.Becomes.{clients-sized}
-use Rattle.node.proofs.Taken.{piece-lent, piece-high, piece-closed, piece-ready, piece-timely, piece-good}
+use Rattle.node.proofs.Taken.{piece-lent, piece-high, piece-closed, piece-ready, piece-timely, piece-unshort, piece-good}
 use Rattle.node.proofs.pieces.jihfasul_piece.Statement.{statement}
 use Rattle.node.proofs.pieces.jihfasul_piece.Tie as tie
 
@@ -43,9 +43,9 @@ cast-take-piece c = search needs
 
 take-piece-requires : tie.Need-take-piece-requires
 take-piece-requires c κs =
-    let start = c .before .before .before .before .before .before .before .before .before .before .before .before .before in (
-      piece-ready _ (start .args .state) _ _ _ (start .args .time) (start .args .bytes .now) (c .before .before .before .before .before .before .before .lent-number .ensures) (search needs) (search needs) (c .before .before .before .is-open .ensures) (search needs),
-      piece-timely _ (start .args .state) _ _ _ (c .before .before .before .before .before .before .before .lent-number .ensures) (search needs),
+    let start = c .before .before .before .before .before .before .before .before .before .before .before .before .before .before in (
+      piece-ready _ (start .args .state) _ _ _ _ (start .args .time) (start .args .bytes .now) (c .before .before .before .before .before .before .before .lent-number .ensures) (search needs) (search needs) (c .before .before .before .is-open .ensures) (search needs),
+      piece-timely _ (start .args .state) _ _ _ _ (c .before .before .before .before .before .before .before .lent-number .ensures) (search needs),
     )
 
 same-length-4 : tie.Need-same-length-4
@@ -56,10 +56,11 @@ same-length-5 c = search needs
 
 returns-4 : tie.Need-returns-4
 returns-4 c =
-    let start = c .before .before .before .before .before .before .before .before .before .before .before .before .before .before .before .before .before .before in
+    let start = c .before .before .before .before .before .before .before .before .before .before .before .before .before .before .before .before .before .before .before in
     let z = clients-sized (start .args .state .clients) (start .good .1 .1 .1 .0 .1 .1 .0) in
     let given = take-piece-requires (c .before .before .before .before .before) (start .κs) in
-    piece-good _ (start .args .state) _ _ _ _ (start .args .bytes .now) (given .0) (given .1) z (c .before .before .before .before .take-piece .ensures)
+    let unshort = piece-unshort _ (start .args .state) _ _ _ _ (c .before .before .before .before .before .before .before .before .before .before .before .before .lent-number .ensures) (c .before .before .before .before .before .before .before .before .before .before .before .if1 .left) in
+    piece-good _ (start .args .state) _ _ _ _ _ (start .args .bytes .now) (given .0) unshort (given .1) z (c .before .before .before .before .take-piece .ensures)
 
 pub jihfasul-piece-spec : {M : Type 1} → statement M
 jihfasul-piece-spec =

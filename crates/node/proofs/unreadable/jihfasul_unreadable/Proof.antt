@@ -1,6 +1,6 @@
 -- `node::unreadable::jihfasul_unreadable` meets its contract. Assumes nothing.
 use borrow.Author.Needs.{needs}
-use Rattle.node.proofs.Reading.{read-table}
+use Rattle.rack.proofs.Readings.{read-table}
 use Rattle.node.proofs.Unread.{unread-lent, unread-past, unread-none, unread-unknown, unread-tells, unread-taken}
 use Rattle.node.proofs.unreadable.jihfasul_unreadable.Statement.{statement}
 use Rattle.node.proofs.unreadable.jihfasul_unreadable.Tie as tie
@@ -8,8 +8,8 @@ use Rattle.node.proofs.unreadable.jihfasul_unreadable.Reads as reads
 use Rattle.node.proofs.unreadable.jihfasul_unreadable.Lts as lts
 use Rattle.accepted.proofs.unreadable.take_unreadable.Reads as take-unreadable-reads
 use Rattle.message.proofs.say.sensor_of.Reads as sensor-of-reads
-use Rattle.node.proofs.judge.lent_number.Reads as lent-number-reads
-use Rattle.node.proofs.judge.quiet.Reads as quiet-reads
+use Rattle.rack.proofs.judge.lent_number.Reads as lent-number-reads
+use Rattle.rack.proofs.judge.quiet.Reads as quiet-reads
 use Rattle.search.proofs.find.parameter_by_number.Reads as parameter-by-number-reads
 
 lent-number-requires : tie.Need-lent-number-requires
@@ -28,7 +28,7 @@ returns-2 : tie.Need-returns-2
 returns-2 c = search unread-past
 
 parameter-by-number-requires : tie.Need-parameter-by-number-requires
-parameter-by-number-requires c κs = read-table _ _ _ _ _ (c .before .before .lent-number .ensures) (c .before .if1 .left)
+parameter-by-number-requires c κs = read-table _ _ _ _ _ _ (c .before .before .lent-number .ensures) (c .before .if1 .left)
 
 enum-known-p : tie.Need-enum-known-p
 enum-known-p c = search needs

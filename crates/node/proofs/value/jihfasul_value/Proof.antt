@@ -4,6 +4,9 @@ use borrow.Author.Needs.{needs}
 use Rattle.node.proofs.value.jihfasul_value.Statement.{statement}
 use Rattle.node.proofs.value.jihfasul_value.Tie as tie
 
+slice-aggregate-lent-number : tie.Need-slice-aggregate-lent-number
+slice-aggregate-lent-number c = search needs
+
 lent-number-requires : tie.Need-lent-number-requires
 lent-number-requires c κs = search needs
 
@@ -44,6 +47,7 @@ pub jihfasul-value-spec : {M : Type 1} → statement M
 jihfasul-value-spec =
     tie.close
     (tie.spec
+    slice-aggregate-lent-number
     lent-number-requires
     not-shown-requires
     returns

@@ -1,5 +1,5 @@
 -- `outbox::tally::past_record` meets its contract. Assumes nothing.
-use Rattle.outbox.specs.Tallied.{sizeAt}
+use Rattle.outbox.specs.contracts.Tallied.{sizeAt}
 use borrow.Author.Needs.{needs}
 use Rattle.outbox.proofs.tally.past_record.Statement.{statement}
 use Rattle.outbox.proofs.tally.past_record.Tie as tie

@@ -2,7 +2,7 @@
 use Rattle.ascii.specs.Text.{bytes}
 use Rattle.message.specs.Reply.{replyLine}
 use Rattle.outbox.specs.Outbox.{mark, client, body, encode}
-use Rattle.outbox.specs.Written.{sealed}
+use Rattle.outbox.specs.contracts.Written.{sealed}
 use Rattle.outbox.proofs.Written.{line-of}
 use borrow.Author.Needs.{needs}
 use Rattle.outbox.proofs.write.put_final_switched.Statement.{statement}

@@ -1,7 +1,7 @@
 -- `outbox::write::put_order_command` meets its contract. Assumes nothing.
 use Rattle.ascii.specs.Text.{bytes}
 use Rattle.outbox.specs.Outbox.{mark, client, body, encode}
-use Rattle.outbox.specs.Written.{sealed}
+use Rattle.outbox.specs.contracts.Written.{sealed}
 use Rattle.outbox.proofs.Written.{room-of}
 use borrow.Author.Needs.{needs}
 use Rattle.outbox.proofs.write.put_order_command.Statement.{statement}

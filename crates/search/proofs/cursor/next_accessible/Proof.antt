@@ -2,7 +2,7 @@
 use borrow.Author.Needs.{needs}
 use Prim.Native.Nat.{_-_}
 use lib.ListN.{length}
-use Rattle.search.specs.Left.{accessiblesOf}
+use Rattle.search.specs.contracts.Left.{accessiblesOf}
 use Rattle.search.proofs.Walks.{picks-accessibles, Walked, walk-start, walk-way, module-less, one-parameter, one-command, into-module, walk-end}
 use Rattle.search.proofs.cursor.next_accessible.Statement.{statement}
 use Rattle.search.proofs.cursor.next_accessible.Tie as tie

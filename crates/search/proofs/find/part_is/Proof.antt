@@ -2,8 +2,8 @@
 use borrow.Author.Needs.{needs}
 use mathlib.Core.Path.{ap}
 use Rattle.ascii.specs.declared.names.Compared.{Compared}
-use Rattle.ascii.specs.Compared.{compared}
-use Rattle.table.specs.At.{bytesOf}
+use Rattle.ascii.specs.contracts.Compared.{compared}
+use Rattle.table.specs.contracts.At.{bytesOf}
 use Rattle.search.proofs.find.part_is.Statement.{statement}
 use Rattle.search.proofs.find.part_is.Tie as tie
 

@@ -1,5 +1,5 @@
 -- `seek::fill::start_of` meets its contract. Assumes nothing.
-use Rattle.table.specs.At.{bytesOf}
+use Rattle.table.specs.contracts.At.{bytesOf}
 use borrow.Author.Needs.{needs}
 use Rattle.seek.proofs.fill.start_of.Statement.{statement}
 use Rattle.seek.proofs.fill.start_of.Tie as tie

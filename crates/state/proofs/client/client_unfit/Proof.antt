@@ -1,6 +1,6 @@
 -- `state::client::client_unfit` meets its contract. Assumes nothing.
 use Rattle.state.proofs.Judged.{unfit-long, unfit-feed, unfit-dropped, unfit-past, unfit-closed}
-use mathlib.Core.Path.{_≡_}
+use mathlib.Core.Path.{_≡_, ap}
 use native.Mathlib.Omega.{arith}
 use lib.ListN.{length}
 use borrow.Author.Needs.{needs}
@@ -33,9 +33,9 @@ part-has-feed-start c = search needs
 
 part-has-feed-end : tie.Need-part-has-feed-end
 part-has-feed-end c =
-    let at = c .before .before .before .before in
+    let at = c .before .before .before in
     let e : length (at .args .s .lines) ≡ 8192 = search needs in
-    omega arith
+    omega (arith, ap length (at .pre .1 .1))
 
 has-feed-requires : tie.Need-has-feed-requires
 has-feed-requires c κs = search needs

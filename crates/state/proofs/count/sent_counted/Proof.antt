@@ -5,9 +5,9 @@ use mathlib.Core.List.{List}
 use mathlib.Core.Path.{_≡_, refl, ap}
 use borrow.Author.Needs.{needs}
 use Rattle.outbox.specs.Outbox.{Record}
-use Rattle.outbox.specs.Tallied.{Holds}
+use Rattle.outbox.specs.contracts.Tallied.{Holds}
 use Rattle.state.specs.View.{nextCounts}
-use Rattle.state.specs.Counted.{sentCounted}
+use Rattle.state.specs.contracts.Counted.{sentCounted}
 use Rattle.state.proofs.Counted.{counts-sized, sent-step, sent-ends}
 use Rattle.state.proofs.count.sent_counted.Statement.{statement}
 use Rattle.state.proofs.count.sent_counted.Tie as tie

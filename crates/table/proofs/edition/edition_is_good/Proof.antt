@@ -1,6 +1,6 @@
 -- `table::edition::edition_is_good` meets its contract. Assumes nothing.
 use borrow.Author.Needs.{needs}
-use Rattle.table.specs.At.{bytesOf}
+use Rattle.table.specs.contracts.At.{bytesOf}
 use Rattle.table.proofs.Editions.{unedited-good, edited-good}
 use Rattle.table.proofs.edition.edition_is_good.Statement.{statement}
 use Rattle.table.proofs.edition.edition_is_good.Tie as tie

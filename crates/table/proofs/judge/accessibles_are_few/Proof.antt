@@ -1,8 +1,8 @@
 -- `table::judge::accessibles_are_few` meets its contract. Assumes nothing.
 use borrow.Author.Needs.{needs}
 use Rattle.table.proofs.Whole.{few-last, members-within, members-less, few-bad, few-over, few-next}
-use Rattle.table.specs.Judged.{passed, few}
-use Rattle.table.specs.At.{modulesFrom}
+use Rattle.table.specs.contracts.Judged.{passed, few}
+use Rattle.table.specs.contracts.At.{modulesFrom}
 use lib.ListN.{length}
 use native.Mathlib.Omega.{arith}
 use mathlib.Core.Path.{_≡_, refl}

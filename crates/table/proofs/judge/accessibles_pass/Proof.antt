@@ -2,8 +2,8 @@
 use borrow.Author.Needs.{needs}
 use Rattle.table.proofs.Tests.{accessibles-passed, accessibles-unread, accessibles-pass-on, accessibles-failed}
 use Rattle.table.proofs.Modules.{accessibles-less}
-use Rattle.table.specs.Judged.{passed, passes}
-use Rattle.table.specs.At.{accessiblesFrom}
+use Rattle.table.specs.contracts.Judged.{passed, passes}
+use Rattle.table.specs.contracts.At.{accessiblesFrom}
 use Rattle.ascii.proofs.Bytes.{ended-within}
 use Rattle.ascii.specs.Bytes.{all}
 use lib.ListN.{length}

@@ -1,7 +1,7 @@
 -- `table::judge::all_named_well` meets its contract. Assumes nothing.
 use borrow.Author.Needs.{needs}
 use Rattle.table.proofs.Named.{name-inside, name-within, names-less, good-last, good-bad, good-unnamed, good-repeated, good-next}
-use Rattle.table.specs.Judged.{passed, namesFrom}
+use Rattle.table.specs.contracts.Judged.{passed, namesFrom}
 use Rattle.datainfo.specs.Rules.{goodNames}
 use lib.ListN.{length}
 use native.Mathlib.Omega.{arith}

@@ -1,7 +1,7 @@
 -- `table::judge::count` meets its contract. Assumes nothing.
 use borrow.Author.Needs.{needs}
 use Rattle.table.proofs.Named.{name-within, names-less, names-after, count-last, count-bad, count-next}
-use Rattle.table.specs.Judged.{namesFrom, howMany}
+use Rattle.table.specs.contracts.Judged.{namesFrom, howMany}
 use lib.ListN.{length}
 use native.Mathlib.Omega.{arith}
 use mathlib.Core.Path.{_≡_, refl}

@@ -1,8 +1,8 @@
 -- `table::judge::is_new` meets its contract. Assumes nothing.
 use borrow.Author.Needs.{needs}
 use Rattle.table.proofs.Named.{name-inside, name-within, names-less, new-last, new-bad, new-fails, new-next}
-use Rattle.table.specs.Judged.{passed, namesFrom, differs}
-use Rattle.table.specs.At.{bytesOf}
+use Rattle.table.specs.contracts.Judged.{passed, namesFrom, differs}
+use Rattle.table.specs.contracts.At.{bytesOf}
 use Rattle.ascii.specs.Bytes.{all}
 use lib.ListN.{length}
 use native.Mathlib.Omega.{arith}

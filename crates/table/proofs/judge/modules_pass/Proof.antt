@@ -2,8 +2,8 @@
 use borrow.Author.Needs.{needs}
 use Rattle.table.proofs.Tests.{modules-passed, modules-unread, modules-pass-on, modules-failed}
 use Rattle.table.proofs.Modules.{modules-less}
-use Rattle.table.specs.Judged.{passed, modulePasses}
-use Rattle.table.specs.At.{modulesFrom}
+use Rattle.table.specs.contracts.Judged.{passed, modulePasses}
+use Rattle.table.specs.contracts.At.{modulesFrom}
 use Rattle.ascii.proofs.Bytes.{ended-within}
 use Rattle.ascii.specs.Bytes.{all}
 use lib.ListN.{length}

@@ -1,7 +1,7 @@
 -- `table::judge::parts_differ` meets its contract. Assumes nothing.
 use borrow.Author.Needs.{needs}
 use Rattle.table.proofs.Named.{differ}
-use Rattle.table.specs.At.{bytesOf}
+use Rattle.table.specs.contracts.At.{bytesOf}
 use Rattle.table.proofs.judge.parts_differ.Statement.{statement}
 use Rattle.table.proofs.judge.parts_differ.Tie as tie
 

@@ -1,6 +1,6 @@
 -- `table::layout::head_at` meets its contract. Assumes nothing.
 use borrow.Author.Needs.{needs}
-use Rattle.table.proofs.Modules.{head-bad, head-given, head-first, head-unedited}
+use Rattle.table.proofs.Modules.{head-bad, head-read, head-unedited}
 use Rattle.table.proofs.Records.{texts-within}
 use Rattle.table.proofs.layout.head_at.Statement.{statement}
 use Rattle.table.proofs.layout.head_at.Tie as tie
@@ -20,23 +20,17 @@ returns c = search head-bad
 marked-at-requires : tie.Need-marked-at-requires
 marked-at-requires c κs = search texts-within
 
-enum-known-edition : tie.Need-enum-known-edition
-enum-known-edition c = search needs
+enum-known-edited : tie.Need-enum-known-edited
+enum-known-edited c = search needs
 
 enum-told-2 : tie.Need-enum-told-2
 enum-told-2 c = search needs
 
-enum-told-3 : tie.Need-enum-told-3
-enum-told-3 c = search needs
-
 returns-2 : tie.Need-returns-2
-returns-2 c = search head-given
+returns-2 c = search head-unedited
 
 returns-3 : tie.Need-returns-3
-returns-3 c = search head-first
-
-returns-4 : tie.Need-returns-4
-returns-4 c = search head-unedited
+returns-3 c = search head-read
 
 pub head-at-spec : {M : Type 1} → statement M
 head-at-spec =
@@ -47,9 +41,7 @@ head-at-spec =
     enum-told
     returns
     marked-at-requires
-    enum-known-edition
+    enum-known-edited
     enum-told-2
-    enum-told-3
     returns-2
-    returns-3
-    returns-4)
+    returns-3)

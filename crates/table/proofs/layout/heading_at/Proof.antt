@@ -1,6 +1,6 @@
 -- `table::layout::heading_at` meets its contract. Assumes nothing.
 use borrow.Author.Needs.{needs}
-use Rattle.table.proofs.Modules.{heading-untold, heading-noted, heading-plain, heading-bad}
+use Rattle.table.proofs.Modules.{heading-untold, heading-read, heading-bad}
 use Rattle.table.proofs.Records.{texts-within}
 use Rattle.table.proofs.layout.heading_at.Statement.{statement}
 use Rattle.table.proofs.layout.heading_at.Tie as tie
@@ -20,23 +20,17 @@ returns c = search heading-untold
 marked-at-requires : tie.Need-marked-at-requires
 marked-at-requires c κs = search texts-within
 
-enum-known-note : tie.Need-enum-known-note
-enum-known-note c = search needs
+enum-known-noted : tie.Need-enum-known-noted
+enum-known-noted c = search needs
 
 enum-told-2 : tie.Need-enum-told-2
 enum-told-2 c = search needs
 
-enum-told-3 : tie.Need-enum-told-3
-enum-told-3 c = search needs
-
 returns-2 : tie.Need-returns-2
-returns-2 c = search heading-noted
+returns-2 c = search heading-bad
 
 returns-3 : tie.Need-returns-3
-returns-3 c = search heading-plain
-
-returns-4 : tie.Need-returns-4
-returns-4 c = search heading-bad
+returns-3 c = search heading-read
 
 pub heading-at-spec : {M : Type 1} → statement M
 heading-at-spec =
@@ -47,9 +41,7 @@ heading-at-spec =
     enum-told
     returns
     marked-at-requires
-    enum-known-note
+    enum-known-noted
     enum-told-2
-    enum-told-3
     returns-2
-    returns-3
-    returns-4)
+    returns-3)

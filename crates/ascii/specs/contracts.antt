@@ -1,0 +1,5 @@
+pub mod Reader
+pub mod Class
+pub mod Read
+pub mod Writer
+pub mod Compared

@@ -1,0 +1,9 @@
+pub mod Numbers
+pub mod Datainfos
+pub mod Tables
+pub mod Written
+pub mod Placed
+pub mod Read
+pub mod ReadTables
+pub mod Whole
+pub mod Examples

@@ -1,0 +1,4 @@
+pub mod Lent
+pub mod Readings
+pub mod Rows
+pub mod Fold
