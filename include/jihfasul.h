@@ -69,7 +69,7 @@ extern "C" {
 #define JIHFASUL_MAX_READINGS 9           /* readings of a list */
 #define JIHFASUL_MAX_STEPS 192            /* steps of a search, at most; 64 for a name that is there and an index filled from the table */
 #define JIHFASUL_MAX_TIME 9999999999999u  /* milliseconds */
-#define JIHFASUL_STACK 131072             /* bytes of stack, at most, that a call takes with the state handed in and the answer */
+#define JIHFASUL_STACK 65536              /* bytes of stack, at most, that a call takes with the state handed in and the answer */
 
 /* Why a parameter can't be read, as its driver reports it. */
 enum jihfasul_error {

@@ -1,7 +1,7 @@
 /*
  * Prints where the header's structs have their fields, then what a few calls answer, field by field. bindings/rust/examples/layout.rs prints the
- * same as Rust sees it. tests/layout.expected has what both are to print, but for the digests of whole states: what these have in free places
- * (docs/LIBRARY.md) is only compared between the two.
+ * same as Rust sees it. tests/layout.expected has what both are to print, but for the digests of whole states: no other program has
+ * made these, so they are only compared between the two.
  */
 #include "jihfasul.h"
 

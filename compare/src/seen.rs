@@ -1,6 +1,6 @@
-//! What a state says, whichever side keeps it. Free places are left out: the
-//! bytes past a line, what stands for "yes" in a flag, and the places past the
-//! last parameter.
+//! What a state says, whichever side keeps it. What the reference program has no
+//! place for is left out: the bytes past a line, which number stands for "yes" in
+//! a flag, and the places past the last parameter.
 
 use crate::difference::same;
 use jihfasul::state::LINE;

@@ -6,7 +6,7 @@ use crate::state::{Done, Listed, Row, Shown, State};
 
 /// The bytes of stack, at most, that a call takes with the state handed in and
 /// the answer.
-pub const STACK: usize = 131_072;
+pub const STACK: usize = 65_536;
 
 /// The library's functions. A slice passes as a pointer and a length.
 mod library {

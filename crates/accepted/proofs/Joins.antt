@@ -25,24 +25,27 @@ use Rattle.sound.proofs.Accepted.{accepted}
 use Rattle.sound.proofs.Held.{with-client}
 use Rattle.sound.proofs.Lines.{noFeed, before-feed, received}
 use Rattle.sound.proofs.Steps.{answered}
+use Rattle.state.specs.declared.Bare.{Bare}
+use Rattle.state.specs.declared.Brief.{Brief}
 use Rattle.state.specs.declared.Clients.{Clients}
-use Rattle.state.specs.declared.Settings.{Settings}
 use Rattle.state.specs.declared.State.{State}
-use Rattle.state.specs.View.{isSet, bit, lineBytes, lineAt, clientAt, view, nextClients}
-use Rattle.state.specs.contracts.Counted.{LineCounted, SentCounted}
+use Rattle.state.specs.View.{isSet, bit, lineBytes, lineAt, clientAt, view, nextClients, nextCounts}
+use Rattle.state.specs.contracts.Bare.{lined}
+use Rattle.state.specs.contracts.Bare.{withLines, unlined, briefOf, briefEnded, briefMasks}
+use Rattle.state.specs.contracts.Counted.{lineCounted, LineCounted, SentCounted}
 use Rattle.state.proofs.Areas.{written}
-use Rattle.state.proofs.Counted.{counts-fit, sent-node, sent-fit, sent-settings}
+use Rattle.state.proofs.Cells.{ended-becomes}
+use Rattle.state.proofs.Counted.{counts-fit, sent-node, sent-fit, sent-settings, sent-clients}
 use Rattle.state.proofs.Forms.{stands}
 use Rattle.state.proofs.Stands.{fit-is-sound}
-use Rattle.state.specs.contracts.Changed.{withJoined}
+use Rattle.state.specs.Changed.{withJoined}
 use Rattle.state.proofs.Becomes.{Becomes, Always, Joinable, Sized, LinesFit}
 use Rattle.state.proofs.Joins.{joined-becomes}
 use Rattle.state.proofs.Received.{receive-overlong, receive-whole, receive-over}
 use Rattle.outcome.specs.declared.Replied.{Replied}
-use Rattle.outcome.specs.contracts.Outcome.{Answers}
 use Rattle.outcome.specs.contracts.Ready.{Ready}
 use Rattle.promise.specs.declared.Done.{Done}
-use Rattle.promise.specs.contracts.Leaves.{heldNode, Leaves, LeavesIn}
+use Rattle.promise.specs.contracts.Leaves.{heldNode, Leaves, LeavesIn, AnswersEnded}
 use Rattle.promise.proofs.Clients.{joins, take-before, no-feed, a-feed, before-long}
 use Rattle.promise.proofs.Feeds.{held-answer, feeds}
 use Rattle.promise.proofs.Held as Held
@@ -50,12 +53,12 @@ use Rattle.promise.proofs.Held.{lines-fit, emptied-ready}
 use Rattle.promise.specs.contracts.Answer.{doneWith}
 use Rattle.line.specs.contracts.Answered.{RepliesLine}
 use Rattle.accepted.specs.contracts.Held.{lineWith, heldAnswer, AnswersHeld}
+use Rattle.accepted.proofs.Lines.{ready-unlined, answers-lined}
 
-line-length : (s : Clients) → Sized s → (c : ℕ) → c < 8 → LinesFit s → length (lineBytes s c) ≡ getD (s .length) c 0
+line-length : (s : Clients) → length (s .lines) ≡ 8192 → (c : ℕ) → c < 8 → LinesFit s → length (lineBytes s c) ≡ getD (s .length) c 0
 unfolding lineBytes
-line-length s z c h fits =
+line-length s e c h fits =
     let n = fits c in
-    let e = z .room in
     length-take-le (getD (s .length) c 0) (drop (1024 * c) (s .lines)) (rw length-drop (omega arith))
 
 pub prefix-short : (r : ℕ) (l : List ℕ) → r ≤ 1024 → length (take r l) ≤ 1024
@@ -134,9 +137,10 @@ module _ (table : List ℕ) (s : State) (values out : List ℕ) (c t : ℕ) (g :
     held = heldNode table s values c bs
 
     -- what it says
-    says : Sized (s .clients) → content (lineOf (receive (clientAt (s .clients) c) bs)) ≡ content (whole (lineWith (s .clients) c bs))
+    says : Sized (s .clients) → length (s .clients .lines) ≡ 8192
+        → content (lineOf (receive (clientAt (s .clients) c) bs)) ≡ content (whole (lineWith (s .clients) c bs))
     unfolding clientAt lineAt lineOf lineWith
-    says z =
+    says z room =
         rw (g .isOpen)
         (go (isSet (s .clients .overlong) c) (ltb 1024 (getD (s .clients .length) c 0 + length bs)) (ltb-true 1024 _) (ltb-false 1024 _))
       where
@@ -144,7 +148,7 @@ module _ (table : List ℕ) (s : State) (values out : List ℕ) (c t : ℕ) (g :
         own = lineBytes (s .clients) c
 
         size : length own ≡ getD (s .clients .length) c 0
-        size = line-length (s .clients) z c (g .lent .low) (lines-fit table s values out c g z)
+        size = line-length (s .clients) room c (g .lent .low) (lines-fit table s values out c g z)
 
         go : (t u : Bool) → (u ≡ true → 1024 < getD (s .clients .length) c 0 + length bs) → (u ≡ false → getD (s .clients .length) c 0 + length bs ≤ 1024)
             → content (lineOf (receive (connected (cond t overlong (whole own)) (bit (getD (s .clients .active) c 0))) bs))
@@ -156,40 +160,54 @@ module _ (table : List ℕ) (s : State) (values out : List ℕ) (c t : ℕ) (g :
         go false false p q = rw (receive-whole (bit (getD (s .clients .active) c 0)) bs own (omega (arith, size, q refl)))
 
     -- the line is counted
-    module _ (z : Sized (s .clients)) (r : Clients) (b : Becomes (s .clients) c (emptied (clientAt (s .clients) c)) Always r) (u : State)
-        (y : LineCounted (nextClients s r) c u) where
-      pub counted-ready : Ready table u values out c
+    module _ (z : Sized (s .clients)) (room : length (s .clients .lines) ≡ 8192) (q : Brief) (e : q ≡ briefEnded (briefOf (s .clients)) c) (u : Bare)
+        (y : LineCounted (record { clients = q; settings = s .settings; counts = s .counts }) c u) where
+      abbrev lines : List ℕ
+      lines = s .clients .lines
+
+      abbrev r : Clients
+      r = withLines q lines
+
+      b : Becomes (s .clients) c (emptied (clientAt (s .clients) c)) Always r
+      b = ended-becomes (s .clients) z c (g .lent .low) (ap (λ (x : Brief). withLines x lines) e)
+
+      is-counted : lined u lines ≡ nextCounts (nextClients s r) (lineCounted (s .counts) c)
+      is-counted = ap (λ (x : Bare). lined x lines) (y .is)
+
+      counted-ready : Ready table (lined u lines) values out c
       counted-ready =
           let k = emptied-ready table s values out c g r b in
           record {
             lent = k .lent;
             area = k .area;
-            fit = counts-fit (tableOf table) (nextClients s r) u values _ (y .is) (k .fit);
-            isOpen = ap (λ (z : State). isSet (z .clients .open) c) (y .is) ∙ k .isOpen;
+            fit = counts-fit (tableOf table) (nextClients s r) (lined u lines) values _ is-counted (k .fit);
+            isOpen = ap (λ (z : State). isSet (z .clients .open) c) is-counted ∙ k .isOpen;
           }
 
+      pub bare-ready : Ready table (unlined u) values out c
+      bare-ready = ready-unlined table u lines values out c counted-ready
+
       -- what holds of the node and the line that the code goes on with
-      goes-on : (P : Node → List ℕ → Type 0) (l : List ℕ) → l ≡ lineWith (s .clients) c bs → P (view table u values) (content (whole l))
+      goes-on : (P : Node → List ℕ → Type 0) (l : List ℕ) → l ≡ lineWith (s .clients) c bs → P (view table (lined u lines) values) (content (whole l))
           → P (lineTaken held c) (content (lineOf (held .clients c)))
       goes-on P l e x =
-          let v = subst (λ (x : State). P (view table x values) (content (whole l))) (y .is) x in
-          held-answer table s values out c t r P bs l (says z ∙ ap (λ (l : List ℕ). content (whole l)) (sym e)) b (y .size) (g .lent .low) v
+          let v = subst (λ (x : State). P (view table x values) (content (whole l))) is-counted x in
+          held-answer table s values out c t r P bs l (says z room ∙ ap (λ (l : List ℕ). content (whole l)) (sym e)) b (y .size) (g .lent .low) v
 
       pub held-replied : (l : List ℕ) → l ≡ lineWith (s .clients) c bs → (index : List ℕ) {a : Replied} {values′ out′ : List ℕ}
           → RepliesLine table u values out c t index l a values′ out′
           → AnswersHeld table index s values out held c t a values′ out′ (heldAnswer (tableOf table) held c t)
       unfolding answerSets lineSteps
-      held-replied l e index {a} {values′} {out′} x =
-          let i = a .answered in
-          let same : u .settings ≡ s .settings = ap (λ (z : State). z .settings) (y .is) in
+      held-replied l is index {a} {values′} {out′} x =
           let P : Node → List ℕ → Type 0 =
-          λ m l. Answers table (s .settings) values out i values′ out′ (answerParts (tableOf table) m c t (partsOf l)) (partsSet (tableOf table) m c t (partsOf l)) in
+          λ m l. AnswersEnded table s values out c (a .answered) values′ out′ (answerParts (tableOf table) m c t (partsOf l))
+          (partsSet (tableOf table) m c t (partsOf l)) in
           record {
             answers =
-                goes-on P l e
-                (subst (λ (q : Settings). Answers table q values out i values′ out′ (answerParts (tableOf table) (view table u values) c t (partsOf (content (whole l))))
-                (partsSet (tableOf table) (view table u values) c t (partsOf (content (whole l))))) same (x .answers));
-            steps = goes-on (λ m l. a .steps ≡ requestSteps (tableOf table) index (request (partsOf l))) l e (x .steps);
+                goes-on P l is
+                (answers-lined table s values out c t (partsOf (content (whole l))) u (ap (λ (z : Bare). z .settings) (y .is))
+                (ap (λ (z : Bare). z .clients) (y .is) ∙ e) (counted-ready .fit) (x .answers));
+            steps = goes-on (λ m l. a .steps ≡ requestSteps (tableOf table) index (request (partsOf l))) l is (x .steps);
           }
 
     -- ## What is sent is counted
@@ -212,7 +230,7 @@ module _ (table : List ℕ) (s : State) (values out : List ℕ) (c t : ℕ) (g :
       pub replied-few : a .answered .written ≤ 65536
       replied-few = let e = x .answers .puts .ends in omega (arith, sent-short)
 
-      pub replied-counted : (u : State) → SentCounted (a .answered .state) out′ (a .answered .written) u
+      pub replied-counted : (u : Bare) → SentCounted (a .answered .state) out′ (a .answered .written) u
           → AnswersHeld table index s values out held c t (record { answered = record { state = u; written = a .answered .written }; steps = a .steps }) values′ out′
           (answer (tableOf table) held c t)
       unfolding answer
@@ -222,17 +240,20 @@ module _ (table : List ℕ) (s : State) (values out : List ℕ) (c t : ℕ) (g :
           let e = x .answers .puts .ends in
           let room = g .lent .room in
           let holds = puts-holds (x .answers .puts) (omega (arith, sent-short)) in
-          let k = sent-node table (i .state) values′ out′ (i .written) u y told holds in
+          let lines = s .clients .lines in
+          let k = sent-node table (i .state) lines values′ out′ (i .written) u y told holds in
+          let same = sent-clients table (i .state) lines values′ out′ (i .written) u y told holds in
           record {
             answers =
                 record {
                   node =
                       k (λ d above. no-answers d above c (omega arith) (tableOf table) (lineTaken held c) t (partsOf (content (lineOf (held .clients c)))))
                       ∙ ap (λ (m : Node). counting m told) (x .answers .node);
-                  fit = sent-fit table (i .state) values′ out′ (i .written) u y told holds (tableOf table) (x .answers .fit);
+                  fit = sent-fit table (i .state) lines values′ out′ (i .written) u y told holds (tableOf table) (x .answers .fit);
                   puts = x .answers .puts;
                   area = x .answers .area;
-                  settings = sent-settings table (i .state) values′ out′ (i .written) u y told holds ∙ x .answers .settings;
+                  settings = sent-settings table (i .state) lines values′ out′ (i .written) u y told holds ∙ x .answers .settings;
+                  clients = subst (λ (b : Brief). b ≡ briefMasks (briefEnded (briefOf (s .clients)) c) (b .active)) (sym same) (x .answers .clients);
                 };
             steps = x .steps;
           }
@@ -260,21 +281,22 @@ module _ (table : List ℕ) (s : State) (values outbox : List ℕ) (c t : ℕ) (
   piece-more e = let h = before-long bs in omega (arith, first)
 
   -- all of them join
-  pub piece-joins : Sized (s .clients) → n ≡ length bs → (index : List ℕ) (d : Done) → d ≡ doneWith (length bs) 0 0 (nextClients s (withJoined (s .clients) c bs))
+  pub piece-joins : Sized (s .clients) → length (s .clients .lines) ≡ 8192 → n ≡ length bs → (index : List ℕ) (d : Done)
+      → d ≡ doneWith (length bs) 0 0 (nextClients s (withJoined (s .clients) c bs))
       → LeavesIn table s values piece index outbox d values outbox
   unfolding eventSteps endedSteps
-  piece-joins z e index d q =
+  piece-joins z room e index d q =
       let f = no-feed bs (sym first ∙ e) in
       let all-taken : bs ≡ beforeFeed bs = sym (take-all n bs (omega arith)) ∙ taken in
       let r = withJoined (s .clients) c bs in
       let joined : Becomes (s .clients) c (receive (clientAt (s .clients) c) (beforeFeed bs)) (Joinable (s .clients) c (beforeFeed bs)) r =
       subst (λ (x : List ℕ). Becomes (s .clients) c (receive (clientAt (s .clients) c) x) (Joinable (s .clients) c x) r) all-taken
-      (joined-becomes (s .clients) z c (g .lent .low) (lines-fit table s values outbox c g z) bs refl) in
+      (joined-becomes (s .clients) z room c (g .lent .low) (lines-fit table s values outbox c g z) bs refl) in
       rw q
       (record {
         leaves =
             subst (λ (k : ℕ). Leaves table s values piece outbox (doneWith k 0 0 (nextClients s r)) values outbox) (sym first ∙ e)
-            (joins table s values (g .fit) c t r bs outbox (g .isOpen) f joined);
+            (joins table s values (g .fit) c t r bs outbox (g .isOpen) f refl joined);
         steps = rw f;
       })
 
@@ -284,7 +306,8 @@ module _ (table : List ℕ) (s : State) (values outbox : List ℕ) (c t : ℕ) (
   pub piece-feeds : (n ≡ length bs → ⊥) → {u : ℕ} → u ≡ n + 1 → (a : Replied) (index : List ℕ) {values′ outbox′ : List ℕ}
       → AnswersHeld table index s values outbox (heldNode table s values c (take n bs)) c t a values′ outbox′
       (answer (tableOf table) (heldNode table s values c (take n bs)) c t)
-      → LeavesIn table s values piece index outbox (doneWith u (a .answered .written) (a .steps) (a .answered .state)) values′ outbox′
+      → LeavesIn table s values piece index outbox
+      (doneWith u (a .answered .written) (a .steps) (lined (a .answered .state) (s .clients .lines))) values′ outbox′
   unfolding eventSteps endedSteps
   piece-feeds e v a index {values′} {outbox′} held =
       let i = a .answered in
@@ -292,7 +315,8 @@ module _ (table : List ℕ) (s : State) (values outbox : List ℕ) (c t : ℕ) (
       (answer (tableOf table) (heldNode table s values c l) c t)) taken held in
       record {
         leaves =
-            subst (λ (k : ℕ). Leaves table s values piece outbox (doneWith k (i .written) (a .steps) (i .state)) values′ outbox′)
+            subst
+            (λ (k : ℕ). Leaves table s values piece outbox (doneWith k (i .written) (a .steps) (lined (i .state) (s .clients .lines))) values′ outbox′)
             (sym (v ∙ ap (λ (k : ℕ). k + 1) first))
             (feeds table s values outbox c t bs (a-line e) i values′ outbox′ (x .answers) (a .steps));
         steps = rw (a-line e) (x .steps);

@@ -1,7 +1,7 @@
 -- A reading that fits is taken in: where its stored form lies, and what is told of it. Assumes nothing.
 use Prim.Native.Nat.{ℕ, _+_, _*_, _-_, _≤_, _<_}
 use native.Mathlib.Omega.{arith}
-use mathlib.Core.List.{List}
+use mathlib.Core.List.{List, []}
 use mathlib.Core.Path.{_≡_, refl, ap, _∙_}
 use lib.ListN.{length, take, drop}
 use Rattle.ascii.specs.contracts.Writer.{Puts}
@@ -18,20 +18,23 @@ use Rattle.message.specs.Reply.{valued}
 use Rattle.message.specs.contracts.Said.{reportOf}
 use Rattle.outbox.specs.Outbox.{Record, encodeAll}
 use Rattle.search.specs.declared.cursor.Cursor.{Cursor}
-use Rattle.plain.specs.Node.{clientNumbers, updatesTo}
+use Rattle.plain.specs.Node.{Node, clientNumbers, updatesTo}
 use Rattle.plain.specs.Calls.{Reading, driverEffect, readingEffect, effect}
 use Rattle.sound.proofs.Accepted.{datainfos-in-table}
 use Rattle.state.specs.declared.Settings.{Settings}
-use Rattle.state.specs.declared.State.{State}
-use Rattle.state.specs.View.{clientAt, view, withHeld, withSetting, withStored, withLength, nextSettings}
+use Rattle.state.specs.declared.Bare.{Bare}
+use Rattle.state.specs.View.{clientAt, view, withHeld, withSetting, withStored, withLength}
+use Rattle.state.specs.Places.{placesAfter}
+use Rattle.state.specs.contracts.Bare.{withLines, lined, unlined}
 use Rattle.state.proofs.Forms.{stands}
 use Rattle.state.specs.contracts.Counted.{SentCounted}
 use Rattle.state.proofs.Settled.{Sized}
 use Rattle.promise.specs.contracts.Answer.{doneWith}
-use Rattle.accepted.specs.contracts.Fitting.{Fitting, Taken}
+use Rattle.accepted.specs.contracts.Fitting.{Standing, Fitting, Taken}
 use Rattle.accepted.proofs.Tells.{it, there, tell-room, tell-few, is-told}
 
-module _ (table : List ℕ) (s : State) (values outbox : List ℕ) (k t : ℕ) (bs : List ℕ) (q : ParameterAt) (e : Cursor) (g : Fitting table s values outbox k t bs q e) where
+module _ (table : List ℕ) (s : Bare) (values outbox : List ℕ) (k t : ℕ) (bs : List ℕ) (q : ParameterAt) (e : Cursor)
+    (g : Fitting table (unlined s) values outbox k t bs q e) where
   abbrev d : Datainfo
   d = g .tellable .found .held .datainfo
 
@@ -76,25 +79,30 @@ module _ (table : List ℕ) (s : State) (values outbox : List ℕ) (k t : ℕ) (
     -- the names, as they are read from the table
     module _ (m a : List ℕ) (named-module : m ≡ bytesOf table (e .name)) (named : a ≡ bytesOf table (q .name)) where
       abbrev sent : List Record
-      sent = updatesTo (clientAt (s .clients)) (e .modules - 1) (reportOf m a (valued value) t) clientNumbers
+      sent = updatesTo (clientAt (withLines (s .clients) [])) (e .modules - 1) (reportOf m a (valued value) t) clientNumbers
 
       pub updates-room : (e .modules - 1 < 16) × ((0 + length (encodeAll sent) ≤ length outbox) × (length m + length a + length value ≤ 1024))
-      updates-room = rw (named-module, named, value-is) (tell-room table outbox k t q e (g .tellable) (s .clients) (valued form) small form small)
+      updates-room =
+          rw (named-module, named, value-is) (tell-room table outbox k t q e (g .tellable) (withLines (s .clients) []) (valued form) small form small)
 
       pub read-few : {o : List ℕ} {n : ℕ} → Puts outbox 0 (encodeAll sent) o n → n ≤ 65536
-      read-few p = tell-few table outbox k t q e (g .tellable) (s .clients) (valued form) small (rw (named-module, named, value-is) at p)
+      read-few p = tell-few table outbox k t q e (g .tellable) (withLines (s .clients) []) (valued form) small (rw (named-module, named, value-is) at p)
 
       -- what is stored is what the plain node stores
-      does : effect (tableOf table) (view table s values) (Reading k bs t)
-          ≡ driverEffect (view table s values) k (it table outbox k t q e (g .tellable)) (valued form) t
+      does : (n : Node) → effect (tableOf table) n (Reading k bs t) ≡ driverEffect n k (it table outbox k t q e (g .tellable)) (valued form) t
       unfolding effect readingEffect parameterOf
-      does = rw (there table outbox k t q e (g .tellable)) refl
+      does n = rw (there table outbox k t q e (g .tellable)) refl
 
       pub is-taken :
           Sized (s .settings) → (settings : Settings) → settings ≡ withLength (s .settings) k (r - 256 * k) t
-          → (outbox′ : List ℕ) (n : ℕ) → Puts outbox 0 (encodeAll sent) outbox′ n → (r : State) → SentCounted (nextSettings s settings) outbox′ n r
-          → Taken table s values outbox (Reading k bs t) (doneWith 0 n 0 r) after outbox′
-      unfolding withHeld withSetting withStored parameterOf
-      is-taken z settings i outbox′ n p u y =
-          is-told table outbox k t q e (g .tellable) s (valued form) small values (g .standing) (stored d bs (datainfos-in-table .ofParameters table (g .tellable .accepted) k (it table outbox k t q e (g .tellable)) (there table outbox k t q e (g .tellable))) (g .fits)) (Reading k bs t) does
-          z settings (i ∙ ap (λ (j : ℕ). withLength (s .settings) k j t) size-is) after (x .is) outbox′ n (rw (named-module, named, value-is) at p) u y
+          → (outbox′ : List ℕ) (n : ℕ) → Puts outbox 0 (encodeAll sent) outbox′ n
+          → (r : Bare) → SentCounted (record { clients = s .clients; settings = settings; counts = s .counts }) outbox′ n r
+          → (lines : List ℕ) → Standing table (lined s lines) values
+          → Taken table (lined s lines) values outbox (Reading k bs t) (doneWith 0 n 0 (lined r lines)) after outbox′
+      unfolding withHeld withSetting withStored parameterOf placesAfter
+      is-taken z settings i outbox′ n p u y lines stands =
+          let its = it table outbox k t q e (g .tellable) in
+          let good = datainfos-in-table .ofParameters table (g .tellable .accepted) k its (there table outbox k t q e (g .tellable)) in
+          is-told table outbox k t q e (g .tellable) (lined s lines) (valued form) small values stands (stored d bs good (g .fits)) (Reading k bs t)
+          (does (view table (lined s lines) values)) refl z settings (i ∙ ap (λ (j : ℕ). withLength (s .settings) k j t) size-is) after (x .is) outbox′ n
+          (rw (named-module, named, value-is) at p) u y

@@ -5,7 +5,7 @@ use native.Mathlib.Omega.{arith}
 use mathlib.Core.Bool.{false}
 use mathlib.Core.List.{List, [], _∷_}
 use mathlib.Core.Option.{some}
-use mathlib.Core.Path.{_≡_, refl, sym, ap, _∙_}
+use mathlib.Core.Path.{_≡_, refl, sym, ap, subst, _∙_}
 use lib.ListN.{length, getElem?}
 use Rattle.ascii.specs.Bytes.{any}
 use Rattle.ascii.specs.contracts.Writer.{Puts}
@@ -16,7 +16,7 @@ use Rattle.table.specs.contracts.At.{bytesOf, parameterOf}
 use Rattle.table.specs.declared.layout.ParameterAt.{ParameterAt}
 use Rattle.table.proofs.Search.{parameter-home}
 use Rattle.message.specs.Error.{faultNumber, faultOf}
-use Rattle.message.specs.Reply.{Held, failed, Report}
+use Rattle.message.specs.Reply.{Held, failed, DataReport}
 use Rattle.message.specs.contracts.Said.{faultAs, reportOf}
 use Rattle.message.specs.declared.say.Fault.{Fault}
 use Rattle.outbox.specs.Outbox.{Record, encodeAll}
@@ -31,19 +31,24 @@ use Rattle.sound.specs.Theorems.{HeldFits}
 use Rattle.sound.proofs.Lists.{each-at}
 use Rattle.sound.proofs.Accepted.{GoodParameter, accepted}
 use Rattle.sound.proofs.Records.{Small, Fine, name-short, written-to}
+use Rattle.state.specs.declared.Bare.{Bare}
+use Rattle.state.specs.declared.Brief.{Brief}
 use Rattle.state.specs.declared.Clients.{Clients}
 use Rattle.state.specs.declared.Settings.{Settings}
 use Rattle.state.specs.declared.State.{State}
 use Rattle.state.specs.View.{clientAt, view, withHeld, withSetting, withError, areaWith, settingsWith, outboxAfter, written, nextSettings}
 use Rattle.state.specs.Fit.{clientUnfit, settingsUnfit, isUnfit}
+use Rattle.state.specs.Places.{placesAfter}
+use Rattle.state.specs.contracts.Bare.{withLines, lined, briefOf, bareOf}
 use Rattle.state.specs.contracts.Counted.{SentCounted}
-use Rattle.state.proofs.Counted.{sent-node, sent-fit, sent-settings}
+use Rattle.state.proofs.Counted.{sent-node, sent-fit, sent-settings, sent-clients}
 use Rattle.state.proofs.Settled.{Sized}
 use Rattle.state.proofs.Sets.{AllSet, all-set}
 use Rattle.promise.specs.contracts.Answer.{doneWith}
 use Rattle.promise.specs.contracts.Leaves.{Leaves}
-use Rattle.promise.proofs.Clients.{fit-parts}
+use Rattle.promise.proofs.Clients.{fit-parts, wholly}
 use Rattle.accepted.specs.contracts.Fitting.{readingRoom, Tellable, Standing, Taken}
+use Rattle.accepted.proofs.Lines.{updates-lined}
 
 module _ (table outbox : List ℕ) (k t : ℕ) (q : ParameterAt) (e : Cursor) (g : Tellable table outbox k t q e) where
   abbrev w : Table
@@ -57,7 +62,7 @@ module _ (table outbox : List ℕ) (k t : ℕ) (q : ParameterAt) (e : Cursor) (g
   there = g .found .is
 
   -- the report of what it holds
-  abbrev pub told : Held → Report
+  abbrev pub told : Held → DataReport
   told h = reportOf (bytesOf table (e .name)) (bytesOf table (q .name)) h t
 
   fine : (h : Held) → Small h → Fine (told h)
@@ -101,7 +106,8 @@ module _ (table outbox : List ℕ) (k t : ℕ) (q : ParameterAt) (e : Cursor) (g
 
   -- it holds h, from the time t on
   module _ (s : State) (h : Held) (small : Small h) (values : List ℕ) (stands : Standing table s values) (fits : HeldFits (it .it) h)
-      (ev : Event) (does : effect w (view table s values) ev ≡ driverEffect (view table s values) k it h t) where
+      (ev : Event) (does : effect w (view table s values) ev ≡ driverEffect (view table s values) k it h t)
+      (places : s .clients ≡ placesAfter (s .clients) ev) where
     abbrev sets : List Setting
     sets = record { parameter = k; held = h; time = t } ∷ []
 
@@ -119,9 +125,17 @@ module _ (table outbox : List ℕ) (k t : ℕ) (q : ParameterAt) (e : Cursor) (g
     fit = fit-parts w s values (stands .fit)
 
     module _ (z : Sized (s .settings)) (settings : Settings) (i : settings ≡ withSetting (s .settings) k h t) (after : List ℕ) (a : after ≡ withHeld values k h)
-        (outbox′ : List ℕ) (n : ℕ) (puts : Puts outbox 0 (encodeAll (updates (s .clients) h)) outbox′ n) where
+        (outbox′ : List ℕ) (n : ℕ) (bare-puts : Puts outbox 0 (encodeAll (updates (withLines (briefOf (s .clients)) []) h)) outbox′ n) where
       abbrev next : State
       next = nextSettings s settings
+
+      abbrev lines : List ℕ
+      lines = s .clients .lines
+
+      puts : Puts outbox 0 (encodeAll (updates (s .clients) h)) outbox′ n
+      puts =
+          subst (λ (rs : List Record). Puts outbox 0 (encodeAll rs) outbox′ n)
+          (sym (updates-lined (briefOf (s .clients)) lines (e .modules - 1) (told h) clientNumbers)) bare-puts
 
       is-set : AllSet table s values sets
       is-set =
@@ -140,11 +154,14 @@ module _ (table outbox : List ℕ) (k t : ℕ) (q : ParameterAt) (e : Cursor) (g
       few = let u = updates-short (s .clients) h small in let end = puts .ends in omega arith
 
       -- what is sent is counted
-      module _ (r : State) (y : SentCounted next outbox′ n r) where
+      module _ (r : Bare) (y : SentCounted (bareOf next) outbox′ n r) where
         holds : Holds outbox′ n (updates (s .clients) h)
         holds = let room = g .room in puts-holds puts (omega (arith, few))
 
-        is-left : Leaves table s values ev outbox (doneWith 0 n 0 r) after outbox′
+        same : withLines (r .clients) lines ≡ s .clients
+        same = ap (λ (b : Brief). withLines b lines) (sent-clients table (bareOf next) lines after outbox′ n r y (updates (s .clients) h) holds)
+
+        is-left : Leaves table s values ev outbox (doneWith 0 n 0 (lined r lines)) after outbox′
         unfolding written outboxAfter areaWith settingsWith
         is-left =
             let d = sym does-is in
@@ -155,16 +172,21 @@ module _ (table outbox : List ℕ) (k t : ℕ) (q : ParameterAt) (e : Cursor) (g
               writes = puts .ends ∙ zero-add _ ∙ ap (λ (y : Effect). written (y .records)) d;
               sends = puts .is ∙ ap (λ (y : Effect). outboxAfter outbox (y .records)) d;
               area = a ∙ ap (λ (y : Effect). areaWith values (y .settings)) d;
-              settings = sent-settings table next after outbox′ n r y rs holds ∙ i ∙ ap (λ (y : Effect). settingsWith (s .settings) (y .settings)) d;
+              settings =
+                  sent-settings table (bareOf next) lines after outbox′ n r y rs holds
+                  ∙ i
+                  ∙ ap (λ (y : Effect). settingsWith (s .settings) (y .settings)) d;
               node =
-                  sent-node table next after outbox′ n r y rs holds (λ d above. no-updates d above (clientAt (s .clients)) (e .modules - 1) (told h))
+                  sent-node table (bareOf next) lines after outbox′ n r y rs holds
+                  (λ d above. no-updates d above (clientAt (s .clients)) (e .modules - 1) (told h))
                   ∙ ap (λ (m : Node). counting m rs) node-is
                   ∙ ap (λ (y : Effect). y .next) d;
-              fit = sent-fit table next after outbox′ n r y rs holds w still-fit;
+              fit = sent-fit table (bareOf next) lines after outbox′ n r y rs holds w still-fit;
+              clients = wholly (withLines (r .clients) lines) (placesAfter (s .clients) ev) (same ∙ places);
             }
 
-        pub is-told : Taken table s values outbox ev (doneWith 0 n 0 r) after outbox′
-        is-told = record { leaves = is-left; short = few; steps = refl; clients = ap (λ (x : State). x .clients) (y .is (updates (s .clients) h) holds) }
+        pub is-told : Taken table s values outbox ev (doneWith 0 n 0 (lined r lines)) after outbox′
+        is-told = record { leaves = is-left; short = few; steps = refl; clients = same }
 
   -- ## A parameter that can't be read, by the names as they are read from the table
 
@@ -172,11 +194,12 @@ module _ (table outbox : List ℕ) (k t : ℕ) (q : ParameterAt) (e : Cursor) (g
     pub is-failed :
         Sized (s .settings) → (number : ℕ) → number ≡ faultNumber (faultAs f) → (settings : Settings) → settings ≡ withError (s .settings) k number t
         → (outbox′ : List ℕ) (n : ℕ)
-        → Puts outbox 0 (encodeAll (sent (s .clients) f m a named-module named)) outbox′ n → (r : State) → SentCounted (nextSettings s settings) outbox′ n r
+        → Puts outbox 0 (encodeAll (sent (withLines (briefOf (s .clients)) []) f m a named-module named)) outbox′ n
+        → (r : Bare) → SentCounted (bareOf (nextSettings s settings)) outbox′ n r
         → (values : List ℕ) (class : ℕ) → Standing table s values → faultOf class ≡ some (faultAs f)
-        → Taken table s values outbox (Unreadable k class t) (doneWith 0 n 0 r) values outbox′
-    unfolding effect unreadableEffect withHeld withSetting
+        → Taken table s values outbox (Unreadable k class t) (doneWith 0 n 0 (lined r (s .clients .lines))) values outbox′
+    unfolding effect unreadableEffect withHeld withSetting placesAfter
     is-failed z number j settings i outbox′ n puts r y values class stands known =
-        is-told s (failed (faultAs f)) tt values stands tt (Unreadable k class t) (rw (there, known) refl) z settings
+        is-told s (failed (faultAs f)) tt values stands tt (Unreadable k class t) (rw (there, known) refl) refl z settings
         (i ∙ ap (λ (x : ℕ). withError (s .settings) k x t) j) values refl outbox′ n
         (rw (named-module, named) at puts) r y

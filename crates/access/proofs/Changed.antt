@@ -19,13 +19,13 @@ use Rattle.message.specs.declared.say.Class.{Class}
 use Rattle.outbox.specs.Outbox.{orderChange}
 use Rattle.plain.specs.Node.{clientNumbers, updatesTo}
 use Rattle.plain.specs.Answer as Plain
-use Rattle.plain.specs.Answer.{refused, busy, sets}
+use Rattle.plain.specs.Answer.{denied, busy, sets}
 use Rattle.state.specs.declared.State.{State}
 use Rattle.state.specs.View.{clientAt, view}
 use Rattle.outcome.specs.contracts.Ready.{Ready}
-use Rattle.outcome.specs.contracts.Outcome.{Refuses, Stores, OutcomeIs, OfParameter}
+use Rattle.outcome.specs.contracts.Outcome.{IsDenied, Stores, OutcomeIs, OfParameter}
 use Rattle.outcome.specs.declared.Outcome.{Outcome}
-use Rattle.outcome.specs.declared.Outcome.the-variants.{Refused}
+use Rattle.outcome.specs.declared.Outcome.the-variants.{Denied}
 use Rattle.access.specs.contracts.Busy.{statusUpdates}
 use Rattle.access.specs.contracts.Set.{setRecords, Settable, Accepts, IsSet, IsSetBy}
 use Rattle.access.specs.contracts.Whole.{changesWhole}
@@ -33,7 +33,7 @@ use Rattle.access.specs.contracts.Judged.{JudgesChange}
 use Rattle.access.specs.declared.judge.Judged.{Judged}
 use Rattle.access.specs.declared.judge.Judged.the-variants as J
 use Rattle.access.proofs.Finding.{ParameterKnown, parameter-known, the-parameter}
-use Rattle.access.proofs.Judgements.{judged-refused, judged-let-in, judged-fits, judged-fitting}
+use Rattle.access.proofs.Judgements.{judged-denied, judged-let-in, judged-fits, judged-fitting}
 use Rattle.access.proofs.Statuses.{settings-stand, updates-stand, status-holds, area-stands}
 
 module _ (s : List ℕ) (st : State) (values out : List ℕ) (c t : ℕ) (g : Ready s st values out c) (m a xs : List ℕ)
@@ -47,10 +47,10 @@ module _ (s : List ℕ) (st : State) (values out : List ℕ) (c t : ℕ) (g : Re
   abbrev setting : Plain.Outcome
   setting = sets (tableOf s) (view s st values) c t (k, p .it) (storedForm (p .it .it .datainfo) xs)
 
-  pub change-refused : (e : Class) → v ≡ J.Refused e → OfParameter s st values out c t (Refused e) values out m a (λ w n c t. changesWhole w n c t xs)
-  change-refused e z =
-      the-parameter p (λ x. Refuses (tableOf s) (view s st values) c t out out values values (change x) (refused (class (classOf e))))
-      (record { is = judged-refused s m a xs k h q p v j _ e z; quiet = refl; area = refl })
+  pub change-denied : (e : Class) → v ≡ J.Denied e → OfParameter s st values out c t (Denied e) values out m a (λ w n c t. changesWhole w n c t xs)
+  change-denied e z =
+      the-parameter p (λ x. IsDenied (tableOf s) (view s st values) c t out out values values (change x) (denied (class (classOf e))))
+      (record { is = judged-denied s m a xs k h q p v j _ e z; quiet = refl; area = refl })
 
   module _ (z : v ≡ J.LetIn) where
     is-set : change (k, p .it) ≡ setting

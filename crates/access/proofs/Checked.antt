@@ -15,21 +15,21 @@ use Rattle.table.specs.Table.{Parameter}
 use Rattle.table.specs.Search.{Placed}
 use Rattle.search.specs.contracts.Found.{ParameterFound}
 use Rattle.message.specs.Error.{class}
-use Rattle.message.specs.Reply.{valued, Report, checked}
+use Rattle.message.specs.Reply.{valued, DataReport, checked}
 use Rattle.message.specs.contracts.Said.{classOf, reportOf}
 use Rattle.message.specs.declared.say.Class.{Class}
 use Rattle.outbox.specs.Outbox.{final, encode}
 use Rattle.outbox.specs.contracts.Written.{RoomFor}
 use Rattle.plain.specs.Node.{Node}
 use Rattle.plain.specs.Answer as Plain
-use Rattle.plain.specs.Answer.{refused, shows}
-use Rattle.sound.proofs.Records.{Fine, says-checked, written-final}
+use Rattle.plain.specs.Answer.{denied, shows}
+use Rattle.sound.proofs.Records.{Fine, checked-within, written-final}
 use Rattle.sound.proofs.Room.{room-after, puts-none, puts-after}
 use Rattle.state.specs.declared.State.{State}
 use Rattle.state.specs.View.{view}
 use Rattle.outcome.specs.contracts.Ready.{Lent}
-use Rattle.outcome.specs.contracts.Outcome.{Refuses, Sends, OfParameter}
-use Rattle.outcome.specs.declared.Outcome.the-variants.{Refused, Sent}
+use Rattle.outcome.specs.contracts.Outcome.{IsDenied, Sends, OfParameter}
+use Rattle.outcome.specs.declared.Outcome.the-variants.{Denied, Sent}
 use Rattle.access.specs.contracts.Argument.{Reported}
 use Rattle.access.specs.contracts.Told.{PutsChecked}
 use Rattle.access.specs.contracts.Whole.{checksWhole}
@@ -37,14 +37,14 @@ use Rattle.access.specs.contracts.Judged.{JudgesChange}
 use Rattle.access.specs.declared.judge.Judged.{Judged}
 use Rattle.access.specs.declared.judge.Judged.the-variants as J
 use Rattle.access.proofs.Finding.{ParameterKnown, parameter-known, the-parameter}
-use Rattle.access.proofs.Judgements.{judged-refused, judged-let-in, judged-fitting}
+use Rattle.access.proofs.Judgements.{judged-denied, judged-let-in, judged-fitting}
 use Rattle.access.proofs.Taken.{taken-is, taken-short}
 
 -- ## What is written
 
 module _ (table : List ℕ) (info : ℕ) (out m a xs : List ℕ) (t : ℕ) (room : 32768 ≤ length out) (n : Reported m a t) (w : FitsAt table info xs)
     (d after : List ℕ) (r : ℕ) (x : PutsForm (datainfoIn 4 (drop info table)) xs d 0 after r) (h : length d ≡ 256) where
-  abbrev told : Report
+  abbrev told : DataReport
   told = reportOf m a (valued (take r after)) t
 
   told-fine : Fine told
@@ -53,7 +53,7 @@ module _ (table : List ℕ) (info : ℕ) (out m a xs : List ℕ) (t : ℕ) (room
   -- whatever the client's number
   pub checked-room : (c : ℕ) → RoomFor out 0 (final c (checked told))
   checked-room c =
-      let u = written-final c (checked told) 415 (says-checked told told-fine tt) .short in
+      let u = written-final c (checked told) 415 (checked-within told told-fine tt) .short in
       room-after [] (final c (checked told)) out out 0 (puts-none out) (omega arith) room
 
   pub checked-put : (c : ℕ) (last : List ℕ) (q : ℕ) → Puts out 0 (encode (final c (checked told))) last q
@@ -70,11 +70,11 @@ module _ (s out : List ℕ) (c t : ℕ) (l : Lent s out c) (m a xs : List ℕ) (
   abbrev check : Node → ℕ × Placed Parameter → Plain.Outcome
   check n x = checksWhole (tableOf s) n c t xs x
 
-  pub check-refused : (e : Class) → v ≡ J.Refused e → (st : State) (values : List ℕ)
-      → OfParameter s st values out c t (Refused e) values out m a (λ w n c t. checksWhole w n c t xs)
-  check-refused e z st values =
-      the-parameter p (λ x. Refuses (tableOf s) (view s st values) c t out out values values (check (view s st values) x) (refused (class (classOf e))))
-      (record { is = judged-refused s m a xs k h q p v j _ e z; quiet = refl; area = refl })
+  pub check-denied : (e : Class) → v ≡ J.Denied e → (st : State) (values : List ℕ)
+      → OfParameter s st values out c t (Denied e) values out m a (λ w n c t. checksWhole w n c t xs)
+  check-denied e z st values =
+      the-parameter p (λ x. IsDenied (tableOf s) (view s st values) c t out out values values (check (view s st values) x) (denied (class (classOf e))))
+      (record { is = judged-denied s m a xs k h q p v j _ e z; quiet = refl; area = refl })
 
   module _ (z : v ≡ J.LetIn) where
     pub check-told : t ≤ latest → (32768 ≤ length out) × (Reported m a t × FitsAt s (q .info) xs)

@@ -18,10 +18,10 @@ use Rattle.message.specs.contracts.Said.{classOf, reportOf}
 use Rattle.message.specs.declared.say.Class.{Class}
 use Rattle.outbox.specs.Outbox.{orderCommand}
 use Rattle.plain.specs.Node.{Node}
-use Rattle.plain.specs.Answer.{Outcome, refused, carried, letIn, argumentVerdict, argumentForm, does}
+use Rattle.plain.specs.Answer.{Outcome, denied, carried, letIn, argumentVerdict, argumentForm, does}
 use Rattle.outcome.specs.contracts.Ready.{Lent}
-use Rattle.outcome.specs.contracts.Outcome.{Refuses, Sends, OfCommand}
-use Rattle.outcome.specs.declared.Outcome.the-variants.{Refused, Sent}
+use Rattle.outcome.specs.contracts.Outcome.{IsDenied, Sends, OfCommand}
+use Rattle.outcome.specs.declared.Outcome.the-variants.{Denied, Sent}
 use Rattle.access.specs.contracts.Argument.{JudgesArgument, Ordered, Reported, orderRecords, IsOrdered}
 use Rattle.access.specs.contracts.Judged.{Lets}
 use Rattle.access.specs.declared.judge.Judged.{Judged}
@@ -43,9 +43,9 @@ module _ (s out : List ℕ) (c t : ℕ) (l : Lent s out c) (m a xs : List ℕ) (
   unfolding does
   let-in n = rw (judged-is, g .moduleNamed, g .named)
 
-  pub execute-refused : (e : Class) → r ≡ J.Refused e → OfCommand s out c t (Refused e) out m a (λ w n c t. does w n c t xs)
-  execute-refused e z n values =
-      the-command g (λ x. Refuses (tableOf s) n c t out out values values (does (tableOf s) n c t xs x) (refused (class (classOf e))))
+  pub execute-denied : (e : Class) → r ≡ J.Denied e → OfCommand s out c t (Denied e) out m a (λ w n c t. does w n c t xs)
+  execute-denied e z n values =
+      the-command g (λ x. IsDenied (tableOf s) n c t out out values values (does (tableOf s) n c t xs x) (denied (class (classOf e))))
       (record { is = let-in n ∙ subst (Lets false (meaning v)) z d (ordered n); quiet = refl; area = refl })
 
   module _ (z : r ≡ J.LetIn) where

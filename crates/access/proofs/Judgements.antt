@@ -14,7 +14,7 @@ use Rattle.table.specs.Search.{Placed}
 use Rattle.message.specs.Error.{class}
 use Rattle.message.specs.contracts.Said.{classOf}
 use Rattle.message.specs.declared.say.Class.{Class}
-use Rattle.plain.specs.Answer.{Outcome, refused, letIn}
+use Rattle.plain.specs.Answer.{Outcome, denied, letIn}
 use Rattle.access.specs.contracts.Whole.{judgingWhole}
 use Rattle.access.specs.contracts.Judged.{Lets, JudgesChange}
 use Rattle.access.specs.declared.judge.Judged.{Judged}
@@ -28,9 +28,9 @@ module _ (s m a xs : List ℕ) (k h : ℕ) (q : ParameterAt) (p : ParameterKnown
 
   -- whatever is done with what is let in
   module _ (f : ℕ × Placed Parameter → List ℕ → Outcome) where
-    pub judged-refused : (e : Class) → v ≡ J.Refused e → judgingWhole f xs (k, p .it) ≡ refused (class (classOf e))
+    pub judged-denied : (e : Class) → v ≡ J.Denied e → judgingWhole f xs (k, p .it) ≡ denied (class (classOf e))
     unfolding judgingWhole
-    judged-refused e z = rw (p .readonly) (subst (Lets (q .readonly) (Fit.verdict (p .it .it .datainfo) xs)) z lets _)
+    judged-denied e z = rw (p .readonly) (subst (Lets (q .readonly) (Fit.verdict (p .it .it .datainfo) xs)) z lets _)
 
     pub judged-let-in : v ≡ J.LetIn → judgingWhole f xs (k, p .it) ≡ f (k, p .it) (storedForm (p .it .it .datainfo) xs)
     unfolding judgingWhole letIn

@@ -14,7 +14,7 @@ use Rattle.access.specs.declared.judge.Judged.{Judged}
 use Rattle.access.specs.declared.judge.Judged.the-variants as J
 
 module _ (o : Option (Datainfo × List ℕ)) (readonly : Bool) (xs : List ℕ) where
-  pub judged-readonly : readonly ≡ true → JudgesChange o readonly xs (J.Refused K.ReadOnly)
+  pub judged-readonly : readonly ≡ true → JudgesChange o readonly xs (J.Denied K.ReadOnly)
   judged-readonly e = record { is = λ i p. rw e refl }
 
   pub judged-value : readonly ≡ false → (v : Verdict) → JudgesText o xs v → (r : Judged) → Lets false (meaning v) r → JudgesChange o readonly xs r

@@ -21,7 +21,7 @@ use Rattle.message.specs.contracts.Said.{reportOf}
 use Rattle.outbox.specs.Outbox.{Record, final, orderCommand, mark, body, encode, encodeAll}
 use Rattle.outbox.specs.contracts.Written.{RoomFor}
 use Rattle.plain.specs.Answer.{argumentVerdict, argumentForm}
-use Rattle.sound.proofs.Records.{Fine, Written, says-done, written-one, written-append, written-final}
+use Rattle.sound.proofs.Records.{Fine, Written, done-within, written-one, written-append, written-final}
 use Rattle.sound.proofs.Room.{room-after, puts-after}
 use Rattle.access.specs.contracts.Argument.{Ordered, Reported, orderRecords, PutsOrder, IsOrdered}
 use Rattle.access.proofs.Arguments.{none-declared, Declared, some-declared}
@@ -96,7 +96,7 @@ module _ (table : List ℕ) (info : ℕ) (out : List ℕ) (k : ℕ) (b : Bool) (
   records-short =
       let fine : Fine (reportOf m a (valued (bytes "null")) t) = record { names = (n .module-name, n .name); small = omega arith; inTime = n .inTime } in
       let f = form-short argument xs (o .argument .fits) in
-      written-append (command argument ∷ []) (reply ∷ []) 262 421 (written-one (command argument) 262 tt (omega arith)) (written-final c _ 415 (says-done _ fine tt))
+      written-append (command argument ∷ []) (reply ∷ []) 262 421 (written-one (command argument) 262 tt (omega arith)) (written-final c _ 415 (done-within _ fine tt))
 
   one : {d : Option Datainfo} {y : List ℕ} → argumentAt b (drop info table) ≡ some (d, y) → Puts out 0 (encodeAll (command d ∷ [])) after told
   unfolding encodeAll

@@ -16,13 +16,13 @@ use Rattle.datainfo.specs.Layout.{datainfoIn}
 use Rattle.fit.specs.Fit.{storedForm}
 use Rattle.form.specs.contracts.Formed.{FitsAt, PutsForm}
 use Rattle.form.proofs.Stored.{stored-short}
-use Rattle.message.specs.Reply.{valued, Report, changed}
+use Rattle.message.specs.Reply.{valued, DataReport, changed}
 use Rattle.message.specs.contracts.Said.{reportOf}
 use Rattle.outbox.specs.Outbox.{Record, final, orderChange, body, encode, encodeAll}
 use Rattle.outbox.specs.contracts.Written.{RoomFor}
 use Rattle.plain.specs.Node.{clientNumbers, updatesTo}
 use Rattle.plain.specs.Answer.{busy}
-use Rattle.sound.proofs.Records.{Fine, Written, name-short, says-changed, written-none, written-one, written-append, written-within, written-final, written-to}
+use Rattle.sound.proofs.Records.{Fine, Written, name-short, changed-within, written-none, written-one, written-append, written-within, written-final, written-to}
 use Rattle.sound.proofs.Room.{encode-append, room-after, puts-after, puts-none}
 use Rattle.state.specs.declared.Clients.{Clients}
 use Rattle.state.specs.View.{clientAt, withStored}
@@ -56,7 +56,7 @@ module _ (v : List ℕ) (n : length v ≤ 256) (i j : ℕ) where
 
 module _ (out : List ℕ) (k h : ℕ) (m a : List ℕ) (t : ℕ) (g : Settable out k h m a t) (s : Clients) (z : Status) (b : List ℕ) (y : Staged z b) (c : ℕ)
     (v : List ℕ) (n : length v ≤ 256) where
-  abbrev report : Report
+  abbrev report : DataReport
   report = reportOf m a (valued v) t
 
   abbrev order : Record
@@ -91,7 +91,7 @@ module _ (out : List ℕ) (k h : ℕ) (m a : List ℕ) (t : ℕ) (g : Settable o
   all-short =
       written-append (order ∷ (first ++ updates)) (reply ∷ []) 6982 421
       (written-append (order ∷ []) (first ++ updates) 262 6720 (order-short v n c k) (written-append first updates 3360 3360 first-short updates-short))
-      (written-final c (changed report) 415 (says-changed report fine-report tt))
+      (written-final c (changed report) 415 (changed-within report fine-report tt))
 
   module _ (e : List ℕ) (p : ℕ) (x : Puts out 0 (encode order) e p) where
     ordered : Puts out 0 (encodeAll (order ∷ [])) e p

@@ -9,7 +9,7 @@ use Rattle.ascii.specs.contracts.Writer.{Puts}
 use Rattle.ascii.proofs.Lists.{neither}
 use Rattle.form.proofs.Stored.{short-stored}
 use Rattle.message.specs.Error.{faultOf, fault}
-use Rattle.message.specs.Reply.{valued, heldAs, Report, reply}
+use Rattle.message.specs.Reply.{valued, heldAs, DataReport, reply}
 use Rattle.message.specs.contracts.Said.{sensorFault, heldBy, faultAs, reportOf}
 use Rattle.message.specs.declared.say.Fault.{Fault}
 use Rattle.message.specs.declared.say.Sensor.{Sensor}
@@ -21,9 +21,9 @@ use Rattle.table.specs.declared.layout.ParameterAt.{ParameterAt}
 use Rattle.table.specs.Layout.{tableOf}
 use Rattle.table.specs.Search.{parameters}
 use Rattle.plain.specs.Node as Node
-use Rattle.plain.specs.Answer.{refused, tells, reads}
+use Rattle.plain.specs.Answer.{denied, tells, reads}
 use Rattle.sound.specs.Theorems.{ValueHeld}
-use Rattle.sound.proofs.Records.{Fine, says-reply, written-final}
+use Rattle.sound.proofs.Records.{Fine, reply-within, written-final}
 use Rattle.sound.proofs.Room.{room-after, puts-none, puts-after}
 use Rattle.state.specs.declared.State.{State}
 use Rattle.state.specs.View.{shown, shownBytes, valueAt, view}
@@ -31,7 +31,7 @@ use Rattle.state.specs.Fit.{settingsUnfit, isUnfit}
 use Rattle.state.proofs.Settled.{each-fit, fit-parts}
 use Rattle.state.proofs.Stands.{value-held}
 use Rattle.outcome.specs.contracts.Ready.{Ready}
-use Rattle.outcome.specs.contracts.Outcome.{Refuses, Sends, OfParameter}
+use Rattle.outcome.specs.contracts.Outcome.{IsDenied, Sends, OfParameter}
 use Rattle.outcome.specs.declared.Outcome.the-variants.{Unreadable, Sent}
 use Rattle.search.specs.contracts.Found.{ParameterFound}
 use Rattle.access.proofs.Finding.{ParameterKnown, parameter-known, the-parameter}
@@ -72,12 +72,12 @@ module _ (s : List ℕ) (st : State) (values out : List ℕ) (c : ℕ) (g : Read
     pub read-fails : (e : Fault) → r ≡ Fails e → (t : ℕ) → OfParameter s st values out c t (Unreadable e since) values out m a reads
     unfolding reads tells
     read-fails e z t =
-        the-parameter p (λ y. Refuses (tableOf s) (view s st values) c t out out values values (reads (tableOf s) (view s st values) c t y) (refused (fault (faultAs e) since)))
+        the-parameter p (λ y. IsDenied (tableOf s) (view s st values) c t out out values values (reads (tableOf s) (view s st values) c t y) (denied (fault (faultAs e) since)))
         (record { is = rw (holds, z); quiet = refl; area = refl })
 
     -- and with what it has for the value
     module _ (w : r ≡ Works) (v : List ℕ) (hv : v ≡ shownBytes s (st .settings) values k (q .initial)) where
-      abbrev own : Report
+      abbrev own : DataReport
       own = Node.reportOf (p .it) (Node.showing v since)
 
       abbrev shows : Record
@@ -102,7 +102,7 @@ module _ (s : List ℕ) (st : State) (values out : List ℕ) (c : ℕ) (g : Read
       pub read-room : RoomFor out 0 shows
       read-room =
           let l = g .lent .room in
-          let u = written-final c (reply own) 415 (says-reply own fine-own tt) .short in
+          let u = written-final c (reply own) 415 (reply-within own fine-own tt) .short in
           rw own-is at (room-after [] (final c (reply own)) out out 0 (puts-none out) (omega arith) l)
 
       pub read-sent : (after : List ℕ) (written : ℕ) → Puts out 0 (encode shows) after written

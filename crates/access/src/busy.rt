@@ -2,12 +2,14 @@
 // to is handed in.
 ghost use Prim.Native.Nat.{_+_, _≤_};
 ghost use mathlib.Core.Path.{_≡_};
+ghost use mathlib.Core.List.{[]};
 ghost use lib.ListN.{length, drop};
 ghost use Rattle.ascii.specs.contracts.Writer.{Puts};
 ghost use Rattle.datainfo.specs.Layout.{datainfoAt, ReadableAt};
 ghost use Rattle.outbox.specs.Outbox.{encodeAll};
 ghost use Rattle.report.specs.Judge.{tableNumber};
 ghost use Rattle.plain.specs.Answer.{busy};
+ghost use Rattle.state.specs.contracts.Bare.{withLines};
 ghost use Rattle.access.specs.contracts.Busy.{StatusLow, Admits, FindsStatus, withStatus, statusUpdates};
 use ascii::names::same;
 use ascii::write::put;
@@ -18,7 +20,7 @@ use message::say::Sensor;
 use outcome::Status;
 use search::find::FoundParameter;
 use search::find::find_parameter;
-use state::Clients;
+use state::Brief;
 use table::layout::ParameterAt;
 use update::put_updates_to;
 
@@ -65,15 +67,15 @@ pub(crate) fn store_status(values: &mut [u8], status: Status, text: &[u8])
 pub(crate) fn put_status(
     out: &mut [u8],
     at: usize,
-    clients: Clients,
+    clients: Brief,
     status: Status,
     module: &[u8],
     text: &[u8],
     time: u64,
 ) -> usize
-    requires { ⌜ StatusLow status × ((at + length (encodeAll (statusUpdates clients status (now «module») (now text) time)) ≤ length (now out))
+    requires { ⌜ StatusLow status × ((at + length (encodeAll (statusUpdates (withLines clients []) status (now «module») (now text) time)) ≤ length (now out))
         × (length (now «module») + 6 + length (now text) ≤ 1024)) ⌝ }
-    ensures { λ r. ⌜ Puts (now (out .entry)) at (encodeAll (statusUpdates clients status (now («module» .entry)) (now (text .entry)) time))
+    ensures { λ r. ⌜ Puts (now (out .entry)) at (encodeAll (statusUpdates (withLines clients []) status (now («module» .entry)) (now (text .entry)) time))
         (now (out .exit)) r ⌝ }
 {
     match status {

@@ -9,10 +9,10 @@ use form::verdict;
 use message::say::Class;
 use table::layout::ParameterAt;
 
-// It is, or the error that it is refused with.
+// It is, or the error that it is denied with.
 pub enum Judged {
     LetIn,
-    Refused(Class),
+    Denied(Class),
 }
 
 // "BadJSON, WrongType, RangeError."
@@ -21,9 +21,9 @@ pub(crate) fn let_in(verdict: Verdict) -> Judged
 {
     match verdict {
         Verdict::Fits => Judged::LetIn,
-        Verdict::RangeError => Judged::Refused(Class::RangeError),
-        Verdict::WrongType => Judged::Refused(Class::WrongType),
-        Verdict::BadJson => Judged::Refused(Class::BadJSON),
+        Verdict::RangeError => Judged::Denied(Class::RangeError),
+        Verdict::WrongType => Judged::Denied(Class::WrongType),
+        Verdict::BadJson => Judged::Denied(Class::BadJSON),
     }
 }
 
@@ -34,7 +34,7 @@ pub(crate) fn judge_change(table: &[u8], q: ParameterAt, text: &[u8]) -> Judged
 {
     let readonly = q.readonly;
     if readonly {
-        return Judged::Refused(Class::ReadOnly);
+        return Judged::Denied(Class::ReadOnly);
     }
     let info = q.info;
     let_in(verdict(table, info, text))

@@ -11,6 +11,7 @@ ghost use lib.ListN.{length};
 ghost use Rattle.ascii.specs.Numbers.{latest};
 ghost use Rattle.search.specs.contracts.Found.{ParameterFound, CommandFound};
 ghost use Rattle.plain.specs.Answer.{reads, changes, checks, does};
+ghost use Rattle.state.specs.contracts.Bare.{unlined};
 ghost use Rattle.outcome.specs.contracts.Ready.{Lent, Ready};
 ghost use Rattle.outcome.specs.contracts.Outcome.{OfParameter, OfCommand};
 use crate::command::argument_verdict;
@@ -24,7 +25,7 @@ use message::say::Sensor;
 use outbox::write::Told;
 use outbox::write::put_final_report;
 use outcome::Outcome;
-use state::State;
+use state::Bare;
 use state::setting::sensor_at;
 use state::setting::shown;
 use table::layout::CommandAt;
@@ -36,7 +37,7 @@ pub fn read<'a>(
     table: &'a [u8],
     values: &'a [u8],
     out: &mut [u8],
-    state: State,
+    state: Bare,
     client: u8,
     k: usize,
     home: usize,
@@ -44,8 +45,8 @@ pub fn read<'a>(
     module: &[u8],
     name: &[u8],
 ) -> Outcome
-    requires { ⌜ Ready (now table) state (now values) (now out) client × ParameterFound (now table) (now «module») (now name) k home q ⌝ }
-    ensures { λ r. ⌜ ((t : ℕ) → OfParameter (now (table .entry)) state (now (values .entry)) (now (out .entry)) client t r (now (values .entry))
+    requires { ⌜ Ready (now table) (unlined state) (now values) (now out) client × ParameterFound (now table) (now «module») (now name) k home q ⌝ }
+    ensures { λ r. ⌜ ((t : ℕ) → OfParameter (now (table .entry)) (unlined state) (now (values .entry)) (now (out .entry)) client t r (now (values .entry))
         (now (out .exit)) (now («module» .entry)) (now (name .entry)) reads) ⌝ }
 {
     let settings = state.settings;
@@ -67,7 +68,7 @@ pub fn change(
     table: &[u8],
     values: &mut [u8],
     out: &mut [u8],
-    state: State,
+    state: Bare,
     client: u8,
     time: u64,
     k: usize,
@@ -77,9 +78,9 @@ pub fn change(
     name: &[u8],
     text: &[u8],
 ) -> Outcome
-    requires { ⌜ Ready (now table) state (now values) (now out) client × ((time ≤ latest)
+    requires { ⌜ Ready (now table) (unlined state) (now values) (now out) client × ((time ≤ latest)
         × (ParameterFound (now table) (now «module») (now name) k home q × (length (now text) ≤ 1024))) ⌝ }
-    ensures { λ r. ⌜ OfParameter (now (table .entry)) state (now (values .entry)) (now (out .entry)) client time r (now (values .exit))
+    ensures { λ r. ⌜ OfParameter (now (table .entry)) (unlined state) (now (values .entry)) (now (out .entry)) client time r (now (values .exit))
         (now (out .exit)) (now («module» .entry)) (now (name .entry)) (λ w n c t. changes w n c t (now (text .entry))) ⌝ }
 {
     let mut whole = [0u8; 1282];
@@ -111,12 +112,12 @@ pub fn change(
     )
 }
 
-// What a change would store is told, and nothing is stored; or the error that a change would be refused with, and the outbox is as it was.
+// What a change would store is told, and nothing is stored; or the error that a change would be denied with, and the outbox is as it was.
 pub fn check<'a>(
     table: &'a [u8],
     values: &'a [u8],
     out: &mut [u8],
-    state: State,
+    state: Bare,
     client: u8,
     time: u64,
     k: usize,
@@ -126,9 +127,9 @@ pub fn check<'a>(
     name: &[u8],
     text: &[u8],
 ) -> Outcome
-    requires { ⌜ Ready (now table) state (now values) (now out) client × ((time ≤ latest)
+    requires { ⌜ Ready (now table) (unlined state) (now values) (now out) client × ((time ≤ latest)
         × (ParameterFound (now table) (now «module») (now name) k home q × (length (now text) ≤ 1024))) ⌝ }
-    ensures { λ r. ⌜ OfParameter (now (table .entry)) state (now (values .entry)) (now (out .entry)) client time r (now (values .entry))
+    ensures { λ r. ⌜ OfParameter (now (table .entry)) (unlined state) (now (values .entry)) (now (out .entry)) client time r (now (values .entry))
         (now (out .exit)) (now («module» .entry)) (now (name .entry)) (λ w n c t. checks w n c t (now (text .entry))) ⌝ }
 {
     let mut whole = [0u8; 1282];
@@ -178,7 +179,7 @@ pub fn execute(
     let argument = q.argument;
     let info = q.info;
     match let_in(argument_verdict(table, argument, info, text)) {
-        Judged::Refused(class) => Outcome::Refused(class),
+        Judged::Denied(class) => Outcome::Denied(class),
         Judged::LetIn => Outcome::Sent(order(
             table,
             info,

@@ -1,9 +1,11 @@
 // A parameter is set by a client, and before it the status of its module, if it is to be.
 ghost use Prim.Native.Nat.{_≤_};
+ghost use mathlib.Core.List.{[]};
 ghost use lib.ListN.{length, drop};
 ghost use Rattle.ascii.specs.contracts.Writer.{Puts};
 ghost use Rattle.datainfo.specs.Layout.{datainfoIn};
 ghost use Rattle.outbox.specs.Outbox.{encodeAll};
+ghost use Rattle.state.specs.contracts.Bare.{withLines};
 ghost use Rattle.access.specs.contracts.Set.{Settable, Accepts, Staged, IsSetBy, setRecords};
 use crate::busy::put_status;
 use crate::busy::status_of;
@@ -16,13 +18,13 @@ use outbox::write::put_final_report;
 use outbox::write::put_order_change;
 use outcome::Outcome;
 use outcome::Status;
-use state::Clients;
+use state::Brief;
 use update::put_updates_to;
 
 // The records of a change: "the driver's order ..", the updates of the status, those of the parameter, and `changed`.
 fn put_set(
     out: &mut [u8],
-    clients: Clients,
+    clients: Brief,
     status: Status,
     busy: &[u8],
     client: u8,
@@ -34,7 +36,7 @@ fn put_set(
     value: &[u8],
 ) -> usize
     requires { ⌜ Settable (now out) k home (now «module») (now name) time × (Staged status (now busy) × (length (now value) ≤ 256)) ⌝ }
-    ensures { λ r. ⌜ Puts (now (out .entry)) 0 (encodeAll (setRecords clients status (now (busy .entry)) client k home (now («module» .entry))
+    ensures { λ r. ⌜ Puts (now (out .entry)) 0 (encodeAll (setRecords (withLines clients []) status (now (busy .entry)) client k home (now («module» .entry))
         (now (name .entry)) (now (value .entry)) time)) (now (out .exit)) r ⌝ }
 {
     let order = put_order_change(out, 0, client, k as u8, value);
@@ -59,7 +61,7 @@ pub(crate) fn set(
     info: usize,
     values: &mut [u8],
     out: &mut [u8],
-    clients: Clients,
+    clients: Brief,
     client: u8,
     time: u64,
     k: usize,
@@ -69,7 +71,7 @@ pub(crate) fn set(
     text: &[u8],
 ) -> Outcome
     requires { ⌜ Settable (now out) k home (now «module») (now name) time × Accepts (now table) info (now values) (now text) ⌝ }
-    ensures { λ r. ⌜ IsSetBy (now (table .entry)) (datainfoIn 4 (drop info (now (table .entry)))) clients client k home (now («module» .entry))
+    ensures { λ r. ⌜ IsSetBy (now (table .entry)) (datainfoIn 4 (drop info (now (table .entry)))) (withLines clients []) client k home (now («module» .entry))
         (now (name .entry)) (now (text .entry)) time (now (values .entry)) (now (out .entry)) r (now (values .exit)) (now (out .exit)) ⌝ }
 {
     let busy = b"[300,\"target changed\"]";

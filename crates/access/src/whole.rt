@@ -4,6 +4,7 @@ ghost use mathlib.Core.List.{List};
 ghost use Rattle.ascii.specs.Numbers.{latest};
 ghost use Rattle.search.specs.contracts.Found.{ParameterFound};
 ghost use Rattle.state.specs.declared.State.{State};
+ghost use Rattle.state.specs.contracts.Bare.{unlined};
 ghost use Rattle.outcome.specs.contracts.Ready.{Lent, Ready};
 ghost use Rattle.outcome.specs.contracts.Outcome.{OfParameter};
 ghost use Rattle.access.specs.contracts.Whole.{changesWhole, checksWhole, Fillable, Fills};
@@ -14,7 +15,7 @@ use crate::telling::put_checked;
 use form::complete::complete;
 use message::say::Sensor;
 use outcome::Outcome;
-use state::State;
+use state::Bare;
 use state::setting::sensor_at;
 use state::setting::shown;
 use table::layout::ParameterAt;
@@ -24,7 +25,7 @@ use table::layout::ParameterAt;
 pub(crate) fn fill<'a>(
     table: &'a [u8],
     values: &'a [u8],
-    state: State,
+    state: Bare,
     k: usize,
     home: usize,
     q: ParameterAt,
@@ -33,8 +34,8 @@ pub(crate) fn fill<'a>(
     text: &[u8],
     whole: &mut [u8],
 ) -> usize
-    requires { ⌜ Fillable (now table) state (now values) (now «module») (now name) k home q (now text) (now whole) ⌝ }
-    ensures { λ r. ⌜ Fills (now (table .entry)) state (now (values .entry)) (now («module» .entry)) (now (name .entry)) (now (text .entry))
+    requires { ⌜ Fillable (now table) (unlined state) (now values) (now «module») (now name) k home q (now text) (now whole) ⌝ }
+    ensures { λ r. ⌜ Fills (now (table .entry)) (unlined state) (now (values .entry)) (now («module» .entry)) (now (name .entry)) (now (text .entry))
         (now (whole .entry)) (now (whole .exit)) r ⌝ }
 {
     let settings = state.settings;
@@ -54,7 +55,7 @@ pub(crate) fn change_whole(
     table: &[u8],
     values: &mut [u8],
     out: &mut [u8],
-    state: State,
+    state: Bare,
     client: u8,
     time: u64,
     k: usize,
@@ -64,12 +65,13 @@ pub(crate) fn change_whole(
     name: &[u8],
     text: &[u8],
 ) -> Outcome
-    requires { ⌜ Ready (now table) state (now values) (now out) client × ((time ≤ latest) × ParameterFound (now table) (now «module») (now name) k home q) ⌝ }
-    ensures { λ r. ⌜ OfParameter (now (table .entry)) state (now (values .entry)) (now (out .entry)) client time r (now (values .exit))
+    requires { ⌜ Ready (now table) (unlined state) (now values) (now out) client × ((time ≤ latest)
+        × ParameterFound (now table) (now «module») (now name) k home q) ⌝ }
+    ensures { λ r. ⌜ OfParameter (now (table .entry)) (unlined state) (now (values .entry)) (now (out .entry)) client time r (now (values .exit))
         (now (out .exit)) (now («module» .entry)) (now (name .entry)) (λ w n c t. changesWhole w n c t (now (text .entry))) ⌝ }
 {
     match judge_change(table, q, text) {
-        Judged::Refused(fault) => Outcome::Refused(fault),
+        Judged::Denied(fault) => Outcome::Denied(fault),
         Judged::LetIn => {
             let clients = state.clients;
             let info = q.info;
@@ -91,7 +93,7 @@ pub(crate) fn change_whole(
     }
 }
 
-// What a change would store is told, and nothing is stored; or the error that a change would be refused with, and the outbox is as it was. Neither
+// What a change would store is told, and nothing is stored; or the error that a change would be denied with, and the outbox is as it was. Neither
 // state nor values area is looked at.
 pub(crate) fn check_whole(
     table: &[u8],
@@ -110,7 +112,7 @@ pub(crate) fn check_whole(
         (now («module» .entry)) (now (name .entry)) (λ w n c t. checksWhole w n c t (now (text .entry)))) ⌝ }
 {
     match judge_change(table, q, text) {
-        Judged::Refused(class) => Outcome::Refused(class),
+        Judged::Denied(class) => Outcome::Denied(class),
         Judged::LetIn => {
             let info = q.info;
             Outcome::Sent(put_checked(table, info, out, client, time, module, name, text))

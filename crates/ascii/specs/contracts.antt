@@ -1,5 +1,5 @@
 pub mod Reader
-pub mod Class
+pub mod ByteClasses
 pub mod Read
 pub mod Writer
 pub mod Compared

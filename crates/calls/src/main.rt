@@ -20,9 +20,9 @@ use script::say::write_note;
 use script::say::write_state;
 use state::State;
 
-// What is kept from operation to operation: the lengths of the table and of the index that calls are lent, and the state. `more` says whether the
+// What is handed on from operation to operation: the lengths of the table and of the index that calls are lent, and the state. `more` says whether the
 // script may go on.
-struct Kept {
+struct HandedOn {
     more: bool,
     table: usize,
     index: usize,
@@ -130,29 +130,29 @@ fn carried_out(
 }
 
 // The script's end, or an operation that the buffers have no room for.
-fn ended(kept: Kept) -> Kept {
-    let mut last = kept;
+fn ended(handed: HandedOn) -> HandedOn {
+    let mut last = handed;
     last.more = false;
     last
 }
 
 // A table, read into a lent buffer.
-fn with_table(table: &mut [u8], kept: Kept, size: usize) -> Kept {
+fn with_table(table: &mut [u8], handed: HandedOn, size: usize) -> HandedOn {
     if table.len() < size {
-        return ended(kept);
+        return ended(handed);
     }
-    let mut next = kept;
+    let mut next = handed;
     next.table = io::read_full(STDIN_FILENO, &mut table[..size]);
     next
 }
 
 // The index that calls are lent from here on, put into a lent buffer.
-fn with_index(index: &mut [u8], kept: Kept, bytes: &[u8]) -> Kept {
+fn with_index(index: &mut [u8], handed: HandedOn, bytes: &[u8]) -> HandedOn {
     if index.len() < bytes.len() {
-        return ended(kept);
+        return ended(handed);
     }
     put_within(index, 0, bytes);
-    let mut next = kept;
+    let mut next = handed;
     next.index = bytes.len();
     next
 }
@@ -164,35 +164,35 @@ fn operate(
     outbox: &mut [u8],
     index: &mut [u8],
     bytes: &mut [u8],
-    kept: Kept,
+    handed: HandedOn,
     o: Operation,
-) -> Kept {
+) -> HandedOn {
     let size = o.size;
-    let held = kept.table;
-    let lent = kept.index;
+    let held = handed.table;
+    let lent = handed.index;
     if bytes.len() < size {
-        return ended(kept);
+        return ended(handed);
     }
     if table.len() < held {
-        return ended(kept);
+        return ended(handed);
     }
     if index.len() < lent {
-        return ended(kept);
+        return ended(handed);
     }
     io::read_full(STDIN_FILENO, &mut bytes[..size]);
     if o.code == b'I' {
-        return with_index(index, kept, &bytes[..size]);
+        return with_index(index, handed, &bytes[..size]);
     }
     let state = carried_out(
         &table[..held],
         values,
         outbox,
-        kept.state,
+        handed.state,
         o,
         &bytes[..size],
         &index[..lent],
     );
-    Kept {
+    HandedOn {
         more: true,
         table: held,
         index: lent,
@@ -208,14 +208,14 @@ fn step(
     outbox: &mut [u8; 40000],
     index: &mut [u8; 256],
     bytes: &mut [u8; 65536],
-    kept: Kept,
-) -> Kept {
+    handed: HandedOn,
+) -> HandedOn {
     let o = read_operation(head);
     let code = o.code;
     match code {
-        0 => ended(kept),
-        b'T' => with_table(table, kept, o.size),
-        _ => operate(table, values, outbox, index, bytes, kept, o),
+        0 => ended(handed),
+        b'T' => with_table(table, handed, o.size),
+        _ => operate(table, values, outbox, index, bytes, handed, o),
     }
 }
 
@@ -228,22 +228,22 @@ fn main() {
     let mut index = [0u8; 256];
     let mut bytes = io::large_buffer();
     fill(&mut outbox);
-    let mut kept = Kept {
+    let mut handed = HandedOn {
         more: true,
         table: 0,
         index: 0,
         state: blank(),
     };
     let mut turns: u32 = 1000000;
-    while turns > 0 && kept.more {
-        kept = step(
+    while turns > 0 && handed.more {
+        handed = step(
             &mut head,
             &mut table,
             &mut values,
             &mut outbox,
             &mut index,
             &mut bytes,
-            kept,
+            handed,
         );
         turns -= 1;
     }

@@ -10,7 +10,7 @@ use Rattle.table.specs.Table.{Parameter, Command, Table}
 use Rattle.table.specs.Search.{Placed, parameters}
 use Rattle.message.specs.Line.{Parts}
 use Rattle.message.specs.Request.{Request}
-use Rattle.message.specs.Reply.{valued, Report, Reply, active, inactive, changed, counted}
+use Rattle.message.specs.Reply.{valued, DataReport, Reply, active, inactive, changed, counted}
 use Rattle.outbox.specs.Outbox.{Record, orderChange, orderCommand}
 use Rattle.plain.specs.Node.{Value, Node, withClient, Setting, settingValue, isActive, activeCount, activated, reportOf, updatesOf}
 use Rattle.plain.specs.Answer.{Outcome, carried, statusOf, busySettings, argumentForm, activates, deactivates, sets, outcome}
@@ -127,11 +127,11 @@ module _ (c : ℕ) (f : Choice) (out : ℕ → Bool) (k : ℕ → ℕ) (w : Tabl
   Aside o = Told c f out k (nodeAfter m o, before o) (n, [])
 
   -- Another client's line that is not answered by `changed` is nothing to client c, and orders nothing but its command.
-  pub aside : eqb c d ≡ false → f d (k d) ≡ true → (q : Request) → ((x : Report) → replyTo p (outcome w m d now q) ≡ changed x → ⊥)
+  pub aside : eqb c d ≡ false → f d (k d) ≡ true → (q : Request) → ((x : DataReport) → replyTo p (outcome w m d now q) ≡ changed x → ⊥)
       → Aside (outcome w m d now q)
   unfolding activates deactivates sets sentTo orders ordersLess
   aside e s =
-      outcome-holds (λ q o. ((x : Report) → replyTo p o ≡ changed x → ⊥) → Aside o) w m d now
+      outcome-holds (λ q o. ((x : DataReport) → replyTo p o ≡ changed x → ⊥) → Aside o) w m d now
       (record {
         bad = λ q x u. still;
         failing = λ j x t y z u. still;

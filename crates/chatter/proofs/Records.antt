@@ -9,7 +9,7 @@ use lib.Dec.{eqb}
 use borrow.Author.Tests.{eqb-true, eq-eqb, ne-eqb}
 use Rattle.table.specs.Table.{Parameter}
 use Rattle.table.specs.Search.{Placed}
-use Rattle.message.specs.Reply.{Report, isError}
+use Rattle.message.specs.Reply.{DataReport, isError}
 use Rattle.outbox.specs.Outbox.{Record, final, update, orderChange, orderCommand}
 use Rattle.outbox.specs.Sent.{errorTo, updateTo, errorsSent, updatesSent}
 use Rattle.plain.specs.Node.{Client, Value, isActive, reportOf, clientNumbers, updatesTo, updatesOf}
@@ -109,7 +109,7 @@ updates-less f k (update d r ∷ rs) h = updates-less f k rs h
 updates-less f k (orderChange d p v ∷ rs) h = absurd h
 updates-less f k (orderCommand d p v ∷ rs) h = absurd h
 
-pub to-updates : (g : ℕ → Client) (i : ℕ) (r : Report) (cs : List ℕ) → Updates (updatesTo g i r cs)
+pub to-updates : (g : ℕ → Client) (i : ℕ) (r : DataReport) (cs : List ℕ) → Updates (updatesTo g i r cs)
 unfolding updatesTo
 to-updates g i r [] = tt
 to-updates g i r (e ∷ cs) = go (isActive (g e) i) (to-updates g i r cs)
@@ -130,10 +130,10 @@ of-updates d wanted values k (p ∷ ps) = go (wanted (p .home)) (of-updates d wa
     go false h = h
 
 -- those of a change: of a status, and then of the parameter
-abbrev pub changeUpdates : (ℕ → Client) → Option (ℕ × Placed Parameter) → ℕ → ℕ → Report → List Record
+abbrev pub changeUpdates : (ℕ → Client) → Option (ℕ × Placed Parameter) → ℕ → ℕ → DataReport → List Record
 changeUpdates g o t i r = busyUpdates g o t ++ updatesTo g i r clientNumbers
 
-pub change-updates : (g : ℕ → Client) (o : Option (ℕ × Placed Parameter)) (t i : ℕ) (r : Report) → Updates (changeUpdates g o t i r)
+pub change-updates : (g : ℕ → Client) (o : Option (ℕ × Placed Parameter)) (t i : ℕ) (r : DataReport) → Updates (changeUpdates g o t i r)
 unfolding busyUpdates
 change-updates g none t i r = to-updates g i r clientNumbers
 change-updates g (some s) t i r = joined (updatesTo g (s .1 .home) _ clientNumbers) (to-updates g (s .1 .home) _ clientNumbers)
@@ -150,13 +150,13 @@ pub none-ordered : (f : Choice) (k : ℕ → ℕ) (a b : List Record) → Update
 none-ordered f k a b h g = updates-orders b g ∙ sym (updates-less f k a h)
 
 -- another client's update is not sent to client c
-unsent : (c d : ℕ) → eqb c d ≡ false → (r : Report) (q : Bool) → sentTo c (cond q (update d r ∷ []) []) ≡ []
+unsent : (c d : ℕ) → eqb c d ≡ false → (r : DataReport) (q : Bool) → sentTo c (cond q (update d r ∷ []) []) ≡ []
 unfolding sentTo
 unsent c d e r true = ap (λ q. cond q (update d r ∷ []) [] ++ []) e
 unsent c d e r false = refl
 
 -- A client's updates of a setting are by its own active modules.
-pub sent-to : (c : ℕ) (g h : ℕ → Client) → h c ≡ g c → (i : ℕ) (r : Report) (cs : List ℕ)
+pub sent-to : (c : ℕ) (g h : ℕ → Client) → h c ≡ g c → (i : ℕ) (r : DataReport) (cs : List ℕ)
     → sentTo c (updatesTo h i r cs) ≡ sentTo c (updatesTo g i r cs)
 unfolding updatesTo
 sent-to c g h s i r [] = refl
@@ -173,7 +173,7 @@ sent-to c g h s i r (d ∷ cs) =
         (subst (λ j. h j ≡ g j) (eqb-true c d e) s)
     go false e = unsent c d e r (isActive (h d) i) ∙ sym (unsent c d e r (isActive (g d) i))
 
-pub sent-change : (c : ℕ) (g h : ℕ → Client) → h c ≡ g c → (o : Option (ℕ × Placed Parameter)) (t i : ℕ) (r : Report)
+pub sent-change : (c : ℕ) (g h : ℕ → Client) → h c ≡ g c → (o : Option (ℕ × Placed Parameter)) (t i : ℕ) (r : DataReport)
     → sentTo c (changeUpdates h o t i r) ≡ sentTo c (changeUpdates g o t i r)
 unfolding busyUpdates
 sent-change c g h e none t i r = sent-to c g h e i r clientNumbers

@@ -15,7 +15,7 @@ use Rattle.fit.specs.Fit.{storedForm}
 use Rattle.message.specs.Error.{Fault, faultOf}
 use Rattle.message.specs.Line.{Line, Parts, whole, content, partsOf}
 use Rattle.message.specs.Request.{request}
-use Rattle.message.specs.Reply.{Held, valued, failed, Report, Reply, changed}
+use Rattle.message.specs.Reply.{Held, valued, failed, DataReport, Reply, changed}
 use Rattle.outbox.specs.Outbox.{Record, final}
 use Rattle.plain.specs.Node.{Client, closed, Node, put, withClient, counting, Setting, settingValue, fresh, lineOf, receive, emptied, reportOf, clientNumbers, updatesTo}
 use Rattle.plain.specs.Answer.{Outcome, outcome, answerParts, answer}
@@ -35,14 +35,14 @@ use Rattle.chatter.proofs.Lines.{agree, aside}
 
 -- no chosen line is answered by `changed` among these records, where each client e had k e replies before
 abbrev pub Fine : Choice → (ℕ → ℕ) → List Record → Type 0
-Fine f k rs = (e i : ℕ) (r : Report) → getElem? (repliesFor e rs) i ≡ some (changed r) → f e (k e + i) ≡ false
+Fine f k rs = (e i : ℕ) (r : DataReport) → getElem? (repliesFor e rs) i ≡ some (changed r) → f e (k e + i) ≡ false
 
 fine-append : (f : Choice) (k : ℕ → ℕ) (x y : List Record) → NoFinal x → Fine f k (x ++ y) → Fine f k y
 fine-append f k x y q h e i r s =
     h e i r (ap (λ l. getElem? l i) (replies-append e x y ∙ ap (_++ repliesFor e y) (no-final-replies e x q)) ∙ s)
 
 module _ (f : Choice) (k : ℕ → ℕ) (d : ℕ) (r : Reply) (y : List Record) (h : Fine f k (final d r ∷ y)) where
-  fine-now : (x : Report) → r ≡ changed x → f d (k d) ≡ false
+  fine-now : (x : DataReport) → r ≡ changed x → f d (k d) ≡ false
   unfolding repliesFor
   fine-now x s =
       let z : k d ≡ k d + 0 = omega arith in

@@ -11,7 +11,7 @@ use Rattle.table.specs.Layout.{tableOf}
 use Rattle.report.specs.Judge.{tableNumber}
 use Rattle.plain.specs.Node.{Node, begin, isOpen}
 use Rattle.plain.specs.Calls.{Event, Open, Close, Piece, Reading, Unreadable, Lent, Call, sends, isShort}
-use Rattle.plain.specs.History.{step, answers, AllAccepted, Item, byte, mark, feeds, opens, closes, reads, fails, consIf, own, marks, pieceItems, itemsOf, items, kept, taken, InTime, Roomy, AllRoomy, EmptiesOpen, IsSecond}
+use Rattle.plain.specs.History.{step, answers, AllAccepted, Item, byte, mark, feeds, opens, closes, reads, fails, consIf, own, marks, pieceItems, itemsOf, items, ifAccepted, taken, InTime, Roomy, AllRoomy, EmptiesOpen, IsSecond}
 use Rattle.second.proofs.Items.{inOrder}
 use Rattle.second.proofs.Calls.{readable, accepts, step-number}
 use Rattle.second.proofs.Second.{all-used, wholly, good-table}
@@ -140,16 +140,16 @@ second-by table n h g k e s =
 
 module _ (table : List ℕ) (z : tableNumber table ≡ 0) where
   proper-taken : (h : List Call) (n : Node) → AllProper (taken table n h)
-  unfolding taken kept
+  unfolding taken ifAccepted
   proper-taken [] n = tt
   proper-taken (e ∷ h) n =
       proper-append
-      (kept (step table n e .1 .number) (itemsOf (e .event)))
+      (ifAccepted (step table n e .1 .number) (itemsOf (e .event)))
       (taken table (step table n e .0) h)
       (go (step table n e .1 .number) refl)
       (proper-taken h (step table n e .0))
     where
-      go : (j : ℕ) → step table n e .1 .number ≡ j → AllProper (kept j (itemsOf (e .event)))
+      go : (j : ℕ) → step table n e .1 .number ≡ j → AllProper (ifAccepted j (itemsOf (e .event)))
       go zero q = proper-event (e .event) (accepts table z n e .0 (sym (step-number table n e) ∙ q) .0 .inTime)
       go (suc j) q = tt
 

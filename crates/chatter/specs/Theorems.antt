@@ -8,7 +8,7 @@ use mathlib.Core.Path.{_≡_}
 use lib.Dec.{eqb}
 use lib.ListN.{getElem?}
 use Rattle.table.specs.Layout.{tableOf}
-use Rattle.message.specs.Reply.{Report, pong, changed}
+use Rattle.message.specs.Reply.{DataReport, pong, changed}
 use Rattle.outbox.specs.Outbox.{Record, final, orderChange, orderCommand}
 use Rattle.plain.specs.Node.{Node, begin, isOpen, lineOf}
 use Rattle.plain.specs.Calls.{Call, startNumber}
@@ -19,12 +19,12 @@ use Rattle.chatter.specs.Without.{Choice, without, lessLines, sentTo, or
 -- "any lines of other clients that are not accepted changes": none of the chosen lines is client c's, and none was answered by `changed`, as an
 -- accepted change is, among the records rs that the history sent. Client d's reply of number i answers its line of that number. [H-12]
 pub record MayGo (c : ℕ) (f : Choice) (rs : List Record) : Type 0 where
-  -- [H-12]
+  -- "of other clients": client c's own lines stay [H-12]
   pub others : (i : ℕ) → f c i ≡ false
-  -- [H-12]
-  pub unchanged : (d i : ℕ) (r : Report) → getElem? (repliesFor d rs) i ≡ some (changed r) → f d i ≡ false
+  -- "that are not accepted changes" [H-12]
+  pub unchanged : (d i : ℕ) (r : DataReport) → getElem? (repliesFor d rs) i ≡ some (changed r) → f d i ≡ false
 
--- What the request says of client c, of the history h, from the node n on, and of k, which has the chosen lines no more.
+-- What the request says of client c, of the history h, from the node n on, and of k, which has the chosen lines no more. [H-12]
 pub record Unreached (table : List ℕ) (n : Node) (c : ℕ) (f : Choice) (h k : List Call) : Type 0 where
   pub accepted : AllAccepted (answers table n k)
   -- "Everything that this client is sent is the same": final replies and updates, in order

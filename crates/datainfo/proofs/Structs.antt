@@ -17,7 +17,7 @@ use Rattle.ascii.proofs.Lists.{both}
 use Rattle.datainfo.specs.Datainfo.{Datainfo, struct, partial, no-fields, Parts, fieldNames}
 use Rattle.datainfo.specs.Layout.{counted, flag, flagged, entry, joined, fields, structAt, partialAt, datainfoIn}
 use Rattle.datainfo.specs.contracts.Members.{afterField, membersAt}
-use Rattle.datainfo.specs.contracts.Kept.{nameIn}
+use Rattle.datainfo.specs.contracts.Obeyed.{nameIn}
 use Rattle.datainfo.proofs.Ends.{one-byte, no-byte}
 
 nothing-read : {A S : Type 0} {a : A} → none ≡ some a → S

@@ -14,20 +14,20 @@ use Rattle.table.specs.Layout.{readTable, Readable, orEmpty, tableOf}
 use Rattle.table.specs.Rules.{faultsBelow6}
 use Rattle.table.specs.contracts.Judged.{numberBelow6}
 use Rattle.report.specs.Report.{report}
-use Rattle.report.specs.Judge.{lowest, treeNumber, numberOf, tableNumber}
-use Rattle.report.proofs.Faults.{lowest-first, lowest-both}
+use Rattle.report.specs.Judge.{firstFault, treeNumber, numberOf, tableNumber}
+use Rattle.report.proofs.Faults.{first-fault-first, first-fault-both}
 use Rattle.emit.specs.contracts.Emitted.{capped}
 
 -- the numbers in their order: those below 6 come first
-tree-number : (t : Table) → treeNumber t ≡ lowest (numberBelow6 (some t) ∷ cond (ltb 32000 (length (report t))) 6 0 ∷ [])
+tree-number : (t : Table) → treeNumber t ≡ firstFault (numberBelow6 (some t) ∷ cond (ltb 32000 (length (report t))) 6 0 ∷ [])
 unfolding treeNumber numberBelow6
-tree-number t = sym (lowest-both (faultsBelow6 t) (cond (ltb 32000 (length (report t))) 6 0 ∷ []))
+tree-number t = sym (first-fault-both (faultsBelow6 t) (cond (ltb 32000 (length (report t))) 6 0 ∷ []))
 
 tree-low : (t : Table) (n : ℕ) → numberBelow6 (some t) ≡ n → (n ≡ 0 → ⊥) → treeNumber t ≡ n
-tree-low t n e z = tree-number t ∙ rw e (lowest-first n (cond (ltb 32000 (length (report t))) 6 0 ∷ []) z)
+tree-low t n e z = tree-number t ∙ rw e (first-fault-first n (cond (ltb 32000 (length (report t))) 6 0 ∷ []) z)
 
-sixth : (b : Bool) → lowest (0 ∷ cond b 6 0 ∷ []) ≡ cond b 6 0
-unfolding lowest
+sixth : (b : Bool) → firstFault (0 ∷ cond b 6 0 ∷ []) ≡ cond b 6 0
+unfolding firstFault
 sixth true = refl
 sixth false = refl
 

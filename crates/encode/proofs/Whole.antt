@@ -16,7 +16,7 @@ use Rattle.table.specs.Table.{Module, Table}
 use Rattle.table.specs.Layout.{wholeTable, readTable}
 use Rattle.table.specs.Rules.{moduleNamesGood, editionGood, namesGood, rulesKept, initialGood, datainfosGood, initialsGood}
 use Rattle.report.specs.Judge.{treeNumber, numberOf, tableNumber}
-use Rattle.report.proofs.Faults.{no-fault, lowest-none}
+use Rattle.report.proofs.Faults.{no-fault, first-fault-none}
 use Rattle.encode.specs.Encode.{encode, placed}
 use Rattle.encode.specs.Fits.{accessibleFits, moduleFits, headFits, hasLayout, textFits, optionFits}
 use Rattle.encode.specs.Theorems.{EncodedTablesAreReadBack, AcceptedBytesAreEncoded, TablesHaveOneLayout}
@@ -30,15 +30,15 @@ use Rattle.encode.proofs.ReadTables.{table-from}
 module _ (t : Table) (e : treeNumber t ≡ 0) where
   names : namesGood t ≡ true
   unfolding treeNumber
-  names = not-false (namesGood t) (no-fault 2 (not (namesGood t)) (lowest-none _ e 1))
+  names = not-false (namesGood t) (no-fault 2 (not (namesGood t)) (first-fault-none _ e 1))
 
   datainfos : datainfosGood t ≡ true
   unfolding treeNumber
-  datainfos = not-false (datainfosGood t) (no-fault 3 (not (datainfosGood t)) (lowest-none _ e 2))
+  datainfos = not-false (datainfosGood t) (no-fault 3 (not (datainfosGood t)) (first-fault-none _ e 2))
 
   initials : initialsGood t ≡ true
   unfolding treeNumber
-  initials = not-false (initialsGood t) (no-fault 4 (not (initialsGood t)) (lowest-none _ e 3))
+  initials = not-false (initialsGood t) (no-fault 4 (not (initialsGood t)) (first-fault-none _ e 3))
 
   module-names : all moduleNamesGood (t .modules) ≡ true
   unfolding namesGood

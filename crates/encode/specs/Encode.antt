@@ -20,7 +20,7 @@ unfoldable pub unsignedBytes : ℕ → ℕ → List ℕ
 unsignedBytes zero n = []
 unsignedBytes (suc k) n = unsignedBytes k (n / 256) ++ (n % 256 ∷ [])
 
--- [T-2, T-3, T-14]
+-- a signed number in k bytes [T-2]
 unfoldable pub signedBytes : ℕ → ℤ → List ℕ
 signedBytes k (pos n) = unsignedBytes k n
 signedBytes k (negsuc n) = unsignedBytes k (2 ^ (8 * k) - 1 - n)
@@ -53,7 +53,7 @@ unfoldable pub afterNext : List ℕ → List (List ℕ) → List (List ℕ)
 afterNext k ns = cond (isNext k ns) (drop 1 ns) ns
 
 unfoldable mutual
-  -- [T-2, T-3, T-14]
+  -- the type byte and what the type has [T-14]
   pub datainfoBytes : Datainfo → List ℕ
   -- "1 double: min, max", "2 int: min, max i64", "3 bool"
   datainfoBytes (double lo hi) = 1 ∷ limitBytes lo ++ limitBytes hi
@@ -138,7 +138,7 @@ modulesBytes (m ∷ ms) = moduleBytes m ++ modulesBytes ms
 unfoldable pub headBytes : Table → List ℕ
 headBytes t = bytes "ND" ++ textBytes (t .equipmentId) ++ textBytes (t .description) ++ markedBytes (bytes "ED") (t .edition)
 
--- the whole table; "`EN`: last; nothing follows." [T-2, T-3, T-14]
+-- the whole table; "`EN`: last; nothing follows." [T-3]
 unfoldable pub encode : Table → List ℕ
 encode t = headBytes t ++ modulesBytes (t .modules) ++ bytes "EN"
 

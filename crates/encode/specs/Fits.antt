@@ -102,6 +102,6 @@ moduleFits m = textFits (m .description) && optionFits (m .note) && all accessib
 unfoldable pub headFits : Table → Bool
 headFits t = textFits (t .equipmentId) && textFits (t .description) && optionFits (t .edition)
 
--- not number 1: "table over 16,384 bytes, or its layout can't be read" [T-2, T-3, T-14]
+-- not number 1: "table over 16,384 bytes, or its layout can't be read" [T-1, T-6]
 unfoldable pub hasLayout : Table → Bool
 hasLayout t = headFits t && all moduleFits (t .modules) && leb (length (encode t)) 16384

@@ -35,7 +35,7 @@ to300 = double (record { whole = pos 0; power = pos 0 }) (record { whole = pos 3
 abbrev pub to2-50 : Datainfo
 to2-50 = double (record { whole = pos 0; power = pos 0 }) (record { whole = pos 250; power = negsuc 1 })
 
--- [V-5, V-6, L-1, L-3, L-13, L-17]
+-- E1 to E12 in their order; `docs/RULES.md` has them with the rules that they show
 unfoldable pub examples : List Example
 examples =
     judged to300 (bytes "300") fits

@@ -27,7 +27,7 @@ use Rattle.datainfo.specs.Datainfo.{Datainfo}
 use Rattle.datainfo.specs.Datainfo as Datainfo
 use Rattle.datainfo.specs.Layout.{limit, doubleAt, intAt, enumAt, stringAt, arrayAt, tupleAt, structAt, scaledAt, blobAt, partialAt, variants, elements}
 use Rattle.datainfo.specs.Layout.{fields, typed, datainfoIn, datainfoAt}
-use Rattle.datainfo.specs.contracts.Kept.{ReadsLimit}
+use Rattle.datainfo.specs.contracts.Obeyed.{ReadsLimit}
 use Rattle.datainfo.specs.declared.rules.Limit as L
 use Rattle.datainfo.specs.declared.rules.Limit.{Limit}
 use Rattle.fit.proofs.Shapes.{nothing, just, either, steps}

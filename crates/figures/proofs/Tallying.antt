@@ -16,7 +16,7 @@ use Rattle.decimal.specs.Decimal.{numeral}
 use Rattle.datainfo.specs.Datainfo.{Datainfo}
 use Rattle.fit.specs.Fit.{isStored}
 use Rattle.figures.specs.declared.Tally.{Tally}
-use Rattle.figures.specs.Figures.{isSummed, least, greatest, total, numbersText, full, kept, figureLine}
+use Rattle.figures.specs.Figures.{isSummed, least, greatest, total, numbersText, full, firstSettings, figureLine}
 use Rattle.figures.specs.contracts.Tally.{belowZero, above, markOf, Small, noSettings, lower, higher, noted, Sums, Tallies, tallyNumbers, fullText}
 use Rattle.figures.specs.contracts.Tally.{countText, tallyLine}
 use Rattle.figures.specs.Theorems.{FiguresAreExact}
@@ -59,16 +59,16 @@ higher-is a b y z e f = rw (← e, ← f, sub-order b a belowZero) (go (leb b a)
 
 -- ## What is kept of settings
 
-kept-room : (vs : List (List ℕ)) → length vs ≤ full → kept vs ≡ vs
-unfolding kept
-kept-room vs h = take-all full vs h
+first-settings-room : (vs : List (List ℕ)) → length vs ≤ full → firstSettings vs ≡ vs
+unfolding firstSettings
+first-settings-room vs h = take-all full vs h
 
-kept-full : (vs : List (List ℕ)) (v : List ℕ) → full ≤ length vs → kept (vs ++ (v ∷ [])) ≡ kept vs
-unfolding kept
-kept-full vs v h = take-append-le full vs (v ∷ []) h
+first-settings-full : (vs : List (List ℕ)) (v : List ℕ) → full ≤ length vs → firstSettings (vs ++ (v ∷ [])) ≡ firstSettings vs
+unfolding firstSettings
+first-settings-full vs v h = take-append-le full vs (v ∷ []) h
 
-count-full : (vs : List (List ℕ)) → full ≤ length vs → length (kept vs) ≡ full
-unfolding kept
+count-full : (vs : List (List ℕ)) → full ≤ length vs → length (firstSettings vs) ≡ full
+unfolding firstSettings
 count-full vs h = length-take-le full vs h
 
 one-more : (vs : List (List ℕ)) (v : List ℕ) → length (vs ++ (v ∷ [])) ≡ suc (length vs)
@@ -109,12 +109,12 @@ module _ (d : Datainfo) (v : List ℕ) (stored : isStored d v ≡ true) where
   room-more [] t h e x =
       rw (← noted-one t (markOf d v) e)
       (record {
-        count = ap length (sym (kept-room (v ∷ []) (omega arith)));
-        numbers = λ s. rw (kept-room (v ∷ []) (omega arith)) (sums-first s);
+        count = ap length (sym (first-settings-room (v ∷ []) (omega arith)));
+        numbers = λ s. rw (first-settings-room (v ∷ []) (omega arith)) (sums-first s);
       })
   room-more (w ∷ ws) t h e x =
       let l = one-more (w ∷ ws) v in
-      let k = kept-room ((w ∷ ws) ++ (v ∷ [])) (omega arith) in
+      let k = first-settings-room ((w ∷ ws) ++ (v ∷ [])) (omega arith) in
       rw (← noted-some t (markOf d v) (lower (t .least) (markOf d v)) (higher (t .greatest) (markOf d v)) (omega arith) (λ z. omega arith) refl refl)
       (record {
         count = omega (arith, e, l, ap length k);
@@ -127,11 +127,11 @@ module _ (d : Datainfo) (v : List ℕ) (stored : isStored d v ≡ true) where
       go : (b : Bool) → ltb (length vs) full ≡ b → Tallies d (vs ++ (v ∷ [])) (noted t (markOf d v))
       go true e =
           let h = ltb-true (length vs) full e in
-          let k = kept-room vs (omega arith) in
+          let k = first-settings-room vs (omega arith) in
           room-more vs t h (x .count ∙ ap length k) (λ s. rw k at (x .numbers s))
       go false e =
           let h = ltb-false (length vs) full e in
-          let k = kept-full vs v h in
+          let k = first-settings-full vs v h in
           rw (← noted-over t (markOf d v) (omega (arith, x .count, count-full vs h)))
           (record { count = x .count ∙ ap length (sym k); numbers = λ s. rw k (x .numbers s) })
 
@@ -156,12 +156,12 @@ told m p d vs t x =
     (ap (λ (l : List ℕ). l ++ cond (isSummed d) (tallyNumbers t) []) (sym (append-assoc (m ++ bytes ":" ++ p) (bytes " count ") (decimal (t .count))))
     ∙ ap (λ (l : List ℕ). m ++ bytes ":" ++ p ++ bytes " count " ++ decimal (t .count) ++ l) (go (isSummed d) refl)))
   where
-    go : (b : Bool) → isSummed d ≡ b → cond (isSummed d) (tallyNumbers t) [] ≡ cond (isSummed d) (numbersText (map numeral (kept vs))) []
-    go true s = rw s (numbers-told t (map numeral (kept vs)) (x .count ∙ sym (length-map (kept vs) numeral)) (x .numbers s))
+    go : (b : Bool) → isSummed d ≡ b → cond (isSummed d) (tallyNumbers t) [] ≡ cond (isSummed d) (numbersText (map numeral (firstSettings vs))) []
+    go true s = rw s (numbers-told t (map numeral (firstSettings vs)) (x .count ∙ sym (length-map (firstSettings vs) numeral)) (x .numbers s))
     go false s = rw s refl
 
 pub start : (d : Datainfo) → Tallies d [] noSettings
-unfolding kept
+unfolding firstSettings
 start d = record { count = refl; numbers = λ s. tt }
 
 pub figures-are-exact : FiguresAreExact

@@ -34,12 +34,12 @@ unfoldable pub least : ℤ → List ℤ → ℤ
 least x [] = x
 least x (y ∷ ys) = least (cond (leZ x y) x y) ys
 
--- [R-16]
+-- the greatest of them [R-16]
 unfoldable pub greatest : ℤ → List ℤ → ℤ
 greatest x [] = x
 greatest x (y ∷ ys) = greatest (cond (leZ y x) x y) ys
 
--- [R-16]
+-- their sum [R-16]
 unfoldable pub total : ℤ → List ℤ → ℤ
 total x [] = x
 total x (y ∷ ys) = total (x +ℤ y) ys
@@ -54,15 +54,15 @@ numbersText (x ∷ xs) =
 abbrev pub full : ℕ
 full = 65535
 
--- [R-19]
-unfoldable pub kept : List (List ℕ) → List (List ℕ)
-kept vs = take full vs
+-- the settings that the figures are of [R-19]
+unfoldable pub firstSettings : List (List ℕ) → List (List ℕ)
+firstSettings vs = take full vs
 
 -- the line of the parameter p of the module m, which had these settings, each by its stored form: "scaled ones as they travel, `-0` as 0"; "a full one
--- ends in a space and `full`" [R-16, R-17, R-18, R-19]
+-- ends in a space and `full`" [R-16, R-18, R-19]
 unfoldable pub figureLine : List ℕ → List ℕ → Datainfo → List (List ℕ) → List ℕ
 figureLine m p d vs =
-    m ++ bytes ":" ++ p ++ bytes " count " ++ decimal (length (kept vs))
-    ++ cond (isSummed d) (numbersText (map numeral (kept vs))) []
-    ++ cond (ltb (length (kept vs)) full) [] (bytes " full")
+    m ++ bytes ":" ++ p ++ bytes " count " ++ decimal (length (firstSettings vs))
+    ++ cond (isSummed d) (numbersText (map numeral (firstSettings vs))) []
+    ++ cond (ltb (length (firstSettings vs)) full) [] (bytes " full")
     ++ bytes "\n"

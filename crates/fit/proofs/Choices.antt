@@ -21,7 +21,7 @@ use Rattle.decimal.specs.Token as Token
 use Rattle.json.specs.Json as Json
 use Rattle.json.specs.Json.{Json, null, boolean, bare}
 use Rattle.datainfo.specs.Datainfo.{Datainfo, Variant, enum}
-use Rattle.datainfo.specs.contracts.Kept.{nameOf}
+use Rattle.datainfo.specs.contracts.Obeyed.{nameOf}
 use Rattle.datainfo.specs.Layout.{counted, variants, enumAt}
 use Rattle.fit.specs.Fit.{inRange, expect, expectOr, asNumber, asString, memberNumber, fit}
 use Rattle.fit.specs.contracts.Verdict.{Judges}

@@ -34,7 +34,7 @@ use Rattle.json.specs.Json as Json
 use Rattle.json.proofs.ReadAgain.{of-some, number-takes}
 use Rattle.datainfo.specs.Datainfo.{Datainfo, Variant, double, int, enum, bool, scaled}
 use Rattle.datainfo.specs.Layout.{limit, doubleAt, intAt, counted, variants, enumAt, stringAt, scaledAt, blobAt}
-use Rattle.datainfo.specs.contracts.Kept.{ReadsLimit}
+use Rattle.datainfo.specs.contracts.Obeyed.{ReadsLimit}
 use Rattle.datainfo.specs.declared.rules.Limit as L
 use Rattle.datainfo.specs.declared.rules.Limit.{Limit}
 use Rattle.fit.specs.Fit.{fits, rangeError, wrongType, inRange, expect, expectOr, asNumber, asString, doubleFit, wholeFit, betweenIntegers, isVariant, fit}

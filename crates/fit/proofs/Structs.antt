@@ -22,7 +22,7 @@ use Rattle.json.specs.Json.{object, Members, bare, value, objectEnd}
 use Rattle.datainfo.specs.Datainfo.{Datainfo, Fields, no-fields, field, Parts, fieldNames}
 use Rattle.datainfo.specs.Layout.{entry, joined, fields, datainfoIn}
 use Rattle.datainfo.specs.contracts.Members.{membersAt}
-use Rattle.datainfo.specs.contracts.Kept.{nameIn}
+use Rattle.datainfo.specs.contracts.Obeyed.{nameIn}
 use Rattle.datainfo.proofs.Structs.{fields-none, fields-some, name-read}
 use Rattle.fit.specs.Fit.{expect, worse, keys, eachOnce, valueAt, fit, fieldsFit}
 use Rattle.fit.specs.Fit as Fit

@@ -112,15 +112,15 @@ module _ (table values : List ℕ) (s : Settings) where
 
 -- ## A state
 
-module _ (table values : List ℕ) (s : State) (b : Bool) (h : b ≡ settingsUnfit (s .settings) values 0 (parameters (tableOf table))) where
-  pub settings-make : b ≡ true → true ≡ isUnfit (tableOf table) s values
+-- the code judges the clients first
+module _ (table values : List ℕ) (s : State) (m : ℕ) (i : m ≡ length (tableOf table .modules)) (b : Bool) (h : b ≡ any (clientUnfit m (s .clients)) clientNumbers) where
+  pub clients-make : b ≡ true → true ≡ isUnfit (tableOf table) s values
   unfolding isUnfit
-  settings-make e = rw (← h, e)
+  clients-make e = rw (← i, ← h, e, or-true)
 
-  pub clients-make : b ≡ false → (m : ℕ) → m ≡ length (tableOf table .modules)
-      → (r : Bool) → r ≡ any (clientUnfit m (s .clients)) clientNumbers → r ≡ isUnfit (tableOf table) s values
+  pub settings-make : b ≡ false → (r : Bool) → r ≡ settingsUnfit (s .settings) values 0 (parameters (tableOf table)) → r ≡ isUnfit (tableOf table) s values
   unfolding isUnfit
-  clients-make e m i r j = rw (← h, e, ← i) j
+  settings-make e r j = rw (← i, ← h, e, or-false) j
 
 pub few-counted : (table : List ℕ) → tableNumber table ≡ 0 → (m : ℕ) → m ≡ length (tableOf table .modules) → m ≤ 16
 few-counted table a m e = let f = accepted table a .fewModules in omega arith

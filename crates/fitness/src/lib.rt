@@ -6,6 +6,7 @@ ghost use Rattle.datainfo.specs.Layout.{datainfoAt, ReadableAt};
 ghost use Rattle.table.specs.Layout.{tableOf};
 ghost use Rattle.table.specs.Search.{parameters};
 ghost use Rattle.report.specs.Judge.{tableNumber};
+ghost use Rattle.state.specs.contracts.Bare.{lined};
 ghost use Rattle.state.specs.Fit.{isUnfit, settingsUnfit};
 ghost use Rattle.fitness.specs.contracts.Unfit.{TellsUnfit};
 use form::is_stored;
@@ -16,8 +17,8 @@ use search::cursor::NextParameter;
 use search::cursor::first_cursor;
 use search::cursor::next_parameter;
 use search::find::module_count;
+use state::Bare;
 use state::Settings;
-use state::State;
 use state::client::clients_unfit;
 
 // "a stored length is over 256 ..": see `state/Fit.settingUnfit`. The value is judged where one is stored.
@@ -67,14 +68,13 @@ fn settings_unfit(table: &[u8], values: &[u8], settings: Settings) -> bool
     false
 }
 
-// "State is unfit if, for this table: ..": a stored value is at fault, or a client is.
-pub fn is_unfit(table: &[u8], values: &[u8], state: State) -> bool
-    requires { ⌜ (tableNumber (now table) ≡ 0) × (16384 ≤ length (now values)) ⌝ }
-    ensures { λ r. ⌜ r ≡ isUnfit (tableOf (now (table .entry))) state (now (values .entry)) ⌝ }
+// "State is unfit if, for this table: ..": a client is at fault, or a stored value is. The state's lines are lent beside it.
+pub fn is_unfit(table: &[u8], values: &[u8], state: Bare, lines: &[u8]) -> bool
+    requires { ⌜ (tableNumber (now table) ≡ 0) × ((16384 ≤ length (now values)) × (length (now lines) ≡ 8192)) ⌝ }
+    ensures { λ r. ⌜ r ≡ isUnfit (tableOf (now (table .entry))) (lined state (now (lines .entry))) (now (values .entry)) ⌝ }
 {
-    let settings = state.settings;
-    if settings_unfit(table, values, settings) {
+    if clients_unfit(state.clients, lines, module_count(table)) {
         return true;
     }
-    clients_unfit(state.clients, module_count(table))
+    settings_unfit(table, values, state.settings)
 }

@@ -24,7 +24,7 @@ use Rattle.json.specs.Json.{Json, null, boolean, Members, no-members, member, s
 use Rattle.datainfo.specs.Datainfo as Datainfo
 use Rattle.datainfo.specs.Datainfo.{Datainfo, Fields, no-fields, field, Parts, fieldNames, fieldOf}
 use Rattle.datainfo.specs.Layout.{joined, fields, typed, datainfoIn}
-use Rattle.datainfo.specs.contracts.Kept.{nameIn}
+use Rattle.datainfo.specs.contracts.Obeyed.{nameIn}
 use Rattle.datainfo.specs.contracts.Members.{afterField, membersAt}
 use Rattle.datainfo.proofs.Own.{when-cond, when-double, when-int, when-enum, when-string, when-scaled, when-blob, when-array, when-tuple}
 use Rattle.datainfo.proofs.Structs.{struct-members, partial-members, fields-none, fields-some, past-field, name-read}

@@ -28,7 +28,7 @@ use Rattle.json.proofs.ReadBack.{readable-trees, key-again, value-again, member
 use Rattle.json.proofs.Enough.{members-enough}
 use Rattle.datainfo.specs.Datainfo.{Datainfo, partial, Fields, no-fields, field, Parts, fieldNames, fieldOf}
 use Rattle.datainfo.specs.Layout.{joined, fields, datainfoIn}
-use Rattle.datainfo.specs.contracts.Kept.{nameIn}
+use Rattle.datainfo.specs.contracts.Obeyed.{nameIn}
 use Rattle.datainfo.specs.contracts.Members.{afterField, membersAt}
 use Rattle.datainfo.proofs.Structs.{fields-none, fields-some, past-field, name-read}
 use Rattle.emit.specs.contracts.Emitted.{Emits, comma}

@@ -13,7 +13,7 @@ use Rattle.datainfo.specs.Rules.{namesGood}
 use Rattle.fit.specs.Fit.{fits, fit, numbered, stored, valueVerdict, verdict, storedForm, isFit, isStored, changeVerdict, changeForm}
 use Rattle.form.specs.Numbers.{numbersOnly}
 
--- a datainfo that is read from the table's bytes, with good names: number 1 and number 3 ask for no less [V-6, V-11]
+-- a datainfo that is read from the table's bytes, with good names: number 1 and number 3 ask for no less
 pub record InTable (d : Datainfo) : Type 0 where
   pub levels : ℕ
   pub bytes : List ℕ

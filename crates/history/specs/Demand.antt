@@ -79,7 +79,7 @@ pub record Demanded (table : List ℕ) (time area number : ℕ) (h : List Act) (
       → Past table time area′ number′ h′ k′ l′ → IsSecondHistory table (started table area time) h h′
       → (number′ ≡ 0) × AsFirst table k l h′ k′ l′
 
--- Demand 3, "one claim about a history, not one for each call": of every history, from any start on. [H-4, H-5]
+-- Demand 3, "one claim about a history, not one for each call": of every history, from any start on. [H-2, H-5]
 abbrev pub Demand3 : Type 0
 Demand3 = (table : List ℕ) (time area number : ℕ) (h : List Act) (k : Kit) (l : List Notice)
     → Past table time area number h k l → Demanded table time area number h k l

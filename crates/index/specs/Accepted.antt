@@ -13,12 +13,12 @@ use Rattle.index.specs.Search.{looked}
 use Rattle.index.specs.Among.{asOne}
 use Rattle.index.specs.Accessibles.{accessibles, isNamed, findAccessible, indexOf, sought, seekSteps, parameterIn, commandIn, placedOne}
 
--- A parameter of two names is the accessible of these names, if that is a parameter; and so is a command. [I-5]
+-- A parameter of two names is the accessible of these names, if that is a parameter. [I-5]
 abbrev pub ParametersAreAccessibles : Type 0
 ParametersAreAccessibles = (t : Table) (m a : List ℕ) → namesGood t ≡ true
     → findParameter t m a ≡ asOne (placedOne parameterIn) (accessibles t) (findAccessible t m a)
 
--- [I-5]
+-- And so is a command. [I-5]
 abbrev pub CommandsAreAccessibles : Type 0
 CommandsAreAccessibles = (t : Table) (m a : List ℕ) → namesGood t ≡ true
     → findCommand t m a ≡ asOne (placedOne commandIn) (accessibles t) (findAccessible t m a)

@@ -19,7 +19,7 @@ use Rattle.decimal.specs.Decimal.{Decimal}
 use Rattle.decimal.specs.contracts.Exact.{decimal as decimalOf}
 use Rattle.json.specs.Json.{quoted, compact, compactMembers, moreMembers}
 use Rattle.datainfo.specs.declared.rules.Limit as L
-use Rattle.datainfo.specs.contracts.Kept.{ReadsLimit}
+use Rattle.datainfo.specs.contracts.Obeyed.{ReadsLimit}
 use Rattle.datainfo.specs.Datainfo as Datainfo
 use Rattle.datainfo.specs.Datainfo.{Datainfo}
 use Rattle.datainfo.specs.Layout.{limit, doubleAt, intAt, stringAt, arrayAt, scaledAt, blobAt, datainfoIn}

@@ -19,7 +19,7 @@ use Rattle.datainfo.specs.Datainfo as Datainfo
 use Rattle.datainfo.specs.Datainfo.{Datainfo}
 use Rattle.datainfo.specs.Layout.{entry, doubleAt, intAt, stringAt, arrayAt, scaledAt, blobAt, typed, datainfoIn}
 use Rattle.datainfo.specs.contracts.Members.{afterMember}
-use Rattle.datainfo.specs.contracts.Kept.{nameIn}
+use Rattle.datainfo.specs.contracts.Obeyed.{nameIn}
 use Rattle.datainfo.proofs.Ends.{no-byte, one-byte, datainfo-cut, datainfo-typed}
 use Rattle.report.specs.Report.{datainfoValue}
 use Rattle.emit.specs.contracts.Emitted.{Emits, comma, told, Says}

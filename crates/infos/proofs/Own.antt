@@ -21,7 +21,7 @@ use Rattle.ascii.proofs.Follows.{then-then}
 use Rattle.json.specs.Json.{no-items, quoted, compact, compactItems, moreItems, compactMembers, moreMembers}
 use Rattle.datainfo.specs.Datainfo as Datainfo
 use Rattle.datainfo.specs.Datainfo.{Datainfo, partial, no-fields, Fields, Parts}
-use Rattle.datainfo.specs.contracts.Kept.{nameIn}
+use Rattle.datainfo.specs.contracts.Obeyed.{nameIn}
 use Rattle.datainfo.specs.Layout.{entry, joined, fields, structAt, partialAt, typed, datainfoIn}
 use Rattle.datainfo.specs.contracts.Members.{afterField, membersAt}
 use Rattle.datainfo.proofs.Own.{when-cond, when-double, when-int, when-enum, when-string, when-scaled, when-blob, when-array, when-tuple}

@@ -30,7 +30,7 @@ ghost use Rattle.ascii.specs.Numbers.{integer, signed};
 ghost use Rattle.json.specs.Json.{quoted};
 ghost use Rattle.decimal.specs.contracts.Exact.{decimal};
 ghost use Rattle.datainfo.specs.Datainfo as Datainfo;
-ghost use Rattle.datainfo.specs.contracts.Kept.{nameIn};
+ghost use Rattle.datainfo.specs.contracts.Obeyed.{nameIn};
 ghost use Rattle.datainfo.specs.contracts.Members.{membersAt};
 ghost use Rattle.datainfo.specs.Layout.{doubleAt, intAt, stringAt, entry, arrayAt, partialAt, scaledAt, blobAt, typed, datainfoIn};
 ghost use Rattle.report.specs.Report.{decimalText};

@@ -33,7 +33,7 @@ use Rattle.plain.specs.Answer as Plain
 use Rattle.plain.specs.Answer.{carried, outcome}
 use Rattle.sound.specs.Theorems.{CountsHeld}
 use Rattle.sound.proofs.Room.{puts-after, puts-none}
-use Rattle.sound.proofs.Records.{says-counted}
+use Rattle.sound.proofs.Records.{counted-within}
 use Rattle.sound.proofs.Accepted.{accepted}
 use Rattle.sound.proofs.Steps.{count-low}
 use Rattle.state.specs.declared.State.{State}
@@ -86,7 +86,7 @@ module _ (d : List ℕ) (c : ℕ) (room : 32768 ≤ length d) where
   unfolding countsAt
   counted-room k xs mask {x} {m} {t} e f h =
       let held : CountsHeld x = rw e (omega arith, (omega arith, omega arith)) in
-      final-room (counted x m t) (omega (arith, says-counted x m t held (omega (arith, f, count-low (bit mask) 16)) h .1))
+      final-room (counted x m t) (omega (arith, counted-within x m t held (omega (arith, f, count-low (bit mask) 16)) h .1))
 
   denial-room : (a s : List ℕ) (e : Denial) → length (errorReport e) ≤ 100 → length a ≤ 1024 → length s ≤ 1024 → RoomFor d 0 (final c (error a s e))
   denial-room a s e l h k = final-room (error a s e) (omega (arith, error-length a s e))

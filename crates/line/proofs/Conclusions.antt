@@ -8,19 +8,19 @@ use Rattle.message.specs.contracts.Said.{classOf, faultAs}
 use Rattle.message.specs.declared.say.Class.{Class}
 use Rattle.message.specs.declared.say.Fault.{Fault}
 use Rattle.plain.specs.Answer.{busy}
+use Rattle.state.specs.declared.Bare.{Bare}
 use Rattle.state.specs.declared.Settings.{Settings}
-use Rattle.state.specs.declared.State.{State}
 use Rattle.state.specs.View.{withLength, withSetting, settingsWith}
 use Rattle.outcome.specs.contracts.Outcome.{statusSettings}
 use Rattle.outcome.specs.declared.Status.{Status}
 use Rattle.outcome.specs.declared.Status.the-variants.{Stays, Busy}
 use Rattle.outcome.specs.declared.Outcome.{Outcome}
-use Rattle.outcome.specs.declared.Outcome.the-variants.{Refused, Unreadable, Sent, Active, Stored}
+use Rattle.outcome.specs.declared.Outcome.the-variants.{Denied, Unreadable, Sent, Active, Stored}
 use Rattle.outcome.specs.declared.Answered.{Answered}
 use Rattle.line.specs.contracts.Concluded.{Deniable, StatusNumbered, Concludable, Denies, Passes, Switches, Sets, Concludes}
 
 module _ (out action specifier : List ℕ) (came : Outcome) where
-  pub may-deny : (e : Class) → came ≡ Refused e → Concludable out action specifier came → Deniable out action specifier
+  pub may-deny : (e : Class) → came ≡ Denied e → Concludable out action specifier came → Deniable out action specifier
   may-deny e h k = subst (Concludable out action specifier) h k
 
   pub may-deny-read : (f : Fault) (since : ℕ) → came ≡ Unreadable f since → Concludable out action specifier came → Deniable out action specifier
@@ -47,8 +47,8 @@ module _ (f : Status) where
 
 -- ## What is concluded
 
-module _ {before after : List ℕ} {s : State} {c t : ℕ} {r : Answered} (action specifier : List ℕ) (came : Outcome) where
-  pub denies : {e : Class} → came ≡ Refused e → Denies before after s c t r action specifier (class (classOf e)) → Concludes before after s c t r action specifier came
+module _ {before after : List ℕ} {s : Bare} {c t : ℕ} {r : Answered} (action specifier : List ℕ) (came : Outcome) where
+  pub denies : {e : Class} → came ≡ Denied e → Denies before after s c t r action specifier (class (classOf e)) → Concludes before after s c t r action specifier came
   denies h d = subst (Concludes before after s c t r action specifier) (sym h) d
 
   pub denies-read : {f : Fault} {since : ℕ} → came ≡ Unreadable f since → Denies before after s c t r action specifier (fault (faultAs f) since)

@@ -32,12 +32,12 @@ use Rattle.message.specs.declared.line.Verb.the-variants as Verb
 use Rattle.message.specs.declared.line.Switch.{Switch}
 use Rattle.message.specs.declared.line.Switch.the-variants.{On, Off}
 use Rattle.plain.specs.Node.{Node}
-use Rattle.plain.specs.Answer.{Outcome, refused, found, activates, deactivates, inScope, reads, changes, checks, does, atParameter, atCommand, outcome}
+use Rattle.plain.specs.Answer.{Outcome, denied, found, activates, deactivates, inScope, reads, changes, checks, does, atParameter, atCommand, outcome}
 use Rattle.sound.proofs.Lists.{each-at, there-low}
 use Rattle.sound.proofs.Accepted.{GoodModule, accepted}
 use Rattle.state.specs.declared.State.{State}
 use Rattle.state.specs.View.{view}
-use Rattle.outcome.specs.contracts.Outcome.{Refuses, OutcomeIs, ComesTo, Comes, OfParameter, OfCommand}
+use Rattle.outcome.specs.contracts.Outcome.{IsDenied, OutcomeIs, ComesTo, Comes, OfParameter, OfCommand}
 use Rattle.outcome.specs.declared.Outcome as Code
 use Rattle.switch.specs.contracts.Scoped.{Scoped}
 use Rattle.switch.proofs.Switches.{few}
@@ -45,8 +45,8 @@ use Rattle.line.specs.contracts.Asked.{missingOf, isBuilt}
 
 -- ## Names
 
--- what is not found is refused; what is found goes on
-none-found : {A : Type 0} (e : Error.Class) (o : Option A) (f : A → Outcome) → o ≡ none → found e o f ≡ refused (Error.class e)
+-- what is not found is denied; what is found goes on
+none-found : {A : Type 0} (e : Error.Class) (o : Option A) (f : A → Outcome) → o ≡ none → found e o f ≡ denied (Error.class e)
 unfolding found
 none-found e o f z = rw z
 
@@ -65,7 +65,7 @@ module _ (s m a : List ℕ) where
     abbrev asked : Outcome
     asked = found Error.NoSuchModule (findModule (tableOf s) m) λ x. found e o f
 
-    lacking : o ≡ none → asked ≡ refused (Error.class e)
+    lacking : o ≡ none → asked ≡ denied (Error.class e)
     lacking z = past Error.NoSuchModule (findModule (tableOf s) m) (found e o f) h ∙ none-found e o f z
 
     there : (x : A) → o ≡ some x → asked ≡ f x
@@ -80,43 +80,43 @@ module _ (s m a : List ℕ) where
 
   -- the errors, in their order
   module _ (v : Verb) (xs : List ℕ) (n : Node) (c t : ℕ) (before values : List ℕ) where
-    abbrev RefusedWith : Class → Type 0
-    RefusedWith e = Refuses (tableOf s) n c t before before values values (outcome (tableOf s) n c t (verbRequest v xs m a)) (refused (Error.class (classOf e)))
+    abbrev DeniedWith : Class → Type 0
+    DeniedWith e = IsDenied (tableOf s) n c t before before values values (outcome (tableOf s) n c t (verbRequest v xs m a)) (denied (Error.class (classOf e)))
 
     -- first of all, that the edition doesn't have the verb, by the answer r
-    pub unbuilt : (r : Bool) → r ≡ isBuilt (tableOf s) v → not r ≡ true → RefusedWith K.ProtocolError
+    pub unbuilt : (r : Bool) → r ≡ isBuilt (tableOf s) v → not r ≡ true → DeniedWith K.ProtocolError
     unfolding outcome
     unbuilt r e z = record { is = go v (sym e ∙ not-true r z); quiet = refl; area = refl }
       where
-        go : (v : Verb) → isBuilt (tableOf s) v ≡ false → outcome (tableOf s) n c t (verbRequest v xs m a) ≡ refused (Error.class Error.ProtocolError)
+        go : (v : Verb) → isBuilt (tableOf s) v ≡ false → outcome (tableOf s) n c t (verbRequest v xs m a) ≡ denied (Error.class Error.ProtocolError)
         go Verb.Read b = absurd (false≢true (sym b))
         go Verb.Change b = absurd (false≢true (sym b))
         go Verb.Execute b = absurd (false≢true (sym b))
         go Verb.Check b = rw b
 
     module _ (b : isBuilt (tableOf s) v ≡ true) where
-      pub homeless : findModule (tableOf s) m ≡ none → RefusedWith K.NoSuchModule
+      pub homeless : findModule (tableOf s) m ≡ none → DeniedWith K.NoSuchModule
       unfolding outcome
       homeless z = record { is = go v b; quiet = refl; area = refl }
         where
-          go : (v : Verb) → isBuilt (tableOf s) v ≡ true → outcome (tableOf s) n c t (verbRequest v xs m a) ≡ refused (Error.class Error.NoSuchModule)
+          go : (v : Verb) → isBuilt (tableOf s) v ≡ true → outcome (tableOf s) n c t (verbRequest v xs m a) ≡ denied (Error.class Error.NoSuchModule)
           go Verb.Read b = none-found Error.NoSuchModule (findModule (tableOf s) m) _ z
           go Verb.Change b = none-found Error.NoSuchModule (findModule (tableOf s) m) _ z
           go Verb.Execute b = none-found Error.NoSuchModule (findModule (tableOf s) m) _ z
           go Verb.Check b = rw b (none-found Error.NoSuchModule (findModule (tableOf s) m) _ z)
 
-      pub lacks : isSome (findModule (tableOf s) m) ≡ true → Lacks v → RefusedWith (missingOf v)
+      pub lacks : isSome (findModule (tableOf s) m) ≡ true → Lacks v → DeniedWith (missingOf v)
       unfolding outcome
       lacks h z = record { is = go v b z; quiet = refl; area = refl }
         where
           go : (v : Verb) → isBuilt (tableOf s) v ≡ true → Lacks v
-              → outcome (tableOf s) n c t (verbRequest v xs m a) ≡ refused (Error.class (classOf (missingOf v)))
+              → outcome (tableOf s) n c t (verbRequest v xs m a) ≡ denied (Error.class (classOf (missingOf v)))
           go Verb.Read b z = lacking Error.NoSuchParameter (findParameter (tableOf s) m a) (reads (tableOf s) n c t) h z
           go Verb.Change b z = lacking Error.NoSuchParameter (findParameter (tableOf s) m a) (changes (tableOf s) n c t xs) h z
           go Verb.Execute b z = lacking Error.NoSuchCommand (findCommand (tableOf s) m a) (does (tableOf s) n c t xs) h z
           go Verb.Check b z = rw b (lacking Error.NoSuchParameter (findParameter (tableOf s) m a) (checks (tableOf s) n c t xs) h z)
 
-      pub nothing : NothingLocated s m a → RefusedWith (missingOf v)
+      pub nothing : NothingLocated s m a → DeniedWith (missingOf v)
       nothing l = lacks (l .home) (go v)
         where
           go : (v : Verb) → Lacks v
@@ -173,10 +173,10 @@ module _ (s m a : List ℕ) (l : L.Located) (h : Locates s m a l) where
   located-command k i q z = subst (Locates s m a) z h
 
   module _ (v : Verb) (b : isBuilt (tableOf s) v ≡ true) (xs : List ℕ) (n : Node) (c t : ℕ) (before values : List ℕ) where
-    pub located-nowhere : l ≡ L.the-variants.NoModule → RefusedWith s m a v xs n c t before values K.NoSuchModule
+    pub located-nowhere : l ≡ L.the-variants.NoModule → DeniedWith s m a v xs n c t before values K.NoSuchModule
     located-nowhere z = homeless s m a v xs n c t before values b (subst (Locates s m a) z h)
 
-    pub located-nothing : l ≡ L.the-variants.Nothing → (e : Class) → e ≡ missingOf v → RefusedWith s m a v xs n c t before values e
+    pub located-nothing : l ≡ L.the-variants.Nothing → (e : Class) → e ≡ missingOf v → DeniedWith s m a v xs n c t before values e
     located-nothing z e y = rw y (nothing s m a v xs n c t before values b (subst (Locates s m a) z h))
 
 -- ## Modules
@@ -188,7 +188,7 @@ switches Off w n c t = deactivates w n c t
 
 module _ (s m : List ℕ) (r : F.FoundModule) (g : FindsModule s m r) where
   pub no-module : r ≡ F.the-variants.Nothing → (v : Switch) (n : Node) (c t : ℕ) (before values : List ℕ)
-      → Refuses (tableOf s) n c t before before values values (outcome (tableOf s) n c t (switchRequest v (some m))) (refused (Error.class Error.NoSuchModule))
+      → IsDenied (tableOf s) n c t before before values values (outcome (tableOf s) n c t (switchRequest v (some m))) (denied (Error.class Error.NoSuchModule))
   unfolding outcome inScope
   no-module z On n c t before values =
       record { is = none-found Error.NoSuchModule (findModule (tableOf s) m) _ (subst (FindsModule s m) z g); quiet = refl; area = refl }

@@ -11,13 +11,13 @@ use outbox::write::put_final_error;
 use outcome::Answered;
 use outcome::Outcome;
 use outcome::Status;
+use state::Bare;
 use state::Settings;
-use state::State;
 use state::client::with_active;
 use state::setting::stored;
 
 // The bytes of a part of a line.
-pub fn bytes_of(line: &[u8], p: Part) -> &[u8]
+pub(crate) fn bytes_of(line: &[u8], p: Part) -> &[u8]
     requires { ⌜ Within (now line) p ⌝ }
     ensures { λ r. ⌜ now r ≡ part (now (line .entry)) p ⌝ }
 {
@@ -41,9 +41,9 @@ fn with_status(settings: Settings, status: Status, time: u64) -> Settings
 }
 
 // "Errors: `error_ACTION SPECIFIER [..]`, action and specifier as sent."; what is carried out has been answered
-pub fn conclude(
+pub(crate) fn conclude(
     out: &mut [u8],
-    state: State,
+    state: Bare,
     client: u8,
     time: u64,
     action: &[u8],
@@ -57,7 +57,7 @@ pub fn conclude(
     let settings = state.settings;
     let counts = state.counts;
     match came {
-        Outcome::Refused(class) => {
+        Outcome::Denied(class) => {
             let denial = Denial::Class(class);
             let written = put_final_error(out, 0, client, action, specifier, denial);
             Answered { state, written }
@@ -71,7 +71,7 @@ pub fn conclude(
         Outcome::Active(mask, written) => {
             let next = with_active(clients, client as usize, mask);
             Answered {
-                state: State {
+                state: Bare {
                     clients: next,
                     settings,
                     counts,
@@ -83,7 +83,7 @@ pub fn conclude(
             let first = with_status(settings, status, time);
             let next = stored(first, k, size, time);
             Answered {
-                state: State {
+                state: Bare {
                     clients,
                     settings: next,
                     counts,

@@ -10,7 +10,7 @@ use outbox::write::put_describing_start;
 use outcome::Outcome;
 
 // "`describing . ` and the report"
-pub fn describe(table: &[u8], out: &mut [u8], client: u8) -> Outcome
+pub(crate) fn describe(table: &[u8], out: &mut [u8], client: u8) -> Outcome
     requires { ⌜ Lent (now table) (now out) client ⌝ }
     ensures { λ r. ⌜ ((t : ℕ) → ComesAtAny (now (table .entry)) (now (out .entry)) client t r (now (out .exit)) R.describe) ⌝ }
 {

@@ -6,6 +6,7 @@ ghost use Rattle.message.specs.contracts.Parsed.{Parted, Asks};
 ghost use Rattle.outcome.specs.contracts.Ready.{Ready};
 ghost use Rattle.line.specs.contracts.Answered.{AnswersLine, RepliesLine};
 ghost use Rattle.line.specs.contracts.Names.{namesOf, LocatedAt};
+ghost use Rattle.state.specs.contracts.Bare.{unlined};
 use conclude::bytes_of;
 use conclude::conclude;
 use locating::sought;
@@ -21,7 +22,7 @@ use outcome::Answered;
 use outcome::Replied;
 use request::outcome;
 use search::locate::Located;
-use state::State;
+use state::Bare;
 
 mod conclude;
 mod describing;
@@ -35,7 +36,7 @@ fn answer_parts(
     table: &[u8],
     values: &mut [u8],
     out: &mut [u8],
-    state: State,
+    state: Bare,
     client: u8,
     time: u64,
     line: &[u8],
@@ -45,7 +46,7 @@ fn answer_parts(
     asked: Request,
     located: Located,
 ) -> Answered
-    requires { ⌜ Ready (now table) state (now values) (now out) client × ((time ≤ latest) × ((length (now line) ≤ 1024)
+    requires { ⌜ Ready (now table) (unlined state) (now values) (now out) client × ((time ≤ latest) × ((length (now line) ≤ 1024)
         × (Parted (now line) action specifier payload
         × (Asks (now line) action specifier asked × LocatedAt (now table) (now line) (namesOf asked) located)))) ⌝ }
     ensures { λ r. ⌜ AnswersLine (now (table .entry)) state (now (values .entry)) (now (out .entry)) client time (now (line .entry)) r
@@ -80,7 +81,7 @@ fn reply_parts(
     table: &[u8],
     values: &mut [u8],
     out: &mut [u8],
-    state: State,
+    state: Bare,
     client: u8,
     time: u64,
     index: &[u8],
@@ -89,7 +90,7 @@ fn reply_parts(
     specifier: Part,
     payload: Part,
 ) -> Replied
-    requires { ⌜ Ready (now table) state (now values) (now out) client × ((time ≤ latest) × ((length (now line) ≤ 1024)
+    requires { ⌜ Ready (now table) (unlined state) (now values) (now out) client × ((time ≤ latest) × ((length (now line) ≤ 1024)
         × Parted (now line) action specifier payload)) ⌝ }
     ensures { λ r. ⌜ RepliesLine (now (table .entry)) state (now (values .entry)) (now (out .entry)) client time (now (index .entry))
         (now (line .entry)) r (now (values .exit)) (now (out .exit)) ⌝ }
@@ -122,13 +123,13 @@ pub fn answer_line(
     table: &[u8],
     values: &mut [u8],
     out: &mut [u8],
-    state: State,
+    state: Bare,
     client: u8,
     time: u64,
     index: &[u8],
     line: &[u8],
 ) -> Replied
-    requires { ⌜ Ready (now table) state (now values) (now out) client × ((time ≤ latest) × (length (now line) ≤ 1024)) ⌝ }
+    requires { ⌜ Ready (now table) (unlined state) (now values) (now out) client × ((time ≤ latest) × (length (now line) ≤ 1024)) ⌝ }
     ensures { λ r. ⌜ RepliesLine (now (table .entry)) state (now (values .entry)) (now (out .entry)) client time (now (index .entry))
         (now (line .entry)) r (now (values .exit)) (now (out .exit)) ⌝ }
 {

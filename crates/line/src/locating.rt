@@ -34,7 +34,7 @@ fn names_of(asked: Request) -> Names
 }
 
 // "only a line's `M:P` or `M:C`"; of a verb that the table's edition doesn't have nothing is sought
-pub fn sought(table: &[u8], index: &[u8], line: &[u8], asked: Request) -> Placed
+pub(crate) fn sought(table: &[u8], index: &[u8], line: &[u8], asked: Request) -> Placed
     requires { ⌜ (tableNumber (now table) ≡ 0) × Inside (now line) asked ⌝ }
     ensures { λ r. ⌜ SoughtFor (now (table .entry)) (now (index .entry)) (now (line .entry)) asked r ⌝ }
 {

@@ -11,6 +11,7 @@ ghost use Rattle.outcome.specs.contracts.Ready.{Lent, Ready};
 ghost use Rattle.outcome.specs.contracts.Outcome.{Comes, ComesAtAny};
 ghost use Rattle.table.specs.Layout.{Readable, tableOf};
 ghost use Rattle.line.specs.contracts.Asked.{missingOf, isBuilt};
+ghost use Rattle.state.specs.contracts.Bare.{unlined};
 use access::change;
 use access::check;
 use access::execute;
@@ -19,7 +20,7 @@ use message::line::Verb;
 use message::say::Class;
 use outcome::Outcome;
 use search::locate::Located;
-use state::State;
+use state::Bare;
 use table::edition::Edition;
 use table::edition::edition_of;
 use table::layout::CommandAt;
@@ -49,7 +50,7 @@ fn is_edited(table: &[u8]) -> bool
 }
 
 // Whether the table's edition has a verb: `check` came with the next one.
-pub fn is_built(table: &[u8], verb: Verb) -> bool
+pub(crate) fn is_built(table: &[u8], verb: Verb) -> bool
     requires { ⌜ Readable (now table) ⌝ }
     ensures { λ r. ⌜ r ≡ isBuilt (tableOf (now (table .entry))) verb ⌝ }
 {
@@ -66,7 +67,7 @@ fn at_parameter(
     table: &[u8],
     values: &mut [u8],
     out: &mut [u8],
-    state: State,
+    state: Bare,
     client: u8,
     time: u64,
     verb: Verb,
@@ -77,9 +78,9 @@ fn at_parameter(
     name: &[u8],
     text: &[u8],
 ) -> Outcome
-    requires { ⌜ Ready (now table) state (now values) (now out) client × ((time ≤ latest) × (ParameterLocated (now table) (now «module») (now name) k home q
-        × ((isBuilt (tableOf (now table)) verb ≡ true) × (length (now text) ≤ 1024)))) ⌝ }
-    ensures { λ r. ⌜ Comes (now (table .entry)) state (now (values .entry)) (now (out .entry)) client time r (now (values .exit)) (now (out .exit))
+    requires { ⌜ Ready (now table) (unlined state) (now values) (now out) client × ((time ≤ latest)
+        × (ParameterLocated (now table) (now «module») (now name) k home q × ((isBuilt (tableOf (now table)) verb ≡ true) × (length (now text) ≤ 1024)))) ⌝ }
+    ensures { λ r. ⌜ Comes (now (table .entry)) (unlined state) (now (values .entry)) (now (out .entry)) client time r (now (values .exit)) (now (out .exit))
         (verbRequest verb (now (text .entry)) (now («module» .entry)) (now (name .entry))) ⌝ }
 {
     match verb {
@@ -98,7 +99,7 @@ fn at_parameter(
             name,
             text,
         ),
-        Verb::Execute => Outcome::Refused(Class::NoSuchCommand),
+        Verb::Execute => Outcome::Denied(Class::NoSuchCommand),
         Verb::Check => check(
             table,
             values,
@@ -137,9 +138,9 @@ fn at_command(
 {
     match verb {
         Verb::Execute => execute(table, out, client, time, k, home, q, module, name, text),
-        Verb::Read => Outcome::Refused(Class::NoSuchParameter),
-        Verb::Change => Outcome::Refused(Class::NoSuchParameter),
-        Verb::Check => Outcome::Refused(Class::NoSuchParameter),
+        Verb::Read => Outcome::Denied(Class::NoSuchParameter),
+        Verb::Change => Outcome::Denied(Class::NoSuchParameter),
+        Verb::Check => Outcome::Denied(Class::NoSuchParameter),
     }
 }
 
@@ -148,7 +149,7 @@ fn located(
     table: &[u8],
     values: &mut [u8],
     out: &mut [u8],
-    state: State,
+    state: Bare,
     client: u8,
     time: u64,
     verb: Verb,
@@ -157,14 +158,14 @@ fn located(
     name: &[u8],
     text: &[u8],
 ) -> Outcome
-    requires { ⌜ Ready (now table) state (now values) (now out) client × ((time ≤ latest) × ((isBuilt (tableOf (now table)) verb ≡ true)
+    requires { ⌜ Ready (now table) (unlined state) (now values) (now out) client × ((time ≤ latest) × ((isBuilt (tableOf (now table)) verb ≡ true)
         × ((length (now text) ≤ 1024) × Locates (now table) (now «module») (now name) located))) ⌝ }
-    ensures { λ r. ⌜ Comes (now (table .entry)) state (now (values .entry)) (now (out .entry)) client time r (now (values .exit)) (now (out .exit))
+    ensures { λ r. ⌜ Comes (now (table .entry)) (unlined state) (now (values .entry)) (now (out .entry)) client time r (now (values .exit)) (now (out .exit))
         (verbRequest verb (now (text .entry)) (now («module» .entry)) (now (name .entry))) ⌝ }
 {
     match located {
-        Located::NoModule => Outcome::Refused(Class::NoSuchModule),
-        Located::Nothing => Outcome::Refused(missing(verb)),
+        Located::NoModule => Outcome::Denied(Class::NoSuchModule),
+        Located::Nothing => Outcome::Denied(missing(verb)),
         Located::Parameter(k, home, q) => at_parameter(
             table,
             values,
@@ -187,11 +188,11 @@ fn located(
 }
 
 // "Without the record both stay as in document 01.": a verb that the edition doesn't have is "Anything else: ProtocolError."
-pub fn named(
+pub(crate) fn named(
     table: &[u8],
     values: &mut [u8],
     out: &mut [u8],
-    state: State,
+    state: Bare,
     client: u8,
     time: u64,
     verb: Verb,
@@ -200,13 +201,13 @@ pub fn named(
     name: &[u8],
     text: &[u8],
 ) -> Outcome
-    requires { ⌜ Ready (now table) state (now values) (now out) client × ((time ≤ latest) × ((length (now text) ≤ 1024)
+    requires { ⌜ Ready (now table) (unlined state) (now values) (now out) client × ((time ≤ latest) × ((length (now text) ≤ 1024)
         × ((isBuilt (tableOf (now table)) verb ≡ true) → Locates (now table) (now «module») (now name) found))) ⌝ }
-    ensures { λ r. ⌜ Comes (now (table .entry)) state (now (values .entry)) (now (out .entry)) client time r (now (values .exit)) (now (out .exit))
+    ensures { λ r. ⌜ Comes (now (table .entry)) (unlined state) (now (values .entry)) (now (out .entry)) client time r (now (values .exit)) (now (out .exit))
         (verbRequest verb (now (text .entry)) (now («module» .entry)) (now (name .entry))) ⌝ }
 {
     if !is_built(table, verb) {
-        return Outcome::Refused(Class::ProtocolError);
+        return Outcome::Denied(Class::ProtocolError);
     }
     located(
         table,

@@ -12,6 +12,7 @@ ghost use Rattle.outcome.specs.contracts.Ready.{Lent, Ready};
 ghost use Rattle.outcome.specs.contracts.Outcome.{Comes, ComesAtAny};
 ghost use Rattle.line.specs.contracts.Asked.{Carriable};
 ghost use Rattle.line.specs.contracts.Names.{namesOf, LocatedAt};
+ghost use Rattle.state.specs.contracts.Bare.{unlined};
 use crate::conclude::bytes_of;
 use crate::describing::describe;
 use crate::named::named;
@@ -27,7 +28,7 @@ use outbox::write::put_final_identification;
 use outbox::write::put_final_pong;
 use outcome::Outcome;
 use search::locate::Located;
-use state::State;
+use state::Bare;
 use state::bits::bit_count;
 use state::count::counts_of;
 use table::edition::Edition;
@@ -57,10 +58,10 @@ fn ping(out: &mut [u8], client: u8, time: u64, token: &[u8]) -> Outcome
 }
 
 // "replies `_counted . [[lines,errors,updates,active],{"t":now}]`, specifier and data ignored"
-fn count(out: &mut [u8], state: State, client: u8, time: u64) -> Outcome
+fn count(out: &mut [u8], state: Bare, client: u8, time: u64) -> Outcome
     requires { ⌜ (32768 ≤ length (now out)) × ((client < 8) × (time ≤ latest)) ⌝ }
-    ensures { λ r. ⌜ ((table values : List ℕ) → Ready table state values (now (out .entry)) client
-        → Comes table state values (now (out .entry)) client time r values (now (out .exit)) R.count) ⌝ }
+    ensures { λ r. ⌜ ((table values : List ℕ) → Ready table (unlined state) values (now (out .entry)) client
+        → Comes table (unlined state) values (now (out .entry)) client time r values (now (out .exit)) R.count) ⌝ }
 {
     let clients = state.clients;
     let active = clients.active;
@@ -81,11 +82,11 @@ fn data_of<'a>(line: &'a [u8], payload: Part, null: &'a [u8]) -> &'a [u8]
 }
 
 // What a request comes to.
-pub fn outcome(
+pub(crate) fn outcome(
     table: &[u8],
     values: &mut [u8],
     out: &mut [u8],
-    state: State,
+    state: Bare,
     client: u8,
     time: u64,
     line: &[u8],
@@ -94,9 +95,9 @@ pub fn outcome(
     asked: Request,
     located: Located,
 ) -> Outcome
-    requires { ⌜ Ready (now table) state (now values) (now out) client × ((time ≤ latest) × ((Carriable (now line) specifier payload asked)
+    requires { ⌜ Ready (now table) (unlined state) (now values) (now out) client × ((time ≤ latest) × ((Carriable (now line) specifier payload asked)
         × LocatedAt (now table) (now line) (namesOf asked) located)) ⌝ }
-    ensures { λ r. ⌜ Comes (now (table .entry)) state (now (values .entry)) (now (out .entry)) client time r (now (values .exit)) (now (out .exit))
+    ensures { λ r. ⌜ Comes (now (table .entry)) (unlined state) (now (values .entry)) (now (out .entry)) client time r (now (values .exit)) (now (out .exit))
         (meaning (now (line .entry)) (part (now (line .entry)) specifier) (part (now (line .entry)) payload) asked) ⌝ }
 {
     match asked {
@@ -126,6 +127,6 @@ pub fn outcome(
             )
         }
         Request::Count => count(out, state, client, time),
-        Request::Malformed => Outcome::Refused(Class::ProtocolError),
+        Request::Malformed => Outcome::Denied(Class::ProtocolError),
     }
 }

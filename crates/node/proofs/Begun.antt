@@ -13,8 +13,8 @@ use Rattle.ascii.specs.Numbers.{latest}
 use Rattle.table.specs.Table.{Table}
 use Rattle.table.specs.Layout.{readTable, orEmpty, tableOf}
 use Rattle.table.specs.Search.{placedFrom, parameters}
-use Rattle.report.specs.Judge.{lowest, tableNumber}
-use Rattle.report.proofs.Faults.{lowest-first}
+use Rattle.report.specs.Judge.{firstFault, tableNumber}
+use Rattle.report.proofs.Faults.{first-fault-first}
 use Rattle.counter.specs.declared.Counts.{Counts}
 use Rattle.counter.specs.Counts.{noCounts}
 use Rattle.plain.specs.Node.{Client, closed, initially, begin, showing, withClients, withCounts, noneOpen}
@@ -112,22 +112,22 @@ module _ (table values : List ℕ) (t : ℕ) where
   module _ {k : ℕ} (says : k ≡ tableNumber table) where
     pub start-table : {r : Done} {s : State} → k ≢ 0 → Quiet r k s → s ≡ blank 0 → Begins table values t r
     unfolding startNumber
-    start-table z q e = refused (says ∙ sym (lowest-first (tableNumber table) _ (λ y. z (says ∙ y)))) z (on q e)
+    start-table z q e = refused (says ∙ sym (first-fault-first (tableNumber table) _ (λ y. z (says ∙ y)))) z (on q e)
 
     module _ (zeroth : k ≡ 0) where
       ok : tableNumber table ≡ 0
       ok = sym says ∙ zeroth
 
       pub start-area : {r : Done} {s : State} → length values < 16384 → Quiet r 8 s → s ≡ blank 0 → Begins table values t r
-      unfolding startNumber lowest
+      unfolding startNumber firstFault
       start-area h q e = refused (rw (ok, lt-ltb (length values) 16384 h) refl) (λ z. absurd (omega arith)) (on q e)
 
       module _ (area : 16384 ≤ length values) where
         pub start-late : {r : Done} {s : State} → latest < t → Quiet r 10 s → s ≡ blank 0 → Begins table values t r
-        unfolding startNumber lowest
+        unfolding startNumber firstFault
         start-late h q e =
             refused (rw (ok, le-ltb (length values) 16384 area, lt-ltb latest t h) refl) (λ z. absurd (omega arith)) (on q e)
 
         pub start-good : {r : Done} {s : State} → t ≤ latest → Quiet r 0 s → s ≡ blank t → Begins table values t r
-        unfolding startNumber lowest
+        unfolding startNumber firstFault
         start-good h q e = accepted-start (rw (ok, le-ltb (length values) 16384 area, le-ltb latest t h) refl) ok h (on q e)

@@ -16,7 +16,7 @@ use Rattle.state.specs.declared.Clients.{Clients}
 use Rattle.state.specs.declared.State.{State}
 use Rattle.state.specs.View.{isSet, view, nextClients}
 use Rattle.state.specs.Fit.{isUnfit}
-use Rattle.state.specs.contracts.Changed.{withOpened, withClosed}
+use Rattle.state.specs.Changed.{withOpened, withClosed}
 use Rattle.state.specs.contracts.Counted.{Cleared}
 use Rattle.state.proofs.Becomes.{Sized}
 use Rattle.state.proofs.Cells.{opened-becomes, closed-becomes}
@@ -101,7 +101,7 @@ module _ (table : List ℕ) (s : State) (values index : List ℕ) (c t : ℕ) wh
             (accepts table s values opening [] _ values []
             (not-refused table s values [] opening numbered-open lent ok (not-high h) (ap (fault 13) (is-open judged y)))
             (omega arith)
-            (record { leaves = opens table s values (fit lent ok) c t x (opened-becomes (s .clients) z c low d) (k .size) low; steps = refl }))
+            (record { leaves = opens table s values (fit lent ok) c t x d (opened-becomes (s .clients) z c low d) (k .size) low; steps = refl }))
 
         pub close-good : {x : Clients} → not b ≡ false → Sized (s .clients) → x ≡ withClosed (s .clients) c → Quiet r 0 (next x) → Answers closing r
         unfolding eventSteps
@@ -110,4 +110,4 @@ module _ (table : List ℕ) (s : State) (values index : List ℕ) (c t : ℕ) wh
             (accepts table s values closing [] (quietDone 0 (next x)) values []
             (not-refused table s values [] closing numbered-close lent ok (not-high h) (ap (λ (z : Bool). fault 12 (not z)) (is-open judged (not-false b y))))
             (omega arith)
-            (record { leaves = closes table s values (fit lent ok) c t x (closed-becomes (s .clients) z c (omega arith) d); steps = refl }))
+            (record { leaves = closes table s values (fit lent ok) c t x d (closed-becomes (s .clients) z c (omega arith) d); steps = refl }))

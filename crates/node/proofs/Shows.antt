@@ -19,7 +19,7 @@ use Rattle.table.specs.declared.layout.ParameterAt.{ParameterAt}
 use Rattle.ascii.specs.Bytes.{isSome}
 use Rattle.message.specs.Error.{Fault, faultOf}
 use Rattle.message.specs.Reply.{heldAs}
-use Rattle.report.specs.Judge.{lowest}
+use Rattle.report.specs.Judge.{firstFault}
 use Rattle.search.specs.declared.cursor.Cursor.{Cursor}
 use Rattle.search.specs.declared.cursor.NextParameter.{NextParameter}
 use Rattle.search.specs.declared.cursor.NextParameter.the-variants.{At, End}
@@ -35,7 +35,7 @@ use Rattle.promise.specs.Shown.{valueNumber, notShown, partOf, errorOf, shownOf
 use Rattle.promise.proofs.Numbers.{Good, good}
 use Rattle.promise.proofs.Clients.{fit-parts}
 use Rattle.node.specs.contracts.Part.{partShown, heldShown}
-use Rattle.report.proofs.Faults.{lowest-first, accepted-readable}
+use Rattle.report.proofs.Faults.{first-fault-first, accepted-readable}
 use Rattle.rack.proofs.Readings.{parameter-at, none-past, none-found}
 
 -- ## The part
@@ -92,7 +92,7 @@ module _ (table values : List ℕ) (s : State) (k : ℕ) where
   module _ (n : ℕ) (lent : n ≡ lentNumber table values false [] s 0) where
     pub value-lent : {r : Shown} → n ≢ 0 → Refuses r n → Shows table values s k r
     unfolding valueNumber
-    value-lent z q = refused (lent ∙ sym (lowest-first (lentNumber table values false [] s 0) _ (λ y. z (lent ∙ y)))) z q
+    value-lent z q = refused (lent ∙ sym (first-fault-first (lentNumber table values false [] s 0) _ (λ y. z (lent ∙ y)))) z q
 
     module _ (ok : n ≡ 0) where
       none-lent : lentNumber table values false [] s 0 ≡ 0
@@ -105,7 +105,7 @@ module _ (table values : List ℕ) (s : State) (k : ℕ) where
       value-table = accepted-readable table (known .accepted)
 
       no-parameter : {r : Shown} → getElem? (parameters (tableOf table)) k ≡ none → Refuses r 14 → Shows table values s k r
-      unfolding valueNumber lowest
+      unfolding valueNumber firstFault
       no-parameter e q = refused (rw (none-lent, e) refl) (λ z. absurd (omega arith)) q
 
       pub value-past : {r : Shown} → 63 < k → Refuses r 14 → Shows table values s k r
@@ -131,7 +131,7 @@ module _ (table values : List ℕ) (s : State) (k : ℕ) where
           there = found .is
 
           is-number : 0 ≡ valueNumber table values s k
-          unfolding valueNumber lowest
+          unfolding valueNumber firstFault
           is-number = rw (none-lent, there) refl
 
           abbrev held : ℕ

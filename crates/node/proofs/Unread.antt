@@ -26,8 +26,12 @@ use Rattle.search.specs.declared.cursor.NextParameter.the-variants.{At, End}
 use Rattle.search.specs.contracts.Left.{placed}
 use Rattle.search.specs.contracts.Found.{ParameterNumbered, NumberedParameter}
 use Rattle.plain.specs.Calls.{Unreadable, Call, withOutbox, beside, sends, isSmall, ownFaults, eventSteps}
+use Rattle.state.specs.declared.Bare.{Bare}
 use Rattle.state.specs.declared.State.{State}
+use Rattle.state.specs.contracts.Bare.{lined, bareOf}
+use Rattle.promise.specs.declared.BareDone.{BareDone}
 use Rattle.promise.specs.declared.Done.{Done}
+use Rattle.promise.specs.contracts.Answer.{doneBy}
 use Rattle.promise.specs.contracts.Lent.{lentNumber}
 use Rattle.promise.specs.Promise.{Kept}
 use Rattle.promise.proofs.Numbers.{good, number-is}
@@ -101,14 +105,17 @@ module _ (table : List ℕ) (s : State) (values outbox index : List ℕ) (k t x 
                   let room = ltb-false (length outbox) 32768 (y .outbox) in
                   record { accepted = y .accepted; inTime = y .time; room = omega arith; low = omega arith; found = found }
 
-              -- no number is given
-              pub unread-taken : {r : Done} {outbox′ : List ℕ}
-                  → ((own : List ℕ) (class : ℕ) → Standing table s own → faultOf class ≡ some (faultAs i) → Taken table s own outbox (Unreadable k class t) r own outbox′)
+              -- no number is given. The state is handed on without its lines
+              pub unread-taken : {b : Bare} → b ≡ bareOf s → {d : BareDone} {outbox′ : List ℕ}
+                  → ((lines own : List ℕ) (class : ℕ) → Standing table (lined b lines) own → faultOf class ≡ some (faultAs i)
+                  → Taken table (lined b lines) own outbox (Unreadable k class t) (doneBy d lines) own outbox′)
+                  → {r : Done} → r ≡ doneBy d (s .clients .lines)
                   → Kept table report s values outbox r values outbox′
               unfolding eventSteps
-              unread-taken {r} {outbox′} h =
+              unread-taken is {d} {outbox′} h q =
                   let y = good table s values small index t none-lent in
-                  let l = h values x (record { area = y .area; fit = y .fit }) known in
-                  accepts table s values report outbox r values outbox′
+                  let l = (rw is at h) (s .clients .lines) values x (record { area = y .area; fit = y .fit }) known in
+                  rw q
+                  (accepts table s values report outbox (doneBy d (s .clients .lines)) values outbox′
                   (not-refused table s values outbox report numbered lent ok (rw there refl) (rw known refl)) (omega (arith, l .short))
-                  (record { leaves = l .leaves; steps = l .steps })
+                  (record { leaves = l .leaves; steps = l .steps }))

@@ -1,10 +1,12 @@
 // A driver's reading.
 use limits::OUTBOX;
 use promise::Done;
+use rack::judge::done_by;
 use rack::judge::lent_number;
 use rack::judge::quiet;
 use rack::reading::read_one;
 use state::State;
+use state::client::bare_of;
 ghost use lib.ListN.{length};
 ghost use Rattle.plain.specs.Calls.{Reading, withOutbox, beside};
 ghost use Rattle.promise.specs.Promise.{Kept};
@@ -29,5 +31,16 @@ pub extern "C" fn jihfasul_reading(
     if number != 0 {
         return quiet(number, state);
     }
-    read_one(table, values, outbox, state, parameter, time, bytes)
+    let clients = state.clients;
+    let lines = clients.lines;
+    let done = read_one(
+        table,
+        values,
+        outbox,
+        bare_of(state),
+        parameter,
+        time,
+        bytes,
+    );
+    done_by(done, lines)
 }

@@ -5,11 +5,13 @@ use limits::OUTBOX;
 use message::say::Sensor;
 use message::say::sensor_of;
 use promise::Done;
+use rack::judge::done_by;
 use rack::judge::lent_number;
 use rack::judge::quiet;
 use search::cursor::NextParameter;
 use search::find::parameter_by_number;
 use state::State;
+use state::client::bare_of;
 ghost use lib.ListN.{length};
 ghost use Rattle.plain.specs.Calls.{Unreadable, withOutbox, beside};
 ghost use Rattle.promise.specs.Promise.{Kept};
@@ -45,5 +47,8 @@ pub extern "C" fn jihfasul_unreadable(
     let Sensor::Fails(fault) = sensor_of(class) else {
         return quiet(16, state);
     };
-    take_unreadable(table, outbox, state, k, time, fault, p, home)
+    let clients = state.clients;
+    let lines = clients.lines;
+    let done = take_unreadable(table, outbox, bare_of(state), k, time, fault, p, home);
+    done_by(done, lines)
 }

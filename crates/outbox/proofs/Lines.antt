@@ -13,7 +13,7 @@ use Rattle.ascii.specs.Numbers.{decimal, seconds}
 use Rattle.ascii.proofs.Digits.{decimal-digits}
 use Rattle.ascii.proofs.Lists.{both, Lacks, lacks, before, beyond, before-at, beyond-at}
 use Rattle.message.specs.Error.{Class, ProtocolError, NoSuchModule, NoSuchParameter, NoSuchCommand, ReadOnly, BadJSON, WrongType, RangeError, className, classText, Fault, HardwareError, CommunicationFailed, ReadFailed, OutOfRange, faultName, Denial, class, fault}
-use Rattle.message.specs.Reply.{Held, valued, failed, Report, Reply, identification, describing, pong, active, inactive, reply, changed, done, error, dataReport, faultReport, heldReport, reportText, classReport, errorReport, optionally, replyLine, updateWord, updateLine, begins, countsText, counted, checked, identity}
+use Rattle.message.specs.Reply.{Held, valued, failed, DataReport, Reply, identification, describing, pong, active, inactive, reply, changed, done, error, dataReport, faultReport, heldReport, reportText, classReport, errorReport, optionally, replyLine, updateWord, updateLine, begins, countsText, counted, checked, identity}
 use Rattle.message.specs.contracts.Said.{faultFront}
 use Rattle.counter.specs.declared.Counts.{Counts}
 use Rattle.outbox.specs.Theorems.{Word, NamedReport, IsValue, ValueReport, WellFormedReply, Edition}
@@ -76,7 +76,7 @@ fault-time-read f t = rw (fault-parts f t, beyond-last-eq 58 (untimed f) (second
 
 -- ## Reports: a name ends at the first byte that no name has; of which kind one is, the first word of its line tells
 
-readReport : (List ℕ → Held) → List ℕ → Report
+readReport : (List ℕ → Held) → List ℕ → DataReport
 readReport f xs =
     record {
       moduleName = before 58 xs;
@@ -95,7 +95,7 @@ pub name-lacks : (s : ℕ) → isNameByte s ≡ false → (m : List ℕ) → isN
 unfolding isName
 name-lacks s f m h = lacks isNameByte s f m (both (leb 1 (length m) && leb (length m) 63 && not (isDigit (head m))) (all isNameByte m) h .1)
 
-report-parts : (r : Report) → reportText r ≡ r .moduleName ++ 58 ∷ (r .accessible ++ 32 ∷ heldReport (r .held) (r .time))
+report-parts : (r : DataReport) → reportText r ≡ r .moduleName ++ 58 ∷ (r .accessible ++ 32 ∷ heldReport (r .held) (r .time))
 unfolding reportText bytes
 report-parts r = simp append-assoc
 
@@ -104,7 +104,7 @@ unfolding heldReport
 held-time-read (valued v) t = time-read v t
 held-time-read (failed f) t = fault-time-read f t
 
-read-by : (f : List ℕ → Held) (r : Report) → NamedReport r → f (heldReport (r .held) (r .time)) ≡ r .held → readReport f (reportText r) ≡ r
+read-by : (f : List ℕ → Held) (r : DataReport) → NamedReport r → f (heldReport (r .held) (r .time)) ≡ r .held → readReport f (reportText r) ≡ r
 unfolding readReport isNameByte isLetter isIn
 read-by f r h e =
     let m = name-lacks 58 refl (r .moduleName) (h .0) in
@@ -116,20 +116,20 @@ unfolding readValued heldReport
 valued-read (valued v) t k = ap valued (value-read v t)
 valued-read (failed f) t k = absurd k
 
-report-read : (r : Report) → ValueReport r → readReport readValued (reportText r) ≡ r
+report-read : (r : DataReport) → ValueReport r → readReport readValued (reportText r) ≡ r
 report-read r h = read-by readValued r (h .0) (valued-read (r .held) (r .time) (h .1))
 
 -- ## Updates
 
-pub readUpdate : List ℕ → Report
+pub readUpdate : List ℕ → DataReport
 readUpdate xs = cond (begins (bytes "error_update ") xs) (readReport readFailed (drop 13 xs)) (readReport readValued (drop 7 xs))
 
-update-as : (r : Report) → NamedReport r → (v : Held) → r .held ≡ v → readUpdate (updateWord v ++ reportText r) ≡ r
+update-as : (r : DataReport) → NamedReport r → (v : Held) → r .held ≡ v → readUpdate (updateWord v ++ reportText r) ≡ r
 unfolding readUpdate begins after updateWord bytes readValued readFailed heldReport
 update-as r h (valued v) e = read-by readValued r h (rw e (ap valued (value-read v (r .time))))
 update-as r h (failed f) e = read-by readFailed r h (rw e (ap failed (fault-read f (r .time))))
 
-pub update-read : (r : Report) → NamedReport r → readUpdate (updateLine r) ≡ r
+pub update-read : (r : DataReport) → NamedReport r → readUpdate (updateLine r) ≡ r
 unfolding updateLine
 update-read r h = update-as r h (r .held) refl
 

@@ -10,7 +10,7 @@ use Rattle.ascii.specs.Numbers.{twoBytes}
 use Rattle.ascii.specs.contracts.Writer.{Puts}
 use Rattle.ascii.proofs.Puts.{puts-length, puts-both}
 use Rattle.message.specs.Error.{Denial}
-use Rattle.message.specs.Reply.{Held, failed, Report, Reply, describing, replyLine, updateWord, updateLine, error, optionally, reportText}
+use Rattle.message.specs.Reply.{Held, failed, DataReport, Reply, describing, replyLine, updateWord, updateLine, error, optionally, reportText}
 use Rattle.message.specs.contracts.Said.{faultAs, heldBy, reportOf}
 use Rattle.message.specs.declared.say.Fault.{Fault}
 use Rattle.message.specs.declared.say.Sensor.{Sensor}
@@ -150,7 +150,7 @@ pub line-of : (d : List ℕ) (at c : ℕ) (r : Reply) → RoomFor d at (final c 
 unfolding sealed encode mark client body
 line-of d at c r h = record { fits = h .fits; short = line (replyLine r) (h .short) }
 
-pub line-of-update : (d : List ℕ) (at c : ℕ) (r : Report) → RoomFor d at (update c r) → LineRoom d at (bytes "UP") c (updateLine r)
+pub line-of-update : (d : List ℕ) (at c : ℕ) (r : DataReport) → RoomFor d at (update c r) → LineRoom d at (bytes "UP") c (updateLine r)
 unfolding sealed encode mark client body
 line-of-update d at c r h = record { fits = h .fits; short = line (updateLine r) (h .short) }
 

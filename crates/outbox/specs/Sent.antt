@@ -20,12 +20,12 @@ updateTo d (update c r) = cond (eqb c d) 1 0
 updateTo d (orderChange c p v) = 0
 updateTo d (orderCommand c p v) = 0
 
--- [L-29]
+-- how many errors are replied to client d among records [L-29]
 unfoldable pub errorsSent : ℕ → List Record → ℕ
 errorsSent d [] = 0
 errorsSent d (r ∷ rs) = errorTo d r + errorsSent d rs
 
--- [L-29]
+-- and how many updates are sent to it [L-29]
 unfoldable pub updatesSent : ℕ → List Record → ℕ
 updatesSent d [] = 0
 updatesSent d (r ∷ rs) = updateTo d r + updatesSent d rs

@@ -7,7 +7,7 @@ use mathlib.Core.Path.{_≡_}
 use Rattle.ascii.specs.Text.{bytes}
 use Rattle.ascii.specs.Bytes.{isSome, after, all, isSpace}
 use Rattle.ascii.specs.Names.{isName}
-use Rattle.message.specs.Reply.{Held, valued, failed, Report, Reply, identification, describing, pong, active, inactive, reply, changed}
+use Rattle.message.specs.Reply.{Held, valued, failed, DataReport, Reply, identification, describing, pong, active, inactive, reply, changed}
 use Rattle.message.specs.Reply.{done, counted, error, checked}
 use Rattle.outbox.specs.Outbox.{Record, final, update, orderChange, orderCommand, encodeAll}
 
@@ -20,7 +20,7 @@ Named none = Unit {0}
 Named (some m) = isName m ≡ true
 
 -- a report by good names
-abbrev pub NamedReport : Report → Type 0
+abbrev pub NamedReport : DataReport → Type 0
 NamedReport r = (isName (r .moduleName) ≡ true) × (isName (r .accessible) ≡ true)
 
 -- a report of a value
@@ -28,7 +28,7 @@ abbrev pub IsValue : Held → Type 0
 IsValue (valued v) = Unit {0}
 IsValue (failed f) = ⊥
 
-abbrev pub ValueReport : Report → Type 0
+abbrev pub ValueReport : DataReport → Type 0
 ValueReport r = NamedReport r × IsValue (r .held)
 
 -- an identification that a table gives: no other line begins so [C-21]

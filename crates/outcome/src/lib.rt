@@ -1,7 +1,7 @@
 // What a request comes to, and what answering a line leaves.
 use message::say::Class;
 use message::say::Fault;
-use state::State;
+use state::Bare;
 
 // The status that a change sets before its own parameter (M-100).
 pub enum Status {
@@ -13,7 +13,7 @@ pub enum Status {
 
 pub enum Outcome {
     // An error: nothing is written yet, and nothing is altered.
-    Refused(Class),
+    Denied(Class),
     // The parameter that is asked for can't be read, since a time: an error too.
     Unreadable(Fault, u64),
     // Answered with so many bytes; nothing else is altered.
@@ -24,9 +24,9 @@ pub enum Outcome {
     Stored(Status, usize, usize, usize),
 }
 
-// The next state, and how many bytes are written.
+// The next state, without the lines, which an answer leaves as they are, and how many bytes are written.
 pub struct Answered {
-    pub state: State,
+    pub state: Bare,
     pub written: usize,
 }
 

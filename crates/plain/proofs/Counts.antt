@@ -14,7 +14,7 @@ use Rattle.counter.specs.declared.Counts.{Counts}
 use Rattle.counter.specs.Counts.{highest, stopping, linesCounted, allCounted}
 use Rattle.message.specs.Line.{Parts}
 use Rattle.message.specs.Request.{Request, request}
-use Rattle.message.specs.Reply.{Report, Reply, isError}
+use Rattle.message.specs.Reply.{DataReport, Reply, isError}
 use Rattle.outbox.specs.Outbox.{Record, final, update, orderChange, orderCommand}
 use Rattle.outbox.specs.Sent.{errorTo, updateTo, errorsSent, updatesSent}
 use Rattle.table.specs.Table.{Parameter, Table}
@@ -83,11 +83,11 @@ module _ (d : ℕ) where
     unfolding errorsSent updatesSent errorTo updateTo
     none-final r = record { errors = rw e refl; updates = refl }
 
-    none-update : (r : Report) → NoneTo (update c r ∷ [])
+    none-update : (r : DataReport) → NoneTo (update c r ∷ [])
     unfolding errorsSent updatesSent errorTo updateTo
     none-update r = record { errors = refl; updates = rw e refl }
 
-    none-if : (b : Bool) (r : Report) → NoneTo (cond b (update c r ∷ []) [])
+    none-if : (b : Bool) (r : DataReport) → NoneTo (cond b (update c r ∷ []) [])
     none-if true r = none-update r
     none-if false r = none-none
 
@@ -96,7 +96,7 @@ module _ (d : ℕ) where
     none-of wanted values k [] = none-none
     none-of wanted values k (p ∷ ps) = none-both _ _ (none-if (wanted (p .home)) _) (none-of wanted values _ ps)
 
-  none-to : (f : ℕ → Client) (i : ℕ) (r : Report) (cs : List ℕ) → all (λ c. not (eqb c d)) cs ≡ true → NoneTo (updatesTo f i r cs)
+  none-to : (f : ℕ → Client) (i : ℕ) (r : DataReport) (cs : List ℕ) → all (λ c. not (eqb c d)) cs ≡ true → NoneTo (updatesTo f i r cs)
   unfolding updatesTo
   none-to f i r [] h = none-none
   none-to f i r (c ∷ cs) h =
@@ -121,7 +121,7 @@ module _ (d : ℕ) (above : 8 ≤ d) where
       )
 
   -- no update of a setting goes there
-  pub no-updates : (f : ℕ → Client) (i : ℕ) (r : Report) → NoneTo d (updatesTo f i r clientNumbers)
+  pub no-updates : (f : ℕ → Client) (i : ℕ) (r : DataReport) → NoneTo d (updatesTo f i r clientNumbers)
   no-updates f i r = none-to d f i r clientNumbers others
 
   -- nor of a status that is set before it

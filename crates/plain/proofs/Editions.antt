@@ -13,7 +13,7 @@ use Rattle.message.specs.Line.{Parts}
 use Rattle.message.specs.Request.{Request, identify, describe, ping, activate, deactivate, read, change, execute, check, count, malformed, modulePart, accessiblePart, named, orNull, request}
 use Rattle.message.specs.Error.{class, ProtocolError}
 use Rattle.plain.specs.Node.{Node}
-use Rattle.plain.specs.Answer.{Outcome, refused, outcome, conclude, answerParts, settingsOf, partsSet}
+use Rattle.plain.specs.Answer.{Outcome, denied, outcome, conclude, answerParts, settingsOf, partsSet}
 use Rattle.plain.specs.Editions.{firstRequest, firstOutcome, AsInFirst}
 
 -- a line whose action is `check` asks for one, or for nothing
@@ -36,12 +36,12 @@ module _ (w : Table) (h : w .edition ≡ none) (n : Node) (c now : ℕ) where
   same-request count = refl
   same-request malformed = refl
 
-  -- it is refused whatever its names are
-  unknown : (v s : List ℕ) → outcome w n c now (named (λ m a. check m a v) s) ≡ refused (class ProtocolError)
+  -- it is denied whatever its names are
+  unknown : (v s : List ℕ) → outcome w n c now (named (λ m a. check m a v) s) ≡ denied (class ProtocolError)
   unfolding outcome named
   unknown v s = go (isName (modulePart s) && isName (accessiblePart s))
     where
-      go : (b : Bool) → outcome w n c now (cond b (check (modulePart s) (accessiblePart s) v) malformed) ≡ refused (class ProtocolError)
+      go : (b : Bool) → outcome w n c now (cond b (check (modulePart s) (accessiblePart s) v) malformed) ≡ denied (class ProtocolError)
       go true = rw h
       go false = refl
 

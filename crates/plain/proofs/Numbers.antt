@@ -8,13 +8,13 @@ use mathlib.Core.Logic.{_↔_}
 use mathlib.Core.Path.{_≡_, refl}
 use lib.Dec.{ltb}
 use Rattle.table.specs.Layout.{tableOf}
-use Rattle.report.specs.Judge.{fault, lowest, tableNumber}
-use Rattle.report.proofs.Faults.{no-fault, lowest-none}
+use Rattle.report.specs.Judge.{fault, firstFault, tableNumber}
+use Rattle.report.proofs.Faults.{no-fault, first-fault-none}
 use Rattle.plain.specs.Node.{Node}
 use Rattle.plain.specs.Calls.{Call, sends, isSmall, isShort, lentFaults, ownFaults, callNumber}
 
-pub none-both : (xs ys : List ℕ) → (lowest (xs ++ ys) ≡ 0) ↔ ((lowest xs ≡ 0) × (lowest ys ≡ 0))
-unfolding lowest
+pub none-both : (xs ys : List ℕ) → (firstFault (xs ++ ys) ≡ 0) ↔ ((firstFault xs ≡ 0) × (firstFault ys ≡ 0))
+unfolding firstFault
 none-both [] ys = (λ h. (refl, h), λ h. h .1)
 none-both (zero ∷ xs) ys = none-both xs ys
 none-both (suc k ∷ xs) ys = (λ h. absurd (omega arith), λ h. absurd (let e = h .0 in omega arith))
@@ -32,11 +32,11 @@ pub record Granted (table : List ℕ) (unfit : Bool) (e : Call) : Type 0 where
   pub fit : unfit ≡ false
 
 module _ (table : List ℕ) (unfit : Bool) (e : Call) where
-  pub granted : (lowest (lentFaults table unfit e) ≡ 0) ↔ Granted table unfit e
-  unfolding lentFaults lowest isSmall
+  pub granted : (firstFault (lentFaults table unfit e) ≡ 0) ↔ Granted table unfit e
+  unfolding lentFaults firstFault isSmall
   granted = (
     λ h.
-        let at = lowest-none (lentFaults table unfit e) h in
+        let at = first-fault-none (lentFaults table unfit e) h in
         record {
           accepted = at 0;
           outbox = large (sends (e .event)) (e .lent .outbox) .0 (no-fault 6 (isSmall (e .event) (e .lent .outbox)) (at 1));
@@ -48,7 +48,7 @@ module _ (table : List ℕ) (unfit : Bool) (e : Call) where
   )
 
   -- a call is accepted if neither what it is lent nor its event is amiss
-  pub accepted-call : (n : Node) → (callNumber table unfit n e ≡ 0) ↔ (Granted table unfit e × (lowest (ownFaults (tableOf table) n (e .event)) ≡ 0))
+  pub accepted-call : (n : Node) → (callNumber table unfit n e ≡ 0) ↔ (Granted table unfit e × (firstFault (ownFaults (tableOf table) n (e .event)) ≡ 0))
   unfolding callNumber
   accepted-call n =
       let b = none-both (lentFaults table unfit e) (ownFaults (tableOf table) n (e .event)) in

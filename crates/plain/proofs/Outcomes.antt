@@ -18,30 +18,30 @@ use Rattle.report.specs.Report.{report}
 use Rattle.message.specs.Line.{Parts}
 use Rattle.message.specs.Request.{Request, identify, describe, ping, activate, deactivate, read, change, execute, count, malformed, check}
 use Rattle.message.specs.Error.{Fault, class, fault, Class, ProtocolError, NoSuchModule, NoSuchParameter, NoSuchCommand, ReadOnly, BadJSON, WrongType, RangeError}
-use Rattle.message.specs.Reply.{Held, valued, failed, Report, Reply, identification, describing, pong, reply, done, counted, error, checked}
+use Rattle.message.specs.Reply.{Held, valued, failed, DataReport, Reply, identification, describing, pong, reply, done, counted, error, checked}
 use Rattle.outbox.specs.Outbox.{Record, final, orderCommand}
 use Rattle.plain.specs.Node.{Value, holding, showing, Node, activeCount, reportOf}
-use Rattle.plain.specs.Answer.{Outcome, refused, carried, found, letIn, argumentVerdict, argumentForm, judgedAt, storedAt, activates, deactivates, inScope, tells, reads, sets, changes, does, outcome, conclude, shows, judging, checks}
+use Rattle.plain.specs.Answer.{Outcome, denied, carried, found, letIn, argumentVerdict, argumentForm, judgedAt, storedAt, activates, deactivates, inScope, tells, reads, sets, changes, does, outcome, conclude, shows, judging, checks}
 
 -- ## What an outcome leaves and sends
 
 abbrev pub nodeAfter : Node → Outcome → Node
-nodeAfter n (refused x) = n
+nodeAfter n (denied x) = n
 nodeAfter n (carried m ss rs r) = m
 
 -- the records before the reply
 abbrev pub before : Outcome → List Record
-before (refused x) = []
+before (denied x) = []
 before (carried m ss rs r) = rs
 
 abbrev pub replyTo : Parts → Outcome → Reply
-replyTo p (refused x) = error (p .action) (p .specifier) x
+replyTo p (denied x) = error (p .action) (p .specifier) x
 replyTo p (carried m ss rs r) = r
 
 pub concluded : (w : Table) (n : Node) (c now : ℕ) (p : Parts) (o : Outcome)
     → conclude w n c now p o ≡ (nodeAfter n o, before o ++ (final c (replyTo p o) ∷ []))
 unfolding conclude
-concluded w n c now p (refused x) = refl
+concluded w n c now p (denied x) = refl
 concluded w n c now p (carried m ss rs r) = refl
 
 -- ## Kinds of outcome
@@ -78,7 +78,7 @@ pub record Allowed (w : Table) (k : ℕ × Placed Command) (v : List ℕ) : Type
   pub there : getElem? (commands w) (k .0) ≡ some (k .1)
   pub fitting : argumentVerdict (k .1 .it .argument) v ≡ fits
 
-abbrev pub doneOf : Placed Command → ℕ → Report
+abbrev pub doneOf : Placed Command → ℕ → DataReport
 doneOf p now = record { moduleName = p .moduleName; accessible = p .it .name; held = valued (bytes "null"); time = now }
 
 abbrev pub ordering : Node → ℕ → ℕ → ℕ × Placed Command → List ℕ → Outcome
@@ -86,10 +86,10 @@ ordering n c now k v = carried n [] (orderCommand c (k .0) (argumentForm (k .1 .
 
 -- What is claimed of a request of client c and what it comes to at the nodes m and n, for each kind of outcome.
 pub record Kinds (w : Table) (m n : Node) (c now : ℕ) (Q : Request → Outcome → Outcome → Type 0) : Type 0 where
-  pub bad : (q : Request) (x : Class) → Q q (refused (class x)) (refused (class x))
+  pub bad : (q : Request) (x : Class) → Q q (denied (class x)) (denied (class x))
   -- a read of parameter k, which can't be read
   pub failing : (k : ℕ × Placed Parameter) (f : Fault) (t : ℕ) → getElem? (parameters w) (k .0) ≡ some (k .1) → n .values (k .0) ≡ holding (failed f) t
-      → Q (read (k .1 .moduleName) (k .1 .it .name)) (refused (fault f t)) (refused (fault f t))
+      → Q (read (k .1 .moduleName) (k .1 .it .name)) (denied (fault f t)) (denied (fault f t))
   pub telling : (q : Request) (r : Reply) → Tells w n c now q r → Q q (carried m [] [] r) (carried n [] [] r)
   pub activating : (s : Option (List ℕ)) (wanted : ℕ → Bool) → Scope w s wanted
       → Q (activate s) (activates w m c now wanted s) (activates w n c now wanted s)
@@ -121,7 +121,7 @@ module _ (w : Table) (m n : Node) (same : m .values ≡ n .values) (c now : ℕ)
   let-in-hold q wrongType o p i = h .bad q WrongType
   let-in-hold q badJSON o p i = h .bad q BadJSON
 
-  writable-hold : (q : Request) (b : Bool) (o p : Outcome) → (b ≡ false → Q q o p) → Q q (cond b (refused (class ReadOnly)) o) (cond b (refused (class ReadOnly)) p)
+  writable-hold : (q : Request) (b : Bool) (o p : Outcome) → (b ≡ false → Q q o p) → Q q (cond b (denied (class ReadOnly)) o) (cond b (denied (class ReadOnly)) p)
   writable-hold q true o p i = h .bad q ReadOnly
   writable-hold q false o p i = i refl
 
@@ -167,7 +167,7 @@ module _ (w : Table) (m n : Node) (same : m .values ≡ n .values) (c now : ℕ)
       → Q q (judging w m c now f v k) (judging w n c now g v k)
   unfolding judging
   judged-hold f g q v k t i =
-      subst (λ x. Q q (cond (k .1 .it .readonly) (refused (class ReadOnly)) (letIn (judgedAt x k v) (f k (storedAt x k v)))) (judging w n c now g v k))
+      subst (λ x. Q q (cond (k .1 .it .readonly) (denied (class ReadOnly)) (letIn (judgedAt x k v) (f k (storedAt x k v)))) (judging w n c now g v k))
       (sym same)
       (writable-hold q (k .1 .it .readonly) _ _ (λ o.
       let-in-hold q (judgedAt (n .values) k v) _ _ (λ e. i (record { there = t; writable = o; fitting = e }))))
@@ -184,10 +184,10 @@ module _ (w : Table) (m n : Node) (same : m .values ≡ n .values) (c now : ℕ)
 
   -- a request of the next edition
   edition-hold : (q : Request) (o p : Outcome) → (isSome (w .edition) ≡ true → Q q o p)
-      → Q q (cond (isSome (w .edition)) o (refused (class ProtocolError))) (cond (isSome (w .edition)) p (refused (class ProtocolError)))
+      → Q q (cond (isSome (w .edition)) o (denied (class ProtocolError))) (cond (isSome (w .edition)) p (denied (class ProtocolError)))
   edition-hold q o p i = go (isSome (w .edition)) i
     where
-      go : (b : Bool) → (b ≡ true → Q q o p) → Q q (cond b o (refused (class ProtocolError))) (cond b p (refused (class ProtocolError)))
+      go : (b : Bool) → (b ≡ true → Q q o p) → Q q (cond b o (denied (class ProtocolError))) (cond b p (denied (class ProtocolError)))
       go true i = i refl
       go false i = h .bad q ProtocolError
 

@@ -13,7 +13,7 @@ use Rattle.message.specs.Request.{Request, identify, describe, ping, activate, 
 use Rattle.message.specs.Error.{class, ProtocolError}
 use Rattle.message.specs.Reply.{identification}
 use Rattle.plain.specs.Node.{Node}
-use Rattle.plain.specs.Answer.{Outcome, refused, carried, outcome, conclude, answerParts, settingsOf, partsSet}
+use Rattle.plain.specs.Answer.{Outcome, denied, carried, outcome, conclude, answerParts, settingsOf, partsSet}
 
 -- `check` is one of "Anything else: ProtocolError." [L-15, L-24]
 unfoldable pub firstRequest : Parts → Request
@@ -31,9 +31,9 @@ module _ (w : Table) (n : Node) (c now : ℕ) where
   firstOutcome (read m a) = outcome w n c now (read m a)
   firstOutcome (change m a v) = outcome w n c now (change m a v)
   firstOutcome (execute m a v) = outcome w n c now (execute m a v)
-  firstOutcome (check m a v) = refused (class ProtocolError)
+  firstOutcome (check m a v) = denied (class ProtocolError)
   firstOutcome count = outcome w n c now count
-  firstOutcome malformed = refused (class ProtocolError)
+  firstOutcome malformed = denied (class ProtocolError)
 
   -- a line with these parts
   pub record AsInFirst (p : Parts) : Type 0 where

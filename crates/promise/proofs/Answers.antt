@@ -75,6 +75,7 @@ module _ (table : List ℕ) (s : State) (values : List ℕ) (e : Call) where
         settings = unfold settingsWith in ap (settingsWith (s .settings)) (refused-sets k h z);
         node = ap (λ (x : Node × Answer). x .0) (sym q);
         fit = λ y. absurd (z y);
+        clients = λ y. absurd (z y);
         refused = λ y. refl;
       }
 
@@ -104,5 +105,6 @@ module _ (table : List ℕ) (s : State) (values : List ℕ) (e : Call) where
         settings = l .settings ∙ ap (settingsWith (s .settings)) (accepted-sets h);
         node = l .node ∙ ap (λ (x : Node × Answer). x .0) q;
         fit = λ y. l .fit;
+        clients = λ y. l .clients;
         refused = λ y. absurd (y (l .number));
       }

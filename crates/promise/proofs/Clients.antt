@@ -4,7 +4,7 @@ use native.Mathlib.Omega.{arith}
 use native.Mathlib.Nat.{add-zero}
 use mathlib.Core.Bool.{Bool, true, false, cond, _||_, true≢false}
 use mathlib.Core.List.{List, [], _∷_}
-use mathlib.Core.Path.{_≡_, refl, sym, ap, _∙_}
+use mathlib.Core.Path.{_≡_, refl, sym, ap, subst, _∙_}
 use lib.Dec.{eqb}
 use lib.ListN.{length, take}
 use Rattle.ascii.specs.Bytes.{any}
@@ -18,6 +18,8 @@ use Rattle.plain.specs.Calls.{Event, Open, Close, Piece, Effect, effect, pieceE
 use Rattle.state.specs.declared.Clients.{Clients}
 use Rattle.state.specs.declared.State.{State}
 use Rattle.state.specs.View.{isSet, clientAt, view, areaWith, settingsWith, outboxAfter, written, nextClients, nextCounts}
+use Rattle.state.specs.Places.{withMasks, placesAfter}
+use Rattle.state.specs.Changed.{withOpened, withClosed, withJoined}
 use Rattle.state.specs.contracts.Counted.{countsCleared}
 use Rattle.state.proofs.Counted.{cleared-view}
 use Rattle.state.specs.Fit.{clientUnfit, settingsUnfit, isUnfit}
@@ -100,18 +102,22 @@ a-feed bs e = go (hasFeed bs) (before-all bs)
 
 -- ## Calls
 
+-- clients that are known wholly
+pub wholly : (r q : Clients) → r ≡ q → r ≡ withMasks q (r .active)
+wholly r q e = subst (λ (x : Clients). x ≡ withMasks q (x .active)) (sym e) refl
+
 module _ (table : List ℕ) (s : State) (values : List ℕ) (fit : isUnfit (tableOf table) s values ≡ false) (c t : ℕ) (r : Clients) where
   abbrev next : State
   next = nextClients s r
 
   -- client c becomes x, and nothing is sent
-  quiet : (e : Event) (x : Client) (u : ℕ) (condition : ℕ → Type 0) → Becomes (s .clients) c x condition r
+  quiet : (e : Event) → r ≡ placesAfter (s .clients) e → (x : Client) (u : ℕ) (condition : ℕ → Type 0) → Becomes (s .clients) c x condition r
       → condition (length (tableOf table .modules))
       → effect (tableOf table) (view table s values) e ≡ record { next = withClient (view table s values) c x; settings = []; used = u; records = [] }
       → (outbox : List ℕ)
       → Leaves table s values e outbox (doneWith u 0 0 next) values outbox
   unfolding written outboxAfter encodeAll areaWith settingsWith
-  quiet e x u condition b h f outbox =
+  quiet e places x u condition b h f outbox =
       record {
         number = refl;
         used = ap (λ (y : Effect). y .used) (sym f);
@@ -122,13 +128,14 @@ module _ (table : List ℕ) (s : State) (values : List ℕ) (fit : isUnfit (tabl
         node = client-view table s values b ∙ ap (λ (y : Effect). y .next) (sym f);
         fit = with-clients (tableOf table) s values r fit
             (still-fit (length (tableOf table .modules)) b h (fit-parts (tableOf table) s values fit .1));
+        clients = wholly r (placesAfter (s .clients) e) places;
       }
 
   -- an open, besides, sets the client's counts to 0
-  pub opens : Becomes (s .clients) c fresh Always r → length (s .counts) ≡ 8 → c < 8
+  pub opens : r ≡ withOpened (s .clients) c → Becomes (s .clients) c fresh Always r → length (s .counts) ≡ 8 → c < 8
       → Leaves table s values (Open c t) [] (quietDone 0 (nextCounts next (countsCleared (s .counts) c))) values []
-  unfolding effect isUnfit written outboxAfter encodeAll areaWith settingsWith
-  opens b z low =
+  unfolding effect isUnfit written outboxAfter encodeAll areaWith settingsWith placesAfter
+  opens d b z low =
       record {
         number = refl;
         used = refl;
@@ -139,20 +146,21 @@ module _ (table : List ℕ) (s : State) (values : List ℕ) (fit : isUnfit (tabl
         node = cleared-view table next values z c low ∙ ap (λ (n : Node). withCount n c noCounts) (client-view table s values b);
         fit = with-clients (tableOf table) s values r fit
             (still-fit (length (tableOf table .modules)) b tt (fit-parts (tableOf table) s values fit .1));
+        clients = wholly r (withOpened (s .clients) c) d;
       }
 
-  pub closes : Becomes (s .clients) c closed Always r
+  pub closes : r ≡ withClosed (s .clients) c → Becomes (s .clients) c closed Always r
       → Leaves table s values (Close c t) [] (quietDone 0 next) values []
-  unfolding effect
-  closes b = quiet (Close c t) closed 0 Always b tt refl []
+  unfolding effect placesAfter
+  closes d b = quiet (Close c t) d closed 0 Always b tt refl []
 
-  pub joins : (bs outbox : List ℕ) → isSet (s .clients .open) c ≡ true → hasFeed bs ≡ false
+  pub joins : (bs outbox : List ℕ) → isSet (s .clients .open) c ≡ true → hasFeed bs ≡ false → r ≡ withJoined (s .clients) c bs
       → Becomes (s .clients) c (receive (clientAt (s .clients) c) (beforeFeed bs)) (Joinable (s .clients) c (beforeFeed bs)) r
       → Leaves table s values (Piece c bs t) outbox
       (doneWith (length (beforeFeed bs)) 0 0 next) values outbox
-  unfolding effect pieceEffect usedOf ended endedSets view
-  joins bs outbox o f b =
-      quiet (Piece c bs t) (receive (clientAt (s .clients) c) (beforeFeed bs)) (length (beforeFeed bs)) (Joinable (s .clients) c (beforeFeed bs)) b
+  unfolding effect pieceEffect usedOf ended endedSets view placesAfter
+  joins bs outbox o f d b =
+      quiet (Piece c bs t) (rw f d) (receive (clientAt (s .clients) c) (beforeFeed bs)) (length (beforeFeed bs)) (Joinable (s .clients) c (beforeFeed bs)) b
       (record { isOpen = o; noFeed = no-feed-before bs })
       (rw f (ap (λ (k : ℕ). record { next = withClient (view table s values) c (receive (clientAt (s .clients) c) (beforeFeed bs)); settings = []; used = k; records = [] }) (add-zero (length (beforeFeed bs)))))
       outbox

@@ -13,16 +13,19 @@ use Rattle.plain.proofs.Put.{put-at, put-put}
 use Rattle.plain.proofs.Clients.{emptied-received}
 use Rattle.plain.specs.Answer.{answer, answerSets}
 use Rattle.plain.specs.Calls.{Piece, Effect, effect, pieceEffect, ended, endedSets, beforeFeed, hasFeed, usedOf}
+use Rattle.state.specs.declared.Brief.{Brief}
 use Rattle.state.specs.declared.Clients.{Clients}
 use Rattle.state.specs.declared.State.{State}
 use Rattle.state.specs.View.{clientAt, view, areaWith, settingsWith, outboxAfter, written, nextClients, nextCounts}
+use Rattle.state.specs.Places.{placesAfter}
+use Rattle.state.specs.contracts.Bare.{lined}
+use Rattle.state.specs.contracts.Bare.{withLines}
 use Rattle.state.specs.contracts.Counted.{lineCounted}
 use Rattle.state.proofs.Counted.{line-view}
 use Rattle.state.proofs.Becomes.{Becomes, Always}
 use Rattle.state.proofs.Views.{client-view}
 use Rattle.outcome.specs.declared.Answered.{Answered}
-use Rattle.outcome.specs.contracts.Outcome.{Answers}
-use Rattle.promise.specs.contracts.Leaves.{heldNode, Leaves}
+use Rattle.promise.specs.contracts.Leaves.{heldNode, Leaves, AnswersEnded}
 use Rattle.promise.specs.contracts.Answer.{doneWith}
 
 -- ## The line that is ended
@@ -66,12 +69,12 @@ module _ (table : List ℕ) (s : State) (values outbox : List ℕ) (c t : ℕ) w
   fed bs n f = rw f refl
 
   pub feeds : (bs : List ℕ) → hasFeed bs ≡ true → (a : Answered) (values′ outbox′ : List ℕ)
-      → Answers table (s .settings) values outbox a values′ outbox′ (answer (tableOf table) (heldNode table s values c (beforeFeed bs)) c t)
+      → AnswersEnded table s values outbox c a values′ outbox′ (answer (tableOf table) (heldNode table s values c (beforeFeed bs)) c t)
       (answerSets (tableOf table) (heldNode table s values c (beforeFeed bs)) c t)
       → (steps : ℕ)
       → Leaves table s values (Piece c bs t) outbox
-      (doneWith (length (beforeFeed bs) + 1) (a .written) steps (a .state)) values′ outbox′
-  unfolding outboxAfter written
+      (doneWith (length (beforeFeed bs) + 1) (a .written) steps (lined (a .state) (s .clients .lines))) values′ outbox′
+  unfolding outboxAfter written placesAfter
   feeds bs f a values′ outbox′ y steps =
       let g = sym (fed bs (view table s values) f) in
       record {
@@ -83,4 +86,5 @@ module _ (table : List ℕ) (s : State) (values outbox : List ℕ) (c t : ℕ) w
         settings = y .settings ∙ ap (λ (z : Effect). settingsWith (s .settings) (z .settings)) g;
         node = y .node ∙ ap (λ (z : Effect). z .next) g;
         fit = y .fit;
+        clients = rw f (ap (λ (b : Brief). withLines b (s .clients .lines)) (y .clients));
       }

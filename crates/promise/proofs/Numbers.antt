@@ -8,8 +8,8 @@ use lib.Dec.{ltb}
 use lib.ListN.{length}
 use Rattle.ascii.specs.Numbers.{latest}
 use Rattle.table.specs.Layout.{tableOf}
-use Rattle.report.specs.Judge.{fault, lowest, tableNumber}
-use Rattle.report.proofs.Faults.{no-fault, lowest-none, lowest-both}
+use Rattle.report.specs.Judge.{fault, firstFault, tableNumber}
+use Rattle.report.proofs.Faults.{no-fault, first-fault-none, first-fault-both}
 use Rattle.plain.specs.Calls.{Event, Call, isSmall, isShort, fault8, fault9, fault10, fault18, lentFaults, ownFaults, callNumber}
 use Rattle.state.specs.declared.State.{State}
 use Rattle.state.specs.View.{view}
@@ -27,9 +27,9 @@ module _ (table : List ℕ) (s : State) (values : List ℕ) where
   -- of an event that is judged by its time, and then by ks
   pub number-is : (e : Event) (o : ℕ) (index : List ℕ) (t : ℕ) (ks : List ℕ) → ownFaults (tableOf table) (view table s values) e ≡ fault10 t ∷ ks
       → number (record { event = e; lent = record { area = length values; outbox = o; index = index } })
-      ≡ lowest (lentNumber table values (isSmall e o) index s t ∷ ks)
+      ≡ firstFault (lentNumber table values (isSmall e o) index s t ∷ ks)
   unfolding callNumber lentFaults lentNumber
-  number-is e o index t ks h = rw h (sym (lowest-both (lent (isSmall e o) index t) ks))
+  number-is e o index t ks h = rw h (sym (first-fault-both (lent (isSmall e o) index t) ks))
 
   -- what is known where all that is lent is good
   pub record Good (small : Bool) (index : List ℕ) (t : ℕ) : Type 0 where
@@ -43,7 +43,7 @@ module _ (table : List ℕ) (s : State) (values : List ℕ) where
   pub good : (small : Bool) (index : List ℕ) (t : ℕ) → lentNumber table values small index s t ≡ 0 → Good small index t
   unfolding lentNumber
   good small index t e =
-      let at = lowest-none (lent small index t) e in
+      let at = first-fault-none (lent small index t) e in
       record {
         accepted = at 0;
         outbox = no-fault 6 small (at 1);

@@ -13,6 +13,7 @@ use Rattle.plain.specs.Calls.{Call, Answer, startNumber, started, stepIf, setti
 use Rattle.state.specs.declared.State.{State}
 use Rattle.state.specs.View.{view, areaWith, settingsWith, outboxAfter, written}
 use Rattle.state.specs.Fit.{isUnfit}
+use Rattle.state.specs.Places.{withMasks, placesAfter}
 use Rattle.promise.specs.declared.Done.{Done}
 
 -- ## After a start
@@ -25,8 +26,8 @@ stepFrom table s values e = stepIf table (isUnfit (tableOf table) s values) (vie
 abbrev pub settingsFrom : List ℕ → State → List ℕ → Call → List Setting
 settingsFrom table s values e = settingsIf table (isUnfit (tableOf table) s values) (view table s values) e
 
--- What the call e promises: handed the state s, the values area and the outbox, it answers r, and leaves values′ and outbox′. Of the next
--- state two things are left free: the bytes of a line's place past the line, and what stands for "yes" in a flag.
+-- What the call e promises: handed the state s, the values area and the outbox, it answers r, and leaves values′ and outbox′. Nothing of the next state
+-- is left free: the clients' masks and counts follow from the node that it stands for, and from its being fit.
 pub record Kept (table : List ℕ) (e : Call) (s : State) (values outbox : List ℕ) (r : Done) (values′ outbox′ : List ℕ) : Type 0 where
   pub number : r .number ≡ stepFrom table s values e .1 .number
   pub used : r .used ≡ stepFrom table s values e .1 .used
@@ -39,6 +40,7 @@ pub record Kept (table : List ℕ) (e : Call) (s : State) (values outbox : List 
   pub settings : r .state .settings ≡ settingsWith (s .settings) (settingsFrom table s values e)
   pub node : view table (r .state) values′ ≡ stepFrom table s values e .0
   pub fit : r .number ≡ 0 → isUnfit (tableOf table) (r .state) values′ ≡ false
+  pub clients : r .number ≡ 0 → r .state .clients ≡ withMasks (placesAfter (s .clients) (e .event)) (r .state .clients .active)
   pub refused : r .number ≢ 0 → r .state ≡ s
 
 -- ## A start

@@ -10,7 +10,7 @@ use Rattle.ascii.specs.Bytes.{isSome}
 use Rattle.table.specs.Layout.{tableOf}
 use Rattle.table.specs.Table.{Parameter}
 use Rattle.table.specs.Search.{Placed, parameters}
-use Rattle.report.specs.Judge.{fault, lowest}
+use Rattle.report.specs.Judge.{fault, firstFault}
 use Rattle.message.specs.Error.{faultOf}
 use Rattle.message.specs.Reply.{heldAs}
 use Rattle.plain.specs.Node.{Value}
@@ -23,7 +23,7 @@ use Rattle.promise.specs.contracts.Lent.{lentNumber}
 -- the first number: of what every call judges (no outbox, no index and no time are lent), and 14, "no such parameter number"
 unfoldable pub valueNumber : List ℕ → List ℕ → State → ℕ → ℕ
 valueNumber table values s p =
-    lowest (lentNumber table values false [] s 0 ∷ fault 14 (not (isSome (getElem? (parameters (tableOf table)) p))) ∷ [])
+    firstFault (lentNumber table values false [] s 0 ∷ fault 14 (not (isSome (getElem? (parameters (tableOf table)) p))) ∷ [])
 
 -- a refusal answers its number only
 abbrev pub notShown : ℕ → Shown
@@ -42,7 +42,7 @@ partOf s p x =
 abbrev pub errorOf : Settings → ℕ → Shown
 errorOf s p = record { number = 0; stored = 0; error = getD (s .error) p 0; from = 0; size = 0; time = getD (s .time) p 0 }
 
--- [C-9]
+-- the error, while there is one, or else the part [C-9]
 unfoldable pub shownOf : Settings → ℕ → Parameter → Shown
 shownOf s p x = cond (eqb (getD (s .error) p 0) 0) (partOf s p x) (errorOf s p)
 

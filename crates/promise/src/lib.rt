@@ -1,4 +1,5 @@
 // What the calls of a node answer. What each promises, and what a run of calls that kept their promises is, stands in specs/.
+use state::Bare;
 use state::State;
 
 // A call's number (0: accepted), how many bytes of a piece it used, how many bytes of the outbox it wrote, how many steps its search took, and the
@@ -10,6 +11,16 @@ pub struct Done {
     pub written: usize,
     pub steps: usize,
     pub state: State,
+}
+
+// What the code of a call answers with, without the state's lines: those stay with the call, which lends
+// them where they are looked at or written.
+pub struct BareDone {
+    pub number: u8,
+    pub used: usize,
+    pub written: usize,
+    pub steps: usize,
+    pub state: Bare,
 }
 
 // A list's number (0: all its readings were taken), how many of them were taken, how many bytes of the outbox they wrote in all, how many steps a

@@ -26,7 +26,7 @@ use Rattle.message.specs.Reply.{Held, valued, failed, dataReport, faultReport, 
 use Rattle.plain.specs.Node.{begin}
 use Rattle.plain.specs.Calls.{startNumber}
 use Rattle.plain.specs.History.{finish}
-use Rattle.report.proofs.Faults.{lowest-none}
+use Rattle.report.proofs.Faults.{first-fault-none}
 use Rattle.sound.specs.Theorems.{HeldFits}
 use Rattle.sound.proofs.Lists.{Each, each-at, each-append, each-map}
 use Rattle.sound.proofs.Histories.{always-sound}
@@ -190,7 +190,7 @@ data-reports-are-read = record {
 
 pub start-accepted : (table : List ℕ) (area time : ℕ) → startNumber table area time ≡ 0 → tableNumber table ≡ 0
 unfolding startNumber
-start-accepted table area time e = lowest-none _ e 0
+start-accepted table area time e = first-fault-none _ e 0
 
 pub held-reports-are-read : HeldReportsAreRead
 held-reports-are-read table area time e h k p q =

@@ -15,9 +15,9 @@ use Rattle.table.specs.Layout.{begins, argumentAt, commandAt, accessiblesAt, ma
 use Rattle.table.specs.Rules.{accessibleName, ifAny, accessibleCount, countsGood, noteGood, accessibleNamesGood, moduleNamesGood, editionGood, namesGood}
 use Rattle.table.specs.Rules.{rulesKept, initialGood, datainfosGood, initialsGood}
 use Rattle.report.specs.Report.{variantValues, datainfoValue, argumentMember, accessibleMember, accessibleMembers, moduleMembers, reportValue, report}
-use Rattle.report.specs.Judge.{lowest, treeNumber, numberOf, tableNumber}
+use Rattle.report.specs.Judge.{firstFault, treeNumber, numberOf, tableNumber}
 use Rattle.readable.specs.Theorems.{deepest, FewerAreTooFew}
 
 pub fewer-are-too-few : FewerAreTooFew
-unfolding bytes all any same head tail dropWhile after part isIn isLetter isNameByte isName isTextByte isText lower lowercase distinct unique bigEndianFrom bigEndian twosComplement unsigned signed digit digitsIn decimal integer Token.digits Token.minus Token.int Token.frac Token.sign Token.exp Token.number isHex isEscape hex hex4 escape char chars stringEnd upTo inside scalar spaced items arrayEnd key members objectEnd bare quoted compact elementCount counted variants enumAt elements tupleAt typed datainfoIn flag Datainfo.namesGood Datainfo.rulesKept goodNames isBetween sameInteger valuesUnique begins argumentAt commandAt accessiblesAt markedAt moduleAt modulesAt headAt wholeTable readTable orEmpty tableOf accessibleName ifAny accessibleCount countsGood noteGood accessibleNamesGood moduleNamesGood editionGood namesGood rulesKept initialGood datainfosGood initialsGood variantValues datainfoValue argumentMember accessibleMember accessibleMembers moduleMembers reportValue report lowest treeNumber numberOf tableNumber deepest
+unfolding bytes all any same head tail dropWhile after part isIn isLetter isNameByte isName isTextByte isText lower lowercase distinct unique bigEndianFrom bigEndian twosComplement unsigned signed digit digitsIn decimal integer Token.digits Token.minus Token.int Token.frac Token.sign Token.exp Token.number isHex isEscape hex hex4 escape char chars stringEnd upTo inside scalar spaced items arrayEnd key members objectEnd bare quoted compact elementCount counted variants enumAt elements tupleAt typed datainfoIn flag Datainfo.namesGood Datainfo.rulesKept goodNames isBetween sameInteger valuesUnique begins argumentAt commandAt accessiblesAt markedAt moduleAt modulesAt headAt wholeTable readTable orEmpty tableOf accessibleName ifAny accessibleCount countsGood noteGood accessibleNamesGood moduleNamesGood editionGood namesGood rulesKept initialGood datainfosGood initialsGood variantValues datainfoValue argumentMember accessibleMember accessibleMembers moduleMembers reportValue report firstFault treeNumber numberOf tableNumber deepest
 fewer-are-too-few = record { accepted = refl; refused = refl }

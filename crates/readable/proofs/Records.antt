@@ -16,15 +16,15 @@ use Rattle.form.proofs.Stored.{stored}
 use Rattle.table.specs.Table.{Parameter, Table}
 use Rattle.table.specs.Layout.{tableOf}
 use Rattle.table.specs.Search.{Placed, parameters}
-use Rattle.report.specs.Judge.{lowest, tableNumber}
-use Rattle.report.proofs.Faults.{no-fault, lowest-none}
+use Rattle.report.specs.Judge.{firstFault, tableNumber}
+use Rattle.report.proofs.Faults.{no-fault, first-fault-none}
 use Rattle.message.specs.Line.{Parts, content, partsOf}
 use Rattle.message.specs.Request.{Request, request}
 use Rattle.message.specs.Error.{Fault, faultOf}
-use Rattle.message.specs.Reply.{Held, valued, failed, Report, Reply, heldReport}
+use Rattle.message.specs.Reply.{Held, valued, failed, DataReport, Reply, heldReport}
 use Rattle.outbox.specs.Outbox.{Record, final, update}
 use Rattle.plain.specs.Node.{Client, Value, Node, isActive, lineOf, lineTaken, begin, holding, showing, reportOf, clientNumbers, updatesTo, updatesOf}
-use Rattle.plain.specs.Answer.{Outcome, refused, carried, storedAt, busy, statusOf, busyUpdates, activates, deactivates, sets, outcome, conclude, answerParts}
+use Rattle.plain.specs.Answer.{Outcome, denied, carried, storedAt, busy, statusOf, busyUpdates, activates, deactivates, sets, outcome, conclude, answerParts}
 use Rattle.plain.specs.Answer.{answer}
 use Rattle.plain.specs.Calls.{Event, Open, Close, Piece, Reading, Unreadable, Call, readingVerdict, ownFaults, callNumber, hasFeed, ended}
 use Rattle.plain.specs.Calls.{pieceEffect, driverEffect, readingEffect, unreadableEffect, effect, settle, settling, stepIf}
@@ -50,11 +50,11 @@ module _ (w : Table) where
   both-read [] ss h k = k
   both-read (r ∷ rs) ss h k = (h .0, both-read rs ss (h .1) k)
 
-  one-read : (b : Bool) (c : ℕ) (r : Report) → ReportRead r → AllRead w (cond b (update c r ∷ []) [])
+  one-read : (b : Bool) (c : ℕ) (r : DataReport) → ReportRead r → AllRead w (cond b (update c r ∷ []) [])
   one-read true c r h = (h, tt)
   one-read false c r h = tt
 
-  to-read : (f : ℕ → Client) (i : ℕ) (r : Report) → ReportRead r → (cs : List ℕ) → AllRead w (updatesTo f i r cs)
+  to-read : (f : ℕ → Client) (i : ℕ) (r : DataReport) → ReportRead r → (cs : List ℕ) → AllRead w (updatesTo f i r cs)
   unfolding updatesTo
   to-read f i r h [] = tt
   to-read f i r h (c ∷ cs) =
@@ -72,12 +72,12 @@ module _ (w : Table) where
 
   -- what a request comes to; of an error the reply is for `concluded`
   abbrev OutcomeRead : Outcome → Type 0
-  OutcomeRead (refused d) = Unit {0}
+  OutcomeRead (denied d) = Unit {0}
   OutcomeRead (carried m ss rs r) = AllRead w rs × ReplyRead w r
 
   concluded : (n : Node) (c t : ℕ) (p : Parts) (o : Outcome) → OutcomeRead o → AllRead w (conclude w n c t p o .1)
   unfolding conclude
-  concluded n c t p (refused d) h = (data-reports-are-read .ofErrors d, tt)
+  concluded n c t p (denied d) h = (data-reports-are-read .ofErrors d, tt)
   concluded n c t p (carried m ss rs r) h = both-read rs (final c r ∷ []) (h .0) (h .1, tt)
 
 null-held : (t : ℕ) → ReportRead (record { moduleName = []; accessible = []; held = valued (bytes "null"); time = t })
@@ -180,7 +180,7 @@ module _ (table : List ℕ) (z : tableNumber table ≡ 0) where
     unreadable-read k (some p) e (some f) t = driver-read k p e (failed f) tt t
 
   module _ (n : Node) (s : (k : ℕ) (p : Placed Parameter) → getElem? (parameters w) k ≡ some p → HeldFits (p .it) (n .values k .held)) where
-    effect-read : (e : Event) → lowest (ownFaults w n e) ≡ 0 → AllRead w (effect w n e .records)
+    effect-read : (e : Event) → firstFault (ownFaults w n e) ≡ 0 → AllRead w (effect w n e .records)
     unfolding ownFaults effect pieceEffect
     effect-read (Open c t) y = tt
     effect-read (Close c t) y = tt
@@ -188,7 +188,7 @@ module _ (table : List ℕ) (z : tableNumber table ≡ 0) where
     effect-read (Reading k bs t) y =
         let x = getElem? (parameters w) k in
         let f = isFit (readingVerdict x bs) in
-        reading-read n s k x refl bs t (not-false f (no-fault 14 (not f) (lowest-none _ y 2)))
+        reading-read n s k x refl bs t (not-false f (no-fault 14 (not f) (first-fault-none _ y 2)))
     effect-read (Unreadable k x t) y = unreadable-read n s k (getElem? (parameters w) k) refl (faultOf x) t
 
     step-read : (e : Call) → AllRead w (step table n e .1 .records)

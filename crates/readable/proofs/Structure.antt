@@ -25,7 +25,7 @@ use Rattle.table.specs.Rules.{accessibleName, ifAny, noteGood, accessibleNamesG
 use Rattle.report.specs.Report.{variantValues, nameItems, datainfoValue, elementValues, fieldValues, argumentMember, accessibleMember, accessibleMembers}
 use Rattle.report.specs.Report.{moduleMembers, reportValue, report}
 use Rattle.report.specs.Judge.{treeNumber, numberOf, tableNumber}
-use Rattle.report.proofs.Faults.{no-fault, lowest-none}
+use Rattle.report.proofs.Faults.{no-fault, first-fault-none}
 use Rattle.report.proofs.Plain.{name-text}
 use Rattle.sound.proofs.Lists.{Each}
 use Rattle.sound.proofs.Tabled.{Lies, ModuleLies, table-lies}
@@ -208,7 +208,7 @@ read-table table e = go (readTable table) refl e
     go : (o : Option Table) → readTable table ≡ o → numberOf o ≡ 0 → ReadTable (orEmpty o)
     go none q e = absurd (omega arith)
     go (some t) q e = record {
-      names = not-false (namesGood t) (no-fault 2 (not (namesGood t)) (lowest-none _ e 1));
+      names = not-false (namesGood t) (no-fault 2 (not (namesGood t)) (first-fault-none _ e 1));
       deep = modules-deep (t .modules) (table-lies table t q);
     }
 

@@ -15,7 +15,7 @@ use Rattle.table.specs.Search.{Placed, parameters}
 use Rattle.report.specs.Report.{reportValue, report}
 use Rattle.report.specs.Judge.{tableNumber}
 use Rattle.message.specs.Error.{Denial}
-use Rattle.message.specs.Reply.{Held, Report, Reply, identification, describing, pong, active, inactive, reply, changed, done, checked, counted, error}
+use Rattle.message.specs.Reply.{Held, DataReport, Reply, identification, describing, pong, active, inactive, reply, changed, done, checked, counted, error}
 use Rattle.message.specs.Reply.{dataReport, heldReport, errorReport, countsText}
 use Rattle.outbox.specs.Outbox.{Record, final, update, orderChange, orderCommand}
 use Rattle.plain.specs.Node.{Value, begin}
@@ -32,7 +32,7 @@ use Rattle.readable.specs.Trees.{dataValue, heldValue, denialValue, coun
 abbrev pub reportLevels : ℕ
 reportLevels = 14
 
--- The structure report of every accepted table is read whole, as the value that it was written from, by the same reader with so many levels. [T-14, T-31]
+-- The structure report of every accepted table is read whole, as the value that it was written from, by the same reader with so many levels.
 abbrev pub StructureReportsAreRead : Type 0
 StructureReportsAreRead = (table : List ℕ) → tableNumber table ≡ 0
     → value reportLevels (report (tableOf table)) ≡ some (reportValue (tableOf table), [])
@@ -54,7 +54,7 @@ pub record FewerAreTooFew : Type 0 where
 abbrev pub IsRead : List ℕ → Option Json → Type 0
 IsRead xs o = (isSome o ≡ true) × (text xs ≡ o)
 
--- [L-9, L-12, L-17, L-23, L-25, L-28]
+-- Of all that a node may have to report.
 pub record DataReportsAreRead : Type 0 where
   -- of whatever a parameter of an accepted table may hold, a text in stored form or why it can't be read: what `reply`, `changed`, `checked` and
   -- updates have
@@ -67,7 +67,7 @@ pub record DataReportsAreRead : Type 0 where
   -- "`error_ACTION SPECIFIER [..]`"
   pub ofErrors : (d : Denial) → text (errorReport d) ≡ some (denialValue d)
 
--- So in every history, after every call, the report of each parameter is read. [L-9, L-12, L-17, L-23, L-25, L-28]
+-- So in every history, after every call, the report of each parameter is read.
 abbrev pub HeldReportsAreRead : Type 0
 HeldReportsAreRead = (table : List ℕ) (area time : ℕ) → startNumber table area time ≡ 0 → (h : List Call)
     → (k : ℕ) (p : Placed Parameter) → getElem? (parameters (tableOf table)) k ≡ some p
@@ -76,7 +76,7 @@ HeldReportsAreRead = (table : List ℕ) (area time : ℕ) → startNumber table 
 -- ## All that is sent
 
 -- what an accessible's report has
-abbrev pub ReportRead : Report → Type 0
+abbrev pub ReportRead : DataReport → Type 0
 ReportRead r = IsRead (heldReport (r .held) (r .time)) (heldValue (r .held) (r .time))
 
 -- what a reply has as JSON, on the table w; three have none
@@ -104,7 +104,7 @@ abbrev pub AllRead : Table → List Record → Type 0
 AllRead w [] = Unit {0}
 AllRead w (r ∷ rs) = RecordRead w r × AllRead w rs
 
--- In every history after an accepted start, each report in each reply and each update is read. [L-9, L-12, L-17, L-23, L-25, L-28]
+-- In every history after an accepted start, each report in each reply and each update is read.
 abbrev pub RecordsAreRead : Type 0
 RecordsAreRead = (table : List ℕ) (area time : ℕ) → startNumber table area time ≡ 0 → (h : List Call)
     → AllRead (tableOf table) (sent (answers table (begin (tableOf table) time) h))

@@ -14,29 +14,29 @@ use Rattle.message.specs.Reply.{Held, valued, failed}
 unfoldable pub timeValue : ℕ → Json
 timeValue t = object (member (bytes "t") (number (seconds t)) no-members)
 
--- `[value,{"t":time}]` [L-9, L-12, L-17, L-23, L-25, L-28]
+-- `[value,{"t":time}]` [L-12]
 unfoldable pub dataValue : Json → ℕ → Json
 dataValue v t = array (item v (item (timeValue t) no-items))
 
--- "`["CLASS","CLASS",{"t":time}]`" (M-102) [L-9, L-12, L-17, L-23, L-25, L-28]
+-- "`["CLASS","CLASS",{"t":time}]`" (M-102) [L-28]
 unfoldable pub faultValue : Fault → ℕ → Json
 faultValue f t = array (item (string (faultName f)) (item (string (faultName f)) (item (timeValue t) no-items)))
 
--- `["CLASS","TEXT",{}]` [L-9, L-12, L-17, L-23, L-25, L-28]
+-- `["CLASS","TEXT",{}]` [L-9]
 unfoldable pub classValue : Class → Json
 classValue c = array (item (string (className c)) (item (string (classText c)) (item (object no-members) no-items)))
 
--- [L-9, L-12, L-17, L-23, L-25, L-28]
+-- of an error reply: one of these two [L-9, L-28]
 unfoldable pub denialValue : Denial → Json
 denialValue (class c) = classValue c
 denialValue (fault f t) = faultValue f t
 
--- "`[lines,errors,updates,active]`" (M-108) [L-9, L-12, L-17, L-23, L-25, L-28]
+-- "`[lines,errors,updates,active]`" (M-108) [L-25]
 unfoldable pub countsValue : Counts → ℕ → Json
 countsValue x n =
     array (item (number (decimal (x .lines))) (item (number (decimal (x .errors))) (item (number (decimal (x .updates))) (item (number (decimal n)) no-items))))
 
--- of what a parameter holds: the data report of the value that its text is, or the report of why it can't be read [L-9, L-12, L-17, L-23, L-25, L-28]
+-- of what a parameter holds: the data report of the value that its text is, or the report of why it can't be read [L-12, L-28]
 unfoldable pub heldValue : Held → ℕ → Option Json
 heldValue (valued v) t = text v >>= λ w. some (dataValue w t)
 heldValue (failed f) t = some (faultValue f t)

@@ -17,7 +17,7 @@ use Rattle.table.specs.Table.{Parameter, Table}
 use Rattle.table.specs.Layout.{tableOf}
 use Rattle.table.specs.Search.{Placed, parameters}
 use Rattle.report.specs.Judge.{tableNumber}
-use Rattle.report.proofs.Faults.{no-fault, lowest-none}
+use Rattle.report.proofs.Faults.{no-fault, first-fault-none}
 use Rattle.message.specs.Error.{Fault, faultOf}
 use Rattle.message.specs.Reply.{Held, valued, failed, heldAs}
 use Rattle.outbox.specs.Outbox.{Record, encodeAll}
@@ -186,21 +186,21 @@ module _ {table : List ℕ} {e : Call} {s : State} {values outbox : List ℕ} {d
 
     kept-table : tableNumber table ≡ 0
     unfolding callNumber lentFaults
-    kept-table = lowest-none _ zero-number 0
+    kept-table = first-fault-none _ zero-number 0
 
     kept-area : 16384 ≤ e .lent .area
     unfolding callNumber lentFaults
-    kept-area = ltb-false (e .lent .area) 16384 (no-fault 7 (ltb (e .lent .area) 16384) (lowest-none _ zero-number 2))
+    kept-area = ltb-false (e .lent .area) 16384 (no-fault 7 (ltb (e .lent .area) 16384) (first-fault-none _ zero-number 2))
 
     kept-outbox : sends (e .event) ≡ true → 32768 ≤ e .lent .outbox
     unfolding callNumber lentFaults isSmall
     kept-outbox h =
-        let f = no-fault 6 (isSmall (e .event) (e .lent .outbox)) (lowest-none _ zero-number 1) in
+        let f = no-fault 6 (isSmall (e .event) (e .lent .outbox)) (first-fault-none _ zero-number 1) in
         ltb-false (e .lent .outbox) 32768 (sym (ap (λ (b : Bool). b && ltb (e .lent .outbox) 32768) h) ∙ f)
 
     kept-own : (j : ℕ) → getD (ownFaults (tableOf table) node (e .event)) j 0 ≡ 0
     unfolding callNumber lentFaults
-    kept-own j = lowest-none _ zero-number (suc (suc (suc (suc (suc j)))))
+    kept-own j = first-fault-none _ zero-number (suc (suc (suc (suc (suc j)))))
 
     abbrev done-by : Effect
     done-by = effect (tableOf table) node (e .event)

@@ -15,7 +15,7 @@ use Rattle.report.specs.Report.{report}
 use Rattle.table.specs.Table.{Parameter, Table}
 use Rattle.table.specs.Layout.{tableOf, readTable}
 use Rattle.table.specs.Search.{Placed, parameters}
-use Rattle.report.specs.Judge.{fault, lowest, treeNumber, numberOf, tableNumber}
+use Rattle.report.specs.Judge.{fault, firstFault, treeNumber, numberOf, tableNumber}
 use Rattle.message.specs.Error.{Fault, faultOf}
 use Rattle.plain.specs.Node.{Node, isOpen}
 use Rattle.plain.specs.Calls.{Event, Open, Close, Piece, Reading, Unreadable, Call}
@@ -27,8 +27,8 @@ abbrev Below : List ℕ → Type 0
 Below [] = Unit {0}
 Below (x ∷ xs) = (x ≤ 18) × Below xs
 
-lowest-below : (xs : List ℕ) → Below xs → lowest xs ≤ 18
-unfolding lowest
+lowest-below : (xs : List ℕ) → Below xs → firstFault xs ≤ 18
+unfolding firstFault
 lowest-below [] h = omega arith
 lowest-below (zero ∷ xs) h = lowest-below xs (h .1)
 lowest-below (suc x ∷ xs) h = h .0

@@ -15,7 +15,7 @@ use Rattle.table.specs.Table.{Parameter, Table}
 use Rattle.table.specs.Search.{Placed, parameters}
 use Rattle.message.specs.Line.{Parts}
 use Rattle.message.specs.Request.{Request, request}
-use Rattle.message.specs.Reply.{valued, Report}
+use Rattle.message.specs.Reply.{valued, DataReport}
 use Rattle.outbox.specs.Outbox.{Record, final, update, orderChange, orderCommand, mark, client, body, encode, encodeAll}
 use Rattle.plain.specs.Node.{Client, Value, Node, Setting, settingValue, setValues, isActive, updatesTo, updatesOf, reportOf}
 use Rattle.plain.specs.Answer.{busySettings, busyUpdates, statusOf, Outcome, activates, deactivates, sets, outcome, answerParts, answer}
@@ -40,7 +40,7 @@ no-both (orderChange c p v ∷ xs) ys h g k =
     absurd (omega arith)
 no-both (orderCommand c p v ∷ xs) ys h g k = no-both xs ys h g k
 
-pub updates-to : (f : ℕ → Client) (i : ℕ) (r : Report) (cs : List ℕ) → NoOrders (updatesTo f i r cs)
+pub updates-to : (f : ℕ → Client) (i : ℕ) (r : DataReport) (cs : List ℕ) → NoOrders (updatesTo f i r cs)
 unfolding updatesTo ordersOf
 updates-to f i r [] k = refl
 updates-to f i r (c ∷ cs) k = no-both (cond (isActive (f c) i) (update c r ∷ []) []) (updatesTo f i r cs) (go (isActive (f c) i)) (updates-to f i r cs) k

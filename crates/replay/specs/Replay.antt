@@ -79,7 +79,7 @@ module _ (table : List ℕ) (area outbox : ℕ) where
   unfoldable pub play : Node → Entry → Played
   play n e = playOn (suc (length (e .offered))) n (some e)
 
-  -- [R-5]
+  -- records, one after another [R-5]
   unfoldable pub playAll : Node → List Entry → Played
   playAll n [] = nothing n
   playAll n (e ∷ es) = both (play n e) (λ m. playAll m es)

@@ -1,4 +1,4 @@
--- The lowest of some faults, and a table without faults. Assumes nothing.
+-- The first of some faults, and a table without faults. Assumes nothing.
 use Prim.Native.Nat.{ℕ, zero, suc}
 use native.Mathlib.Omega.{arith}
 use mathlib.Core.Bool.{Bool, true, false}
@@ -10,33 +10,33 @@ use lib.ListN.{getD}
 use Rattle.ascii.specs.Bytes.{isSome}
 use Rattle.table.specs.Table.{Table}
 use Rattle.table.specs.Layout.{readTable, Readable}
-use Rattle.report.specs.Judge.{fault, lowest, numberOf, tableNumber}
+use Rattle.report.specs.Judge.{fault, firstFault, numberOf, tableNumber}
 
 -- a fault whose number is none is not there
 pub no-fault : (k : ℕ) (b : Bool) → fault (suc k) b ≡ 0 → b ≡ false
 no-fault k true e = absurd (omega arith)
 no-fault k false e = refl
 
--- where the lowest fault is none, none is there
-pub lowest-none : (ks : List ℕ) → lowest ks ≡ 0 → (j : ℕ) → getD ks j 0 ≡ 0
-unfolding lowest
-lowest-none [] e j = refl
-lowest-none (zero ∷ ks) e zero = refl
-lowest-none (zero ∷ ks) e (suc j) = lowest-none ks e j
-lowest-none (suc k ∷ ks) e j = absurd (omega arith)
+-- where the first fault is none, none is there
+pub first-fault-none : (ks : List ℕ) → firstFault ks ≡ 0 → (j : ℕ) → getD ks j 0 ≡ 0
+unfolding firstFault
+first-fault-none [] e j = refl
+first-fault-none (zero ∷ ks) e zero = refl
+first-fault-none (zero ∷ ks) e (suc j) = first-fault-none ks e j
+first-fault-none (suc k ∷ ks) e j = absurd (omega arith)
 
 -- a fault that is there is lower than those after it
-pub lowest-first : (k : ℕ) (ks : List ℕ) → k ≢ 0 → lowest (k ∷ ks) ≡ k
-unfolding lowest
-lowest-first zero ks h = absurd (h refl)
-lowest-first (suc k) ks h = refl
+pub first-fault-first : (k : ℕ) (ks : List ℕ) → k ≢ 0 → firstFault (k ∷ ks) ≡ k
+unfolding firstFault
+first-fault-first zero ks h = absurd (h refl)
+first-fault-first (suc k) ks h = refl
 
--- the lowest of some faults may be said in their place
-pub lowest-both : (xs ys : List ℕ) → lowest (lowest xs ∷ ys) ≡ lowest (xs ++ ys)
-unfolding lowest
-lowest-both [] ys = refl
-lowest-both (zero ∷ xs) ys = lowest-both xs ys
-lowest-both (suc k ∷ xs) ys = refl
+-- the first of some faults may be said in their place
+pub first-fault-both : (xs ys : List ℕ) → firstFault (firstFault xs ∷ ys) ≡ firstFault (xs ++ ys)
+unfolding firstFault
+first-fault-both [] ys = refl
+first-fault-both (zero ∷ xs) ys = first-fault-both xs ys
+first-fault-both (suc k ∷ xs) ys = refl
 
 -- an accepted table can be read
 pub accepted-readable : (s : List ℕ) → tableNumber s ≡ 0 → Readable s

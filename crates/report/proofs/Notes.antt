@@ -14,7 +14,7 @@ use Rattle.table.specs.Table.{Module, Table}
 use Rattle.report.specs.Report.{keyed, accessibleMembers, moduleMembers, reportValue, report}
 use Rattle.report.specs.Judge.{treeNumber}
 use Rattle.report.specs.Notes.{noteMember, notedMembers, notedValue, notedReport, notedNumber, withoutNote, withoutNotes, NotesGone}
-use Rattle.report.proofs.Faults.{no-fault, lowest-none}
+use Rattle.report.proofs.Faults.{no-fault, first-fault-none}
 
 -- ## The table without notes
 
@@ -84,7 +84,7 @@ shorter t =
 accepted : (t : Table) → notedNumber t ≡ 0 → treeNumber t ≡ 0
 unfolding notedNumber treeNumber
 accepted t e =
-    let long : ltb 32000 (length (notedReport t)) ≡ false = no-fault 5 _ (lowest-none _ e 4) in
+    let long : ltb 32000 (length (notedReport t)) ≡ false = no-fault 5 _ (first-fault-none _ e 4) in
     let few = ltb-false 32000 (length (notedReport t)) long in
     let less = shorter t in
     let short : length (report t) ≤ 32000 = omega arith in

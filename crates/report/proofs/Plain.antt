@@ -23,7 +23,7 @@ use Rattle.table.specs.Rules.{accessibleName, ifAny, noteGood, accessibleNamesG
 use Rattle.report.specs.Report.{variantValues, nameItems, datainfoValue, elementValues, fieldValues, argumentMember, accessibleMember, accessibleMembers}
 use Rattle.report.specs.Report.{moduleMembers, reportValue}
 use Rattle.report.specs.Judge.{treeNumber}
-use Rattle.report.proofs.Faults.{no-fault, lowest-none}
+use Rattle.report.proofs.Faults.{no-fault, first-fault-none}
 use Rattle.report.proofs.Numbers.{natural-number, integer-number, decimal-number}
 use Rattle.report.proofs.Read.{Plain, PlainItems, PlainMembers}
 
@@ -173,4 +173,4 @@ names-plain t h =
 pub report-plain : (t : Table) → treeNumber t ≡ 0 → Plain (reportValue t)
 unfolding treeNumber
 report-plain t e =
-    names-plain t (not-false (namesGood t) (no-fault 2 (not (namesGood t)) (lowest-none _ e 1)))
+    names-plain t (not-false (namesGood t) (no-fault 2 (not (namesGood t)) (first-fault-none _ e 1)))

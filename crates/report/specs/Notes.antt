@@ -10,7 +10,7 @@ use Rattle.json.specs.Json.{Json, string, array, object, no-items, Members, no-
 use Rattle.table.specs.Table.{Module, Table, withModules}
 use Rattle.table.specs.Rules.{faultsBelow6}
 use Rattle.report.specs.Report.{keyed, accessibleMembers, report}
-use Rattle.report.specs.Judge.{fault, lowest, treeNumber}
+use Rattle.report.specs.Judge.{fault, firstFault, treeNumber}
 
 -- "a note would stand as `"_note":".."` after the module's description"
 unfoldable pub noteMember : Option (List ℕ) → Members → Members
@@ -33,13 +33,13 @@ notedValue t =
     (keyed "modules" (object (notedMembers (t .modules)))
     (keyed "equipment_id" (string (t .equipmentId)) (keyed "description" (string (t .description)) no-members)))
 
--- the report with notes, and the number of a table that is judged on it
+-- the report with notes
 unfoldable pub notedReport : Table → List ℕ
 notedReport t = compact (notedValue t)
 
--- [T-35]
+-- and the number of a table that is judged on it [T-35]
 unfoldable pub notedNumber : Table → ℕ
-notedNumber t = lowest (faultsBelow6 t ++ (fault 6 (ltb 32000 (length (notedReport t))) ∷ []))
+notedNumber t = firstFault (faultsBelow6 t ++ (fault 6 (ltb 32000 (length (notedReport t))) ∷ []))
 
 -- a table less its notes
 unfoldable pub withoutNote : Module → Module

@@ -11,7 +11,7 @@ use Rattle.fit.specs.Fit.{verdict, isFit}
 use Rattle.table.specs.Table.{Parameter, Table}
 use Rattle.table.specs.Layout.{tableOf}
 use Rattle.table.specs.Search.{Placed, findParameter}
-use Rattle.message.specs.Reply.{Report, changed}
+use Rattle.message.specs.Reply.{DataReport, changed}
 use Rattle.outbox.specs.Outbox.{Record, final, update, orderChange}
 use Rattle.plain.specs.Node.{Node, Value, reportOf, clientNumbers, updatesTo, showing}
 use Rattle.plain.specs.History.{step}
@@ -88,16 +88,16 @@ module _ (w : Table) (n m : Node) (c k : ℕ) (p : Placed Parameter) (v : List �
         }
 
 -- what holds of the change that a line was replied to with, where it was one of a target and its module has a status, holds by what is told
-told-change : {w : Table} {n m : Node} {c : ℕ} {rs : List Record} (s : ℕ × Placed Parameter) (r : Report) → r .accessible ≡ bytes "target"
-    → findParameter w (r .moduleName) (bytes "status") ≡ some s → (P : Report → Type 0)
+told-change : {w : Table} {n m : Node} {c : ℕ} {rs : List Record} (s : ℕ × Placed Parameter) (r : DataReport) → r .accessible ≡ bytes "target"
+    → findParameter w (r .moduleName) (bytes "status") ≡ some s → (P : DataReport → Type 0)
     → ((k : ℕ) (p : Placed Parameter) (v : List ℕ) (t : ℕ) → Changed w n m c k p v t rs → p .it .name ≡ bytes "target"
     → findParameter w (p .moduleName) (bytes "status") ≡ some s → P (reportOf p (showing v t)))
     → {e : Event} → OfPiece c (λ bs t. ChangeSets w n m c bs t r rs) e → P r
 told-change {w} {n} s r target found P f (of-piece {t = t} g) =
     let z = g .tells in
     subst P (sym z)
-    (f (g .k) (g .p) (storedAt (n .values) (g .k, g .p) (g .offered)) t (g .changed) (ap (λ (x : Report). x .accessible) (sym z) ∙ target)
-    (ap (λ (x : Report). findParameter w (x .moduleName) (bytes "status")) (sym z) ∙ found))
+    (f (g .k) (g .p) (storedAt (n .values) (g .k, g .p) (g .offered)) t (g .changed) (ap (λ (x : DataReport). x .accessible) (sym z) ∙ target)
+    (ap (λ (x : DataReport). findParameter w (x .moduleName) (bytes "status")) (sym z) ∙ found))
 
 pub busy-before-changed : BusyBeforeChanged
 busy-before-changed table n e c s r l target found a =

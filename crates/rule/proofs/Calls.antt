@@ -14,8 +14,8 @@ use Rattle.fit.specs.Fit.{Verdict, fits, rangeError, wrongType, badJSON, severi
 use Rattle.table.specs.Table.{Parameter, Table}
 use Rattle.table.specs.Layout.{tableOf}
 use Rattle.table.specs.Search.{Placed, parameters}
-use Rattle.report.specs.Judge.{lowest}
-use Rattle.report.proofs.Faults.{no-fault, lowest-none}
+use Rattle.report.specs.Judge.{firstFault}
+use Rattle.report.proofs.Faults.{no-fault, first-fault-none}
 use Rattle.message.specs.Line.{content, partsOf}
 use Rattle.message.specs.Request.{Request}
 use Rattle.message.specs.Error.{Fault, faultOf}
@@ -120,9 +120,9 @@ answered w n c bs t h =
 
 -- an accepted piece's client is open
 piece-open : (table : List ℕ) (n : Node) (c : ℕ) (bs : List ℕ) (t : ℕ)
-    → lowest (ownFaults (tableOf table) n (Piece c bs t)) ≡ 0 → isOpen (n .clients c) ≡ true
+    → firstFault (ownFaults (tableOf table) n (Piece c bs t)) ≡ 0 → isOpen (n .clients c) ≡ true
 unfolding ownFaults
-piece-open table n c bs t e = not-false (isOpen (n .clients c)) (no-fault 11 (not (isOpen (n .clients c))) (lowest-none _ e 2))
+piece-open table n c bs t e = not-false (isOpen (n .clients c)) (no-fault 11 (not (isOpen (n .clients c))) (first-fault-none _ e 2))
 
 -- an accepted reading's parameter is there, and its value fits
 fit-is : (v : Verdict) → isFit v ≡ true → v ≡ fits
@@ -157,7 +157,7 @@ unfolding ended
 did-piece w n c bs t true f h = line f (answered w n c bs t h)
 did-piece w n c bs t false f h = received f
 
-did : (table : List ℕ) (n : Node) (e : Event) → lowest (ownFaults (tableOf table) n e) ≡ 0
+did : (table : List ℕ) (n : Node) (e : Event) → firstFault (ownFaults (tableOf table) n e) ≡ 0
     → let r = effect (tableOf table) n e in Did (tableOf table) n e (r .next) (r .records)
 unfolding effect pieceEffect ownFaults
 did table n (Open c t) h = opened
@@ -166,14 +166,14 @@ did table n (Piece c bs t) h = did-piece (tableOf table) n c bs t (hasFeed bs) r
 did table n (Reading k bs t) h =
     let x = getElem? (parameters (tableOf table)) k in
     let b = isFit (readingVerdict x bs) in
-    let p = there-is x (not-false (isSome x) (no-fault 13 (not (isSome x)) (lowest-none _ h 1))) in
+    let p = there-is x (not-false (isSome x) (no-fault 13 (not (isSome x)) (first-fault-none _ h 1))) in
     did-reading (tableOf table) n k bs t x (p .0) refl (p .1)
-    (fit-is (readingVerdict x bs) (not-false b (no-fault 14 (not b) (lowest-none _ h 2))))
+    (fit-is (readingVerdict x bs) (not-false b (no-fault 14 (not b) (first-fault-none _ h 2))))
 did table n (Unreadable k class t) h =
     let x = getElem? (parameters (tableOf table)) k in
     let y = faultOf class in
-    let p = there-is x (not-false (isSome x) (no-fault 13 (not (isSome x)) (lowest-none _ h 1))) in
-    let f = there-is y (not-false (isSome y) (no-fault 15 (not (isSome y)) (lowest-none _ h 2))) in
+    let p = there-is x (not-false (isSome x) (no-fault 13 (not (isSome x)) (first-fault-none _ h 1))) in
+    let f = there-is y (not-false (isSome y) (no-fault 15 (not (isSome y)) (first-fault-none _ h 2))) in
     did-unreadable (tableOf table) n k class t x y (p .0) (f .0) refl refl (p .1) (f .1)
 
 -- ## Steps

@@ -14,10 +14,10 @@ use Rattle.table.specs.Search.{Placed, findModule, findParameter}
 use Rattle.message.specs.Line.{Parts}
 use Rattle.message.specs.Request.{change, check, malformed, modulePart, accessiblePart, named, orNull, request}
 use Rattle.message.specs.Error.{Denial, class, Class, ProtocolError, NoSuchModule, NoSuchParameter, ReadOnly, BadJSON, WrongType, RangeError}
-use Rattle.message.specs.Reply.{Report, Reply, changed, checked}
+use Rattle.message.specs.Reply.{DataReport, Reply, changed, checked}
 use Rattle.outbox.specs.Outbox.{Record, final}
 use Rattle.plain.specs.Node.{Node, Setting, counting}
-use Rattle.plain.specs.Answer.{Outcome, refused, carried, found, letIn, judgedAt, sets, shows, judging, changes, checks, outcome}
+use Rattle.plain.specs.Answer.{Outcome, denied, carried, found, letIn, judgedAt, sets, shows, judging, changes, checks, outcome}
 use Rattle.plain.specs.Calls.{Piece}
 use Rattle.plain.proofs.Outcomes.{nodeAfter, before, replyTo}
 use Rattle.rule.specs.Theorems.{partsAt, requestOf, AltersNothing, AsChange, both-refused, both-let-in, ChecksAreAsChanges}
@@ -27,24 +27,24 @@ use Rattle.rule.proofs.Good.{ended-line, comes-to}
 
 -- what a change and a check come to at the node n
 data Alike (n : Node) : Outcome → Outcome → Type 0 where
-  refusing : (e : Denial) → Alike n (refused e) (refused e)
-  letting : {m : Node} {ss : List Setting} {rs : List Record} (r : Report) → Alike n (carried m ss rs (changed r)) (carried n [] [] (checked r))
+  denying : (e : Denial) → Alike n (denied e) (denied e)
+  letting : {m : Node} {ss : List Setting} {rs : List Record} (r : DataReport) → Alike n (carried m ss rs (changed r)) (carried n [] [] (checked r))
 
 module _ (w : Table) (n : Node) (c t : ℕ) where
   found-alike : {A : Type 0} (x : Class) (o : Option A) (f g : A → Outcome) → ((a : A) → Alike n (f a) (g a)) → Alike n (found x o f) (found x o g)
   unfolding found
-  found-alike x none f g h = refusing (class x)
+  found-alike x none f g h = denying (class x)
   found-alike x (some a) f g h = h a
 
   let-in-alike : (v : Verdict) (o p : Outcome) → Alike n o p → Alike n (letIn v o) (letIn v p)
   unfolding letIn
   let-in-alike fits o p h = h
-  let-in-alike rangeError o p h = refusing (class RangeError)
-  let-in-alike wrongType o p h = refusing (class WrongType)
-  let-in-alike badJSON o p h = refusing (class BadJSON)
+  let-in-alike rangeError o p h = denying (class RangeError)
+  let-in-alike wrongType o p h = denying (class WrongType)
+  let-in-alike badJSON o p h = denying (class BadJSON)
 
-  writable-alike : (b : Bool) (o p : Outcome) → Alike n o p → Alike n (cond b (refused (class ReadOnly)) o) (cond b (refused (class ReadOnly)) p)
-  writable-alike true o p h = refusing (class ReadOnly)
+  writable-alike : (b : Bool) (o p : Outcome) → Alike n o p → Alike n (cond b (denied (class ReadOnly)) o) (cond b (denied (class ReadOnly)) p)
+  writable-alike true o p h = denying (class ReadOnly)
   writable-alike false o p h = h
 
   judged-alike : (v : List ℕ) (k : ℕ × Placed Parameter) → Alike n (changes w n c t v k) (checks w n c t v k)
@@ -62,7 +62,7 @@ module _ (w : Table) (n : Node) (c t : ℕ) where
       → Alike n (outcome w n c t (cond b (change a x v) malformed)) (outcome w n c t (cond b (check a x v) malformed))
   unfolding outcome
   names-alike e true a x v = alike e a x v
-  names-alike e false a x v = refusing (class ProtocolError)
+  names-alike e false a x v = denying (class ProtocolError)
 
   words-alike : isSome (w .edition) ≡ true → (s v : List ℕ)
       → Alike n (outcome w n c t (request (saying (bytes "change") s v))) (outcome w n c t (request (saying (bytes "check") s v)))
@@ -85,7 +85,7 @@ as-change : (n : Node) (c : ℕ) (p q : Parts) (m m′ : Node) (rs rs′ : List 
     → (m ≡ counting (nodeAfter (idle n c) z) rs) × (rs ≡ before z ++ (final c (replyTo p z) ∷ []))
     → (m′ ≡ counting (nodeAfter (idle n c) y) rs′) × (rs′ ≡ before y ++ (final c (replyTo q y) ∷ []))
     → AsChange n c p m rs q m′ rs′
-as-change n c p q m m′ rs rs′ _ _ (refusing e) g h = both-refused e (nothing n m c rs _ (g .0) (g .1)) (nothing n m′ c rs′ _ (h .0) (h .1))
+as-change n c p q m m′ rs rs′ _ _ (denying e) g h = both-refused e (nothing n m c rs _ (g .0) (g .1)) (nothing n m′ c rs′ _ (h .0) (h .1))
 as-change n c p q m m′ rs rs′ (carried _ _ before-it _) _ (letting r) g h =
     both-let-in r (nothing n m c rs _ (g .0) (g .1))
     (subst (List·Memᴰ (final c (changed r))) (sym (h .1)) (Memᴰ·append-right before-it (List·Memᴰ·head refl)))

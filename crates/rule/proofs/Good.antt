@@ -21,7 +21,7 @@ use Rattle.message.specs.Error.{Class, NoSuchModule, ReadOnly, class}
 use Rattle.message.specs.Reply.{Held, valued, failed}
 use Rattle.outbox.specs.Outbox.{Record, final}
 use Rattle.plain.specs.Node.{counting, Client, Node, withClient, isOpen, isActive, emptied, activated}
-use Rattle.plain.specs.Answer.{Outcome, refused, outcome, found, letIn, argumentVerdict, judgedAt, storedAt, inScope, activates, deactivates, tells, reads, changes, sets, does, judging}
+use Rattle.plain.specs.Answer.{Outcome, denied, outcome, found, letIn, argumentVerdict, judgedAt, storedAt, inScope, activates, deactivates, tells, reads, changes, sets, does, judging}
 use Rattle.plain.specs.Calls.{Piece, hasFeed}
 use Rattle.plain.proofs.Put.{put-at}
 use Rattle.plain.proofs.Clients.{emptied-open, activated-active}
@@ -86,20 +86,20 @@ module _ (w : Table) (n : Node) (c t : ℕ) where
   good-set m a v k e o f = found-some NoSuchModule (findModule w m) _ (parameter-module w m a k e) ∙ rw (e, o, f) refl
 
   -- what a bad change comes to, whatever a good one would
-  refused-by : (b : Bool) (v : Verdict) (o : Outcome) (x : Class) → refusal b v ≡ some x → cond b (refused (class ReadOnly)) (letIn v o) ≡ refused (class x)
+  denied-by : (b : Bool) (v : Verdict) (o : Outcome) (x : Class) → refusal b v ≡ some x → cond b (denied (class ReadOnly)) (letIn v o) ≡ denied (class x)
   unfolding refusal letIn
-  refused-by true v o x e = ap (λ z. refused (class z)) (Option·some-injective ReadOnly x e)
-  refused-by false fits o x e = let z : _≡_ {A = ℕ} 0 1 = cc in absurd (omega arith)
-  refused-by false rangeError o x e = ap (λ z. refused (class z)) (Option·some-injective _ x e)
-  refused-by false wrongType o x e = ap (λ z. refused (class z)) (Option·some-injective _ x e)
-  refused-by false badJSON o x e = ap (λ z. refused (class z)) (Option·some-injective _ x e)
+  denied-by true v o x e = ap (λ z. denied (class z)) (Option·some-injective ReadOnly x e)
+  denied-by false fits o x e = let z : _≡_ {A = ℕ} 0 1 = cc in absurd (omega arith)
+  denied-by false rangeError o x e = ap (λ z. denied (class z)) (Option·some-injective _ x e)
+  denied-by false wrongType o x e = ap (λ z. denied (class z)) (Option·some-injective _ x e)
+  denied-by false badJSON o x e = ap (λ z. denied (class z)) (Option·some-injective _ x e)
 
   bad-set : (m a v : List ℕ) (k : ℕ × Placed Parameter) → findParameter w m a ≡ some k → (x : Class)
-      → refusal (k .1 .it .readonly) (judgedAt (n .values) k v) ≡ some x → outcome w n c t (change m a v) ≡ refused (class x)
+      → refusal (k .1 .it .readonly) (judgedAt (n .values) k v) ≡ some x → outcome w n c t (change m a v) ≡ denied (class x)
   unfolding outcome changes judging found
   bad-set m a v k e x r =
       found-some NoSuchModule (findModule w m) _ (parameter-module w m a k e)
-      ∙ rw e (refused-by (k .1 .it .readonly) (judgedAt (n .values) k v) (sets w n c t k (storedAt (n .values) k v)) x r)
+      ∙ rw e (denied-by (k .1 .it .readonly) (judgedAt (n .values) k v) (sets w n c t k (storedAt (n .values) k v)) x r)
 
   good-read : (m a : List ℕ) (k : ℕ × Placed Parameter) → findParameter w m a ≡ some k → outcome w n c t (read m a) ≡ reads w n c t k
   unfolding outcome found

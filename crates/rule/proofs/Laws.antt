@@ -15,7 +15,7 @@ use native.Mathlib.Omega.{arith}
 use borrow.Author.Tests.{eqb-true, ne-eqb}
 use Rattle.table.specs.Table.{Parameter}
 use Rattle.table.specs.Search.{Placed}
-use Rattle.message.specs.Reply.{Report, Reply}
+use Rattle.message.specs.Reply.{DataReport, Reply}
 use Rattle.outbox.specs.Outbox.{Record, final, update, orderChange, orderCommand}
 use Rattle.plain.specs.Node.{Client, Value, showing, isActive, reportOf, clientNumbers, updatesTo, updatesOf}
 use Rattle.plain.specs.Answer.{busy, busyUpdates}
@@ -64,7 +64,7 @@ no-final-replies d (update c r ∷ rs) h = no-final-replies d rs (h .1)
 no-final-replies d (orderChange c p v ∷ rs) h = no-final-replies d rs (h .1)
 no-final-replies d (orderCommand c p v ∷ rs) h = no-final-replies d rs (h .1)
 
-pub updates-to-no-final : (f : ℕ → Client) (i : ℕ) (r : Report) (cs : List ℕ) → NoFinal (updatesTo f i r cs)
+pub updates-to-no-final : (f : ℕ → Client) (i : ℕ) (r : DataReport) (cs : List ℕ) → NoFinal (updatesTo f i r cs)
 unfolding updatesTo
 updates-to-no-final f i r [] = tt
 updates-to-no-final f i r (c ∷ cs) = go (isActive (f c) i) (updates-to-no-final f i r cs)
@@ -74,7 +74,7 @@ updates-to-no-final f i r (c ∷ cs) = go (isActive (f c) i) (updates-to-no-fina
     go false h = h
 
 -- with those of a status before them
-pub busy-no-final : (f : ℕ → Client) (o : Option (ℕ × Placed Parameter)) (t i : ℕ) (r : Report) → NoFinal (busyUpdates f o t ++ updatesTo f i r clientNumbers)
+pub busy-no-final : (f : ℕ → Client) (o : Option (ℕ × Placed Parameter)) (t i : ℕ) (r : DataReport) → NoFinal (busyUpdates f o t ++ updatesTo f i r clientNumbers)
 unfolding busyUpdates
 busy-no-final f none t i r = updates-to-no-final f i r clientNumbers
 busy-no-final f (some s) t i r =
@@ -103,7 +103,7 @@ final-not-in (x ∷ rs) c r h m =
     ⊎-elim (λ e. subst NotFinal (sym e) (h .0)) (λ l. final-not-in rs c r (h .1) l) (List·Memᴰ·cases-cons m)
 
 -- an update among those to the clients of a module
-pub updates-to-member : (f : ℕ → Client) (i : ℕ) (r : Report) (cs : List ℕ) (d : ℕ) (x : Report)
+pub updates-to-member : (f : ℕ → Client) (i : ℕ) (r : DataReport) (cs : List ℕ) (d : ℕ) (x : DataReport)
     → List·Memᴰ (update d x) (updatesTo f i r cs) → (x ≡ r) × (isActive (f d) i ≡ true)
 unfolding updatesTo
 updates-to-member f i r [] d x m = absurd (List·Memᴰ·not-nil m)
@@ -117,14 +117,14 @@ updates-to-member f i r (c ∷ cs) d x m = go (isActive (f c) i) refl (λ l. upd
     go false e h l = h l
 
 -- x tells of one of these parameters, of which the first has the number k, in a module that is wanted
-pub record Initial (wanted : ℕ → Bool) (values : ℕ → Value) (ps : List (Placed Parameter)) (k : ℕ) (x : Report) : Type 0 where
+pub record Initial (wanted : ℕ → Bool) (values : ℕ → Value) (ps : List (Placed Parameter)) (k : ℕ) (x : DataReport) : Type 0 where
   pub i : ℕ
   pub p : Placed Parameter
   pub there : getElem? ps i ≡ some p
   pub truly : x ≡ reportOf p (values (k + i))
   pub asked : wanted (p .home) ≡ true
 
-initial-later : (wanted : ℕ → Bool) (values : ℕ → Value) (p : Placed Parameter) (ps : List (Placed Parameter)) (k : ℕ) (x : Report)
+initial-later : (wanted : ℕ → Bool) (values : ℕ → Value) (p : Placed Parameter) (ps : List (Placed Parameter)) (k : ℕ) (x : DataReport)
     → Initial wanted values ps (suc k) x → Initial wanted values (p ∷ ps) k x
 initial-later wanted values p ps k x h =
     let q : suc k + h .i ≡ k + suc (h .i) = omega arith in
@@ -137,7 +137,7 @@ initial-later wanted values p ps k x h =
     }
 
 -- an update among the initial ones
-pub updates-of-member : (c : ℕ) (wanted : ℕ → Bool) (values : ℕ → Value) (ps : List (Placed Parameter)) (k d : ℕ) (x : Report)
+pub updates-of-member : (c : ℕ) (wanted : ℕ → Bool) (values : ℕ → Value) (ps : List (Placed Parameter)) (k d : ℕ) (x : DataReport)
     → List·Memᴰ (update d x) (updatesOf c wanted values k ps) → (d ≡ c) × Initial wanted values ps k x
 unfolding updatesOf
 updates-of-member c wanted values [] k d x m = absurd (List·Memᴰ·not-nil m)
@@ -162,12 +162,12 @@ updates-of-member c wanted values (p ∷ ps) k d x m =
 
 -- ## The updates of one client among those to the clients of a module
 
-updates-to-for : (f : ℕ → Client) (i : ℕ) (r : Report) (d : ℕ) (cs : List ℕ)
+updates-to-for : (f : ℕ → Client) (i : ℕ) (r : DataReport) (d : ℕ) (cs : List ℕ)
     → updatesFor d (updatesTo f i r cs) ≡ cond (isActive (f d) i) (replicate (count (eqb d) cs) r) []
 unfolding updatesFor updatesTo count
 updates-to-for f i r d [] = both (isActive (f d) i)
   where
-    both : (q : Bool) → _≡_ {A = List Report} [] (cond q [] [])
+    both : (q : Bool) → _≡_ {A = List DataReport} [] (cond q [] [])
     both true = refl
     both false = refl
 updates-to-for f i r d (c ∷ cs) =
@@ -214,7 +214,7 @@ client-never d h =
       ne-eqb d 7 (λ e. omega arith),
     )
 
-module _ (f : ℕ → Client) (i : ℕ) (r : Report) (d : ℕ) where
+module _ (f : ℕ → Client) (i : ℕ) (r : DataReport) (d : ℕ) where
   pub sent-once : d < 8 → updatesFor d (updatesTo f i r clientNumbers) ≡ cond (isActive (f d) i) (r ∷ []) []
   sent-once h =
       updates-to-for f i r d clientNumbers ∙ ap (λ k. cond (isActive (f d) i) (replicate k r) []) (client-once d h)
@@ -225,7 +225,7 @@ module _ (f : ℕ → Client) (i : ℕ) (r : Report) (d : ℕ) where
       ∙ ap (λ k. cond (isActive (f d) i) (replicate k r) []) (client-never d h)
       ∙ go (isActive (f d) i)
     where
-      go : (q : Bool) → _≡_ {A = List Report} (cond q [] []) []
+      go : (q : Bool) → _≡_ {A = List DataReport} (cond q [] []) []
       go true = refl
       go false = refl
 
@@ -241,7 +241,7 @@ busy-never f none t d h = refl
 busy-never f (some s) t d h = sent-never f (s .1 .home) _ d h
 
 -- each of the clients 0 to 7 that has the module active is sent its update
-sent-in : (f : ℕ → Client) (i : ℕ) (r : Report) (d : ℕ) (cs : List ℕ) → isActive (f d) i ≡ true → List·Memᴰ d cs
+sent-in : (f : ℕ → Client) (i : ℕ) (r : DataReport) (d : ℕ) (cs : List ℕ) → isActive (f d) i ≡ true → List·Memᴰ d cs
     → List·Memᴰ (update d r) (updatesTo f i r cs)
 unfolding updatesTo
 sent-in f i r d [] h m = absurd (List·Memᴰ·not-nil m)
@@ -268,7 +268,7 @@ client-in (suc (suc (suc (suc (suc (suc (suc zero))))))) h =
     List·Memᴰ·tail (List·Memᴰ·tail (List·Memᴰ·tail (List·Memᴰ·tail (List·Memᴰ·tail (List·Memᴰ·tail (List·Memᴰ·tail (List·Memᴰ·head refl)))))))
 client-in (suc (suc (suc (suc (suc (suc (suc (suc d)))))))) h = absurd (omega arith)
 
-pub sent-to : (f : ℕ → Client) (i : ℕ) (r : Report) (d : ℕ) → d < 8 → isActive (f d) i ≡ true → List·Memᴰ (update d r) (updatesTo f i r clientNumbers)
+pub sent-to : (f : ℕ → Client) (i : ℕ) (r : DataReport) (d : ℕ) → d < 8 → isActive (f d) i ≡ true → List·Memᴰ (update d r) (updatesTo f i r clientNumbers)
 sent-to f i r d l h = sent-in f i r d clientNumbers h (client-in d l)
 
 -- ## The initial updates of one client
@@ -278,7 +278,7 @@ pub updates-of-for : (c : ℕ) (wanted : ℕ → Bool) (values : ℕ → Value) 
 unfolding updatesFor updatesOf reportsOf
 updates-of-for c wanted values [] k d = both-ways (eqb d c)
   where
-    both-ways : (q : Bool) → _≡_ {A = List Report} [] (cond q [] [])
+    both-ways : (q : Bool) → _≡_ {A = List DataReport} [] (cond q [] [])
     both-ways true = refl
     both-ways false = refl
 updates-of-for c wanted values (p ∷ ps) k d =

@@ -12,7 +12,7 @@ use Rattle.table.specs.Layout.{tableOf}
 use Rattle.table.specs.Search.{Placed, parametersOf, placedFrom, parameters, commands}
 use Rattle.message.specs.Line.{Parts}
 use Rattle.message.specs.Request.{Request, read, execute}
-use Rattle.message.specs.Reply.{Report, Reply, reply, done}
+use Rattle.message.specs.Reply.{DataReport, Reply, reply, done}
 use Rattle.outbox.specs.Outbox.{Record, final, orderCommand}
 use Rattle.plain.specs.Node.{Node, withClient, lineOf, emptied, activated, reportOf}
 use Rattle.plain.specs.Answer.{Outcome, carried, outcome, argumentVerdict, argumentForm, activates, deactivates, sets}
@@ -25,15 +25,15 @@ use Rattle.rule.specs.Theorems.{partsAt, requestOf, OfPiece, of-piece, P
 use Rattle.rule.proofs.Told.{apart, told-kind}
 use Rattle.rule.proofs.Calls.{idle, outcomeAt, Did, received, line, accepted-call, Line-of, line-of, line-of-final}
 
-reply-is : (x y : Report) → reply x ≡ reply y → x ≡ y
+reply-is : (x y : DataReport) → reply x ≡ reply y → x ≡ y
 reply-is x y e = cc
 
-done-is : (x y : Report) → done x ≡ done y → x ≡ y
+done-is : (x y : DataReport) → done x ≡ done y → x ≡ y
 done-is x y e = cc
 
 -- ## Reads
 
-record Reads (w : Table) (n : Node) (q : Request) (o : Outcome) (r : Report) : Type 0 where
+record Reads (w : Table) (n : Node) (q : Request) (o : Outcome) (r : DataReport) : Type 0 where
   k : ℕ × Placed Parameter
   there : getElem? (parameters w) (k .0) ≡ some (k .1)
   asked : q ≡ read (k .1 .moduleName) (k .1 .it .name)
@@ -41,9 +41,9 @@ record Reads (w : Table) (n : Node) (q : Request) (o : Outcome) (r : Report) : T
   alone : before o ≡ []
 
 abbrev ReadIn : Table → Node → Parts → Request → Outcome → Type 0
-ReadIn w n p q o = (r : Report) → reply r ≡ replyTo p o → Reads w n q o r
+ReadIn w n p q o = (r : DataReport) → reply r ≡ replyTo p o → Reads w n q o r
 
-told-read : {w : Table} {n : Node} {c now : ℕ} {q : Request} {x : Reply} → Tells w n c now q x → (r : Report)
+told-read : {w : Table} {n : Node} {c now : ℕ} {q : Request} {x : Reply} → Tells w n c now q x → (r : DataReport)
     → reply r ≡ x → Reads w n q (carried n [] [] x) r
 told-read by-identify r e = apart (reply r) _ (λ z. omega arith) e
 told-read by-describe r e = apart (reply r) _ (λ z. omega arith) e
@@ -67,7 +67,7 @@ read-in w n c now p =
       doing = λ k v h r e. apart (reply r) _ (λ z. omega arith) e;
     })
 
-read-line : {w : Table} {n m : Node} {rs : List Record} {c : ℕ} (r : Report) {e : Event} → Line-of w n m rs c (reply r) e
+read-line : {w : Table} {n m : Node} {rs : List Record} {c : ℕ} (r : DataReport) {e : Event} → Line-of w n m rs c (reply r) e
     → OfPiece c (λ bs t. ReadTold w n c bs r rs) e
 read-line {w} {n} {m} {rs} {c} r (line-of {bs = bs} {t = t} h q) =
     let o : Outcome = outcomeAt w n c bs t in
@@ -90,7 +90,7 @@ reads-are-true table n e c r l = read-line r (line-of-final table n e c (reply r
 
 -- ## Commands
 
-record Orders (w : Table) (n : Node) (c now : ℕ) (q : Request) (o : Outcome) (r : Report) : Type 0 where
+record Orders (w : Table) (n : Node) (c now : ℕ) (q : Request) (o : Outcome) (r : DataReport) : Type 0 where
   k : ℕ × Placed Command
   v : List ℕ
   there : getElem? (commands w) (k .0) ≡ some (k .1)
@@ -100,7 +100,7 @@ record Orders (w : Table) (n : Node) (c now : ℕ) (q : Request) (o : Outcome) (
   ordered : before o ≡ orderCommand c (k .0) (argumentForm (k .1 .it .argument) v) ∷ []
 
 abbrev OrderIn : Table → Node → ℕ → ℕ → Parts → Request → Outcome → Type 0
-OrderIn w n c now p q o = (r : Report) → done r ≡ replyTo p o → Orders w n c now q o r
+OrderIn w n c now p q o = (r : DataReport) → done r ≡ replyTo p o → Orders w n c now q o r
 
 order-in : (w : Table) (n : Node) (c now : ℕ) (p : Parts) (q : Request) → OrderIn w n c now p q (outcome w n c now q)
 unfolding activates deactivates sets
@@ -117,7 +117,7 @@ order-in w n c now p =
           record { k = k; v = v; there = h .there; asked = refl; fitting = h .fitting; tells = done-is r _ e; ordered = refl };
     })
 
-command-line : {w : Table} {n m : Node} {rs : List Record} {c : ℕ} (r : Report) {e : Event} → Line-of w n m rs c (done r) e
+command-line : {w : Table} {n m : Node} {rs : List Record} {c : ℕ} (r : DataReport) {e : Event} → Line-of w n m rs c (done r) e
     → OfPiece c (λ bs t. CommandOrdered w n c bs t r rs) e
 command-line {w} {n} {m} {rs} {c} r (line-of {bs = bs} {t = t} h q) =
     let o : Outcome = outcomeAt w n c bs t in

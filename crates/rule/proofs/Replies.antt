@@ -14,7 +14,7 @@ use Rattle.table.specs.Search.{Placed, parameters}
 use Rattle.message.specs.Line.{Parts, content, partsOf}
 use Rattle.message.specs.Request.{request}
 use Rattle.message.specs.Error.{Fault, faultOf}
-use Rattle.message.specs.Reply.{Held, valued, failed, Report, Reply}
+use Rattle.message.specs.Reply.{Held, valued, failed, DataReport, Reply}
 use Rattle.outbox.specs.Outbox.{Record, final}
 use Rattle.plain.specs.Node.{Node, lineOf, reportOf, clientNumbers, updatesTo, holding}
 use Rattle.plain.specs.Answer.{Outcome, outcome, answerParts, answer}
@@ -75,7 +75,7 @@ ended-replies w n c t d false = either-way (eqb d c) 0
 driver-replies : (n : Node) (k : ℕ) (p : Placed Parameter) (h : Held) (t d : ℕ) → length (repliesFor d (driverEffect n k p h t .records)) ≡ 0
 unfolding driverEffect repliesFor
 driver-replies n k p h t d =
-    let r : Report = reportOf p (holding h t) in
+    let r : DataReport = reportOf p (holding h t) in
     ap
     length
     (no-final-replies

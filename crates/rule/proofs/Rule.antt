@@ -15,10 +15,10 @@ use Rattle.table.specs.Search.{Placed, parameters}
 use Rattle.table.proofs.Search.{parameter-home}
 use Rattle.message.specs.Line.{Parts}
 use Rattle.message.specs.Request.{Request, change}
-use Rattle.message.specs.Reply.{valued, failed, Report, Reply, active, inactive, changed, error}
+use Rattle.message.specs.Reply.{valued, failed, DataReport, Reply, active, inactive, changed, error}
 use Rattle.outbox.specs.Outbox.{Record, final, update, orderChange, orderCommand}
 use Rattle.plain.specs.Node.{counting, Client, closed, fresh, Value, Node, put, withValue, isOpen, isActive, receive, emptied, activated, reportOf, clientNumbers, updatesTo, holding, showing, Setting, withSettings}
-use Rattle.plain.specs.Answer.{Outcome, refused, carried, storedAt, outcome, activates, deactivates, sets, busy, statusOf, busySettings, busyUpdates}
+use Rattle.plain.specs.Answer.{Outcome, denied, carried, storedAt, outcome, activates, deactivates, sets, busy, statusOf, busySettings, busyUpdates}
 use Rattle.plain.specs.Calls.{Event, Piece, Reading, Unreadable, Answer, beforeFeed}
 use Rattle.plain.specs.History.{step}
 use Rattle.plain.proofs.Put.{put-at, put-other, put-all}
@@ -35,7 +35,7 @@ use Rattle.rule.proofs.Calls.{quiet, idle, toldNode, outcomeAt, Answere
 -- ## Errors
 
 abbrev NoError : Outcome → Type 0
-NoError (refused x) = Unit {0}
+NoError (denied x) = Unit {0}
 NoError (carried m ss rs r) = kind r ≡ 0 → ⊥
 
 no-error : (w : Table) (n : Node) (c now : ℕ) (r : Request) → NoError (outcome w n c now r)
@@ -54,7 +54,7 @@ no-error w n c now =
 
 altered : (n m : Node) (rs : List Record) (c : ℕ) (p : Parts) (o : Outcome) (r : Reply) → kind r ≡ 0 → NoError o
     → m ≡ counting (nodeAfter (idle n c) o) rs → rs ≡ before o ++ (final c (replyTo p o) ∷ []) → r ≡ replyTo p o → AltersNothing n m rs c r
-altered n m rs c p (refused x) r i h e f g =
+altered n m rs c p (denied x) r i h e f g =
     record {
       alone = f ∙ ap (λ y. final c y ∷ []) (sym g);
       values = ap (λ (y : Node). y .values) e;
@@ -115,7 +115,7 @@ pub readings-are-sent-to-all : ReadingsAreSentToAll
 readings-are-sent-to-all table n k bs t l h = reading-sets (accepted-call table n (record { event = Reading k bs t; lent = l }) h)
 
 -- what is known of an outcome whose reply is `changed`
-record Changing (w : Table) (n : Node) (c now : ℕ) (q : Request) (o : Outcome) (r : Report) : Type 0 where
+record Changing (w : Table) (n : Node) (c now : ℕ) (q : Request) (o : Outcome) (r : DataReport) : Type 0 where
   k : ℕ × Placed Parameter
   v : List ℕ
   asked : q ≡ change (k .1 .moduleName) (k .1 .it .name) v
@@ -123,7 +123,7 @@ record Changing (w : Table) (n : Node) (c now : ℕ) (q : Request) (o : Outcome)
   tells : r ≡ reportOf (k .1) (showing (storedAt (n .values) k v) now)
   is : o ≡ sets w n c now k (storedAt (n .values) k v)
 
-changed-is : (x y : Report) → changed x ≡ changed y → x ≡ y
+changed-is : (x y : DataReport) → changed x ≡ changed y → x ≡ y
 changed-is x y e = cc
 
 sets-reply : (w : Table) (n : Node) (c now : ℕ) (p : Parts) (k : ℕ × Placed Parameter) (v : List ℕ)
@@ -132,7 +132,7 @@ unfolding sets
 sets-reply w n c now p k v = refl
 
 abbrev Changes : Table → Node → ℕ → ℕ → Parts → Request → Outcome → Type 0
-Changes w n c now p q o = (r : Report) → changed r ≡ replyTo p o → Changing w n c now q o r
+Changes w n c now p q o = (r : DataReport) → changed r ≡ replyTo p o → Changing w n c now q o r
 
 changing : (w : Table) (n : Node) (c now : ℕ) (p : Parts) (q : Request) → Changes w n c now p q (outcome w n c now q)
 unfolding activates deactivates
@@ -148,7 +148,7 @@ changing w n c now p =
       doing = λ k v h r e. apart (changed r) _ (λ z. omega arith) e;
     })
   where
-    set-tells : (k : ℕ × Placed Parameter) (v : List ℕ) (r : Report) → changed r ≡ replyTo p (sets w n c now k (storedAt (n .values) k v))
+    set-tells : (k : ℕ × Placed Parameter) (v : List ℕ) (r : DataReport) → changed r ≡ replyTo p (sets w n c now k (storedAt (n .values) k v))
         → r ≡ reportOf (k .1) (showing (storedAt (n .values) k v) now)
     set-tells k v r e = changed-is r _ (e ∙ sets-reply w n c now p k (storedAt (n .values) k v))
 
@@ -212,7 +212,7 @@ module _ (w : Table) (n m : Node) (c t : ℕ) (k : ℕ × Placed Parameter) (v :
       (h .node ∙ ap (λ o. counting (nodeAfter (idle n c) o) rs) e)
       (h .records ∙ ap (λ o. before o ++ (final c (replyTo (partsAt n c bs) o) ∷ [])) e)
 
-changed-line : {w : Table} {n m : Node} {rs : List Record} {c : ℕ} (r : Report) {e : Event} → Line-of w n m rs c (changed r) e
+changed-line : {w : Table} {n m : Node} {rs : List Record} {c : ℕ} (r : DataReport) {e : Event} → Line-of w n m rs c (changed r) e
     → OfPiece c (λ bs t. ChangeSets w n m c bs t r rs) e
 changed-line {w} {n} {m} {rs} {c} r (line-of {bs = bs} {t = t} h q) =
     let g = changing w (idle n c) c t (partsAt n c bs) (requestOf n c bs) r q in
@@ -234,7 +234,7 @@ changes-are-sent-to-all table n e c r l = changed-line r (line-of-final table n 
 -- ## Values
 
 abbrev Alters : Node → Parts → Outcome → Type 0
-Alters n p o = (nodeAfter n o .values ≡ n .values) ⊎ ((r : Report) × (replyTo p o ≡ changed r))
+Alters n p o = (nodeAfter n o .values ≡ n .values) ⊎ ((r : DataReport) × (replyTo p o ≡ changed r))
 
 alters : (w : Table) (n : Node) (c now : ℕ) (p : Parts) (q : Request) → Alters n p (outcome w n c now q)
 unfolding activates deactivates
@@ -459,24 +459,24 @@ isUpdate (update c r) = true
 isUpdate (orderChange c p v) = false
 isUpdate (orderCommand c p v) = false
 
-pub not-update : (d : ℕ) (r : Report) (x : Record) → isUpdate x ≡ false → update d r ≡ x → ⊥
+pub not-update : (d : ℕ) (r : DataReport) (x : Record) → isUpdate x ≡ false → update d r ≡ x → ⊥
 not-update d r x h e = true≢false (ap isUpdate e ∙ h)
 
 -- each update before a reply goes to a client that has its module active
 abbrev ToActives : Table → Node → Outcome → Type 0
-ToActives w n o = (d : ℕ) (r : Report) → List·Memᴰ (update d r) (before o) → ToActive w (nodeAfter n o) d r
+ToActives w n o = (d : ℕ) (r : DataReport) → List·Memᴰ (update d r) (before o) → ToActive w (nodeAfter n o) d r
 
-to-active : (w : Table) (m : Node) (k : ℕ) (p : Placed Parameter) (d : ℕ) (r : Report) → getElem? (parameters w) k ≡ some p
+to-active : (w : Table) (m : Node) (k : ℕ) (p : Placed Parameter) (d : ℕ) (r : DataReport) → getElem? (parameters w) k ≡ some p
     → r ≡ reportOf p (m .values k) → isActive (m .clients d) (p .home) ≡ true → ToActive w m d r
 to-active w m k p d r t e h =
     record { k = k; p = p; there = t; tells = e; isActive = h; isOpen = active-open (m .clients d) (p .home) h }
 
 -- what is counted makes no difference
-still-active : (w : Table) (m : Node) (rs : List Record) (d : ℕ) (r : Report) → ToActive w m d r → ToActive w (counting m rs) d r
+still-active : (w : Table) (m : Node) (rs : List Record) (d : ℕ) (r : DataReport) → ToActive w m d r → ToActive w (counting m rs) d r
 still-active w m rs d r h = to-active w (counting m rs) (h .k) (h .p) d r (h .there) (h .tells) (h .isActive)
 
 -- of a setting
-set-active : (w : Table) (n : Node) (k : ℕ) (p : Placed Parameter) (x : Value) → getElem? (parameters w) k ≡ some p → (d : ℕ) (r : Report)
+set-active : (w : Table) (n : Node) (k : ℕ) (p : Placed Parameter) (x : Value) → getElem? (parameters w) k ≡ some p → (d : ℕ) (r : DataReport)
     → List·Memᴰ (update d r) (updatesTo (n .clients) (p .home) (reportOf p x) clientNumbers) → ToActive w (withValue n k x) d r
 set-active w n k p x t d r l =
     let h = updates-to-member (n .clients) (p .home) (reportOf p x) clientNumbers d r l in
@@ -484,7 +484,7 @@ set-active w n k p x t d r l =
 
 -- of a change, with the status that it sets first
 sets-active : (w : Table) (n : Node) (now : ℕ) (k : ℕ × Placed Parameter) (v : List ℕ) → getElem? (parameters w) (k .0) ≡ some (k .1)
-    → (o : Option (ℕ × Placed Parameter)) → statusOf w (k .1) ≡ o → (d : ℕ) (r : Report)
+    → (o : Option (ℕ × Placed Parameter)) → statusOf w (k .1) ≡ o → (d : ℕ) (r : DataReport)
     → List·Memᴰ (update d r) (busyUpdates (n .clients) o now ++ updatesTo (n .clients) (k .1 .home) (reportOf (k .1) (showing v now)) clientNumbers)
     → ToActive w (withSettings n (busySettings o now ++ (record { parameter = k .0; held = valued v; time = now } ∷ []))) d r
 unfolding busyUpdates busySettings
@@ -542,7 +542,7 @@ to-actives w n c now o =
       doing = λ k v h d r l. absurd (not-update d r _ refl (List·Memᴰ·eq-of-singleton l));
     })
 
-line-active : (w : Table) (n m : Node) (c : ℕ) (bs : List ℕ) (t : ℕ) (rs : List Record) → Answered w n c bs t m rs → (d : ℕ) (r : Report)
+line-active : (w : Table) (n m : Node) (c : ℕ) (bs : List ℕ) (t : ℕ) (rs : List Record) → Answered w n c bs t m rs → (d : ℕ) (r : DataReport)
     → List·Memᴰ (update d r) rs → ToActive w m d r
 line-active w n m c bs t rs h d r k =
     let o : Outcome = outcomeAt w n c bs t in
@@ -553,7 +553,7 @@ line-active w n m c bs t rs h d r k =
     (λ i. absurd (not-update d r (final c (replyTo (partsAt n c bs) o)) refl (List·Memᴰ·eq-of-singleton i)))
     (List·Memᴰ·append-cases (before o) (subst (List·Memᴰ (update d r)) (h .records) k))
 
-did-active : {w : Table} {n m : Node} {e : Event} {rs : List Record} → Did w n e m rs → (d : ℕ) (r : Report)
+did-active : {w : Table} {n m : Node} {e : Event} {rs : List Record} → Did w n e m rs → (d : ℕ) (r : DataReport)
     → List·Memᴰ (update d r) rs → ToActive w m d r
 did-active opened d r k = absurd (List·Memᴰ·not-nil k)
 did-active shut d r k = absurd (List·Memᴰ·not-nil k)

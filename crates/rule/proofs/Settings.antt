@@ -12,7 +12,7 @@ use Rattle.message.specs.Line.{Parts}
 use Rattle.message.specs.Request.{Request, request}
 use Rattle.message.specs.Error.{Fault, faultOf}
 use Rattle.plain.specs.Node.{Node, setValues}
-use Rattle.plain.specs.Answer.{Outcome, refused, carried, settingsOf, activates, deactivates, sets, outcome, conclude, answerParts, partsSet, answer, answerSets}
+use Rattle.plain.specs.Answer.{Outcome, denied, carried, settingsOf, activates, deactivates, sets, outcome, conclude, answerParts, partsSet, answer, answerSets}
 use Rattle.plain.specs.Calls.{Event, Open, Close, Piece, Reading, Unreadable, ended, endedSets, driverEffect, readingEffect, unreadableEffect, pieceEffect, effect, callNumber, settle, settling, stepIf, settled, settingsIf}
 use Rattle.plain.specs.History.{step}
 use Rattle.plain.proofs.Outcomes.{nodeAfter, outcome-holds}
@@ -41,7 +41,7 @@ unfolding answerParts partsSet conclude settingsOf
 parts-all w n c now p = go (outcome w n c now (request p)) (outcome-all w n c now (request p))
   where
     go : (o : Outcome) → All n o → conclude w n c now p o .0 .values ≡ setValues (n .values) (settingsOf o)
-    go (refused e) h = refl
+    go (denied e) h = refl
     go (carried m ss rs r) h = h
 
 ended-all : (w : Table) (n : Node) (c t : ℕ) (b : Bool) → ended w n c t b .0 .values ≡ setValues (n .values) (endedSets w n c t b)

@@ -8,14 +8,14 @@ use lib.ListN.{length, take}
 use Rattle.ascii.specs.Bytes.{isSome}
 use Rattle.table.specs.Table.{Parameter, Module, Table}
 use Rattle.table.specs.Search.{Placed, findModule}
-use Rattle.message.specs.Reply.{Report, Reply, identification, describing, pong, active, inactive, reply, changed, done, counted, error, checked}
+use Rattle.message.specs.Reply.{DataReport, Reply, identification, describing, pong, active, inactive, reply, changed, done, counted, error, checked}
 use Rattle.outbox.specs.Outbox.{Record, final, update, orderChange, orderCommand}
 use Rattle.plain.specs.Node.{Client, Value, showing, isActive, reportOf}
 use Rattle.plain.specs.Answer.{busy}
 use Rattle.plain.specs.Calls.{Event, Open, Close, Piece, Reading, Unreadable, Answer}
 
 -- the updates to client d, in order
-unfoldable pub updatesFor : ℕ → List Record → List Report
+unfoldable pub updatesFor : ℕ → List Record → List DataReport
 updatesFor d [] = []
 updatesFor d (final c r ∷ rs) = updatesFor d rs
 updatesFor d (update c r ∷ rs) = cond (eqb d c) (r ∷ []) [] ++ updatesFor d rs
@@ -58,12 +58,12 @@ isThere w none = true
 isThere w (some m) = isSome (findModule w m)
 
 -- the parameters of the modules that are wanted, with their values, in table order; the first has the number k
-unfoldable pub reportsOf : (ℕ → Bool) → (ℕ → Value) → ℕ → List (Placed Parameter) → List Report
+unfoldable pub reportsOf : (ℕ → Bool) → (ℕ → Value) → ℕ → List (Placed Parameter) → List DataReport
 reportsOf wanted values k [] = []
 reportsOf wanted values k (p ∷ ps) = cond (wanted (p .home)) (reportOf p (values k) ∷ []) [] ++ reportsOf wanted values (suc k) ps
 
 -- what a client is sent of a status that is set to busy at a time (M-100): one update, if it has the status's module active
-unfoldable pub busyReports : Client → Option (ℕ × Placed Parameter) → ℕ → List Report
+unfoldable pub busyReports : Client → Option (ℕ × Placed Parameter) → ℕ → List DataReport
 busyReports x none t = []
 busyReports x (some s) t = cond (isActive x (s .1 .home)) (reportOf (s .1) (showing busy t) ∷ []) []
 

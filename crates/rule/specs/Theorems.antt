@@ -14,7 +14,7 @@ use Rattle.ascii.specs.Bytes.{isSome}
 use Rattle.message.specs.Line.{Parts, whole, content, partsOf}
 use Rattle.message.specs.Request.{Request, activate, deactivate, read, change, execute, check, request}
 use Rattle.message.specs.Error.{Class, ReadOnly, BadJSON, WrongType, RangeError, Fault, faultOf, Denial, class, fault}
-use Rattle.message.specs.Reply.{Held, valued, failed, Report, Reply, reply, changed, active, inactive, done, checked, error}
+use Rattle.message.specs.Reply.{Held, valued, failed, DataReport, Reply, reply, changed, active, inactive, done, checked, error}
 use Rattle.table.specs.Table.{Parameter, Command, parameter, Module, Table}
 use Rattle.table.specs.Layout.{tableOf}
 use Rattle.table.specs.Search.{Placed, parameters, commands, findParameter, findCommand}
@@ -30,7 +30,7 @@ use Rattle.rule.specs.Records.{updatesFor, repliesFor, feedsUsed, inScop
 
 -- An update, `update` or `error_update` by what the parameter holds, tells of a parameter as the call leaves it, under the name of its own module,
 -- and goes to a client that is open and has that module active as the call leaves it.
-pub record ToActive (w : Table) (n : Node) (d : ℕ) (r : Report) : Type 0 where
+pub record ToActive (w : Table) (n : Node) (d : ℕ) (r : DataReport) : Type 0 where
   pub k : ℕ
   pub p : Placed Parameter
   pub there : getElem? (parameters w) k ≡ some p
@@ -39,7 +39,7 @@ pub record ToActive (w : Table) (n : Node) (d : ℕ) (r : Report) : Type 0 where
   pub isOpen : isOpen (n .clients d) ≡ true
 
 abbrev pub UpdatesGoToActiveClients : Type 0
-UpdatesGoToActiveClients = (table : List ℕ) (n : Node) (e : Call) (d : ℕ) (r : Report)
+UpdatesGoToActiveClients = (table : List ℕ) (n : Node) (e : Call) (d : ℕ) (r : DataReport)
     → List·Memᴰ (update d r) (step table n e .1 .records) → ToActive (tableOf table) (step table n e .0) d r
 
 -- Parameter k, which is p, was set to v, a value or an error, and nothing else was: each client that has its module active is sent one update that tells
@@ -100,7 +100,7 @@ pub record Changed (w : Table) (n m : Node) (c k : ℕ) (p : Placed Parameter) (
 
 -- A change that is replied to by `changed` was asked for by that line, fits, and sets that parameter to its stored form at the time of
 -- the line feed: what it leaves out is filled in from what the parameter shows before it (M-113).
-pub record ChangeSets (w : Table) (n m : Node) (c : ℕ) (bs : List ℕ) (t : ℕ) (r : Report) (rs : List Record) : Type 0 where
+pub record ChangeSets (w : Table) (n m : Node) (c : ℕ) (bs : List ℕ) (t : ℕ) (r : DataReport) (rs : List Record) : Type 0 where
   pub k : ℕ
   pub p : Placed Parameter
   pub offered : List ℕ
@@ -115,7 +115,7 @@ pub data OfPiece (c : ℕ) (P : List ℕ → ℕ → Type 0) : Event → Type 0 
   of-piece : {bs : List ℕ} {t : ℕ} → P bs t → OfPiece c P (Piece c bs t)
 
 abbrev pub ChangesAreSentToAll : Type 0
-ChangesAreSentToAll = (table : List ℕ) (n : Node) (e : Call) (c : ℕ) (r : Report)
+ChangesAreSentToAll = (table : List ℕ) (n : Node) (e : Call) (c : ℕ) (r : DataReport)
     → List·Memᴰ (final c (changed r)) (step table n e .1 .records)
     → OfPiece c (λ bs t. ChangeSets (tableOf table) n (step table n e .0) c bs t r (step table n e .1 .records)) (e .event)
 
@@ -134,21 +134,21 @@ GoodChangesAreMade = (table : List ℕ) (n : Node) (c : ℕ) (m x offered : List
 
 -- Client c was sent `changed` with the report r last, and s is the status of its module: before it every client that has that module active was
 -- sent the busy status, with the same time, which the node m then holds.
-pub record BusyFirst (m : Node) (c : ℕ) (s : ℕ × Placed Parameter) (r : Report) (rs : List Record) : Type 0 where
+pub record BusyFirst (m : Node) (c : ℕ) (s : ℕ × Placed Parameter) (r : DataReport) (rs : List Record) : Type 0 where
   pub earlier : List Record
   pub records : rs ≡ earlier ++ (final c (changed r) ∷ [])
   pub sent : (d : ℕ) → d < 8 → isActive (m .clients d) (s .1 .home) ≡ true → List·Memᴰ (update d (reportOf (s .1) (showing busy (r .time)))) earlier
   pub held : m .values (s .0) ≡ showing busy (r .time)
 
 -- s was left as it is, its value or its error, and its time, and nothing was sent for it: every update tells r.
-pub record StatusLeft (n m : Node) (s : ℕ × Placed Parameter) (r : Report) (rs : List Record) : Type 0 where
+pub record StatusLeft (n m : Node) (s : ℕ × Placed Parameter) (r : DataReport) (rs : List Record) : Type 0 where
   pub held : m .values (s .0) ≡ n .values (s .0)
-  pub alone : (d : ℕ) (x : Report) → List·Memᴰ (update d x) rs → x ≡ r
+  pub alone : (d : ℕ) (x : DataReport) → List·Memᴰ (update d x) rs → x ≡ r
 
 -- what holds of every call that sends `changed` for a parameter named `target`, where its module has a parameter named `status`: by the client, that
 -- status and what is told of the target
-abbrev pub WhenRamped : (List ℕ → Node → Call → ℕ → ℕ × Placed Parameter → Report → Type 0) → Type 0
-WhenRamped P = (table : List ℕ) (n : Node) (e : Call) (c : ℕ) (s : ℕ × Placed Parameter) (r : Report)
+abbrev pub WhenRamped : (List ℕ → Node → Call → ℕ → ℕ × Placed Parameter → DataReport → Type 0) → Type 0
+WhenRamped P = (table : List ℕ) (n : Node) (e : Call) (c : ℕ) (s : ℕ × Placed Parameter) (r : DataReport)
     → List·Memᴰ (final c (changed r)) (step table n e .1 .records)
     → r .accessible ≡ bytes "target" → findParameter (tableOf table) (r .moduleName) (bytes "status") ≡ some s → P table n e c s r
 
@@ -168,7 +168,7 @@ OtherStatusStays = WhenRamped λ table n e c s r.
 pub data BySetting : Event → Answer → Type 0 where
   by-reading : {k : ℕ} {bs : List ℕ} {t : ℕ} {x : Answer} → x .number ≡ 0 → BySetting (Reading k bs t) x
   by-unreadable : {k class t : ℕ} {x : Answer} → x .number ≡ 0 → BySetting (Unreadable k class t) x
-  by-change : {e : Event} {x : Answer} (c : ℕ) (r : Report) → List·Memᴰ (final c (changed r)) (x .records) → BySetting e x
+  by-change : {e : Event} {x : Answer} (c : ℕ) (r : DataReport) → List·Memᴰ (final c (changed r)) (x .records) → BySetting e x
 
 abbrev pub ValuesAlterBySettings : Type 0
 ValuesAlterBySettings = (table : List ℕ) (n : Node) (e : Call)
@@ -251,7 +251,7 @@ pub record AltersNothing (n m : Node) (rs : List Record) (c : ℕ) (r : Reply) :
   pub counts : m .counts ≡ counting (lineTaken n c) rs .counts
 
 -- A `read` is replied to with the parameter that it asked for, as the node holds it, and sends nothing else.
-pub record ReadTold (w : Table) (n : Node) (c : ℕ) (bs : List ℕ) (r : Report) (rs : List Record) : Type 0 where
+pub record ReadTold (w : Table) (n : Node) (c : ℕ) (bs : List ℕ) (r : DataReport) (rs : List Record) : Type 0 where
   pub k : ℕ
   pub p : Placed Parameter
   pub there : getElem? (parameters w) k ≡ some p
@@ -260,7 +260,7 @@ pub record ReadTold (w : Table) (n : Node) (c : ℕ) (bs : List ℕ) (r : Report
   pub alone : rs ≡ final c (reply r) ∷ []
 
 abbrev pub ReadsAreTrue : Type 0
-ReadsAreTrue = (table : List ℕ) (n : Node) (e : Call) (c : ℕ) (r : Report)
+ReadsAreTrue = (table : List ℕ) (n : Node) (e : Call) (c : ℕ) (r : DataReport)
     → List·Memᴰ (final c (reply r)) (step table n e .1 .records)
     → OfPiece c (λ bs t. ReadTold (tableOf table) n c bs r (step table n e .1 .records)) (e .event)
 
@@ -280,7 +280,7 @@ GoodReadsAreAnswered = (table : List ℕ) (n : Node) (c : ℕ) (m x : List ℕ) 
 
 -- A command that is replied to by `done` was asked for by that line, with an argument that fits; the driver is ordered that command with the
 -- argument's stored form, and nothing else is sent.
-pub record CommandOrdered (w : Table) (n : Node) (c : ℕ) (bs : List ℕ) (t : ℕ) (r : Report) (rs : List Record) : Type 0 where
+pub record CommandOrdered (w : Table) (n : Node) (c : ℕ) (bs : List ℕ) (t : ℕ) (r : DataReport) (rs : List Record) : Type 0 where
   pub k : ℕ
   pub p : Placed Command
   pub offered : List ℕ
@@ -291,7 +291,7 @@ pub record CommandOrdered (w : Table) (n : Node) (c : ℕ) (bs : List ℕ) (t : 
   pub records : rs ≡ orderCommand c k (argumentForm (p .it .argument) offered) ∷ final c (done r) ∷ []
 
 abbrev pub CommandsAreOrdered : Type 0
-CommandsAreOrdered = (table : List ℕ) (n : Node) (e : Call) (c : ℕ) (r : Report)
+CommandsAreOrdered = (table : List ℕ) (n : Node) (e : Call) (c : ℕ) (r : DataReport)
     → List·Memᴰ (final c (done r)) (step table n e .1 .records)
     → OfPiece c (λ bs t. CommandOrdered (tableOf table) n c bs t r (step table n e .1 .records)) (e .event)
 
@@ -341,7 +341,7 @@ BadChangesAreRefused = (table : List ℕ) (n : Node) (c : ℕ) (m x offered : Li
 pub data AsChange (n : Node) (c : ℕ) (p : Parts) (m : Node) (rs : List Record) (q : Parts) (m′ : Node) (rs′ : List Record) : Type 0 where
   both-refused : (e : Denial) → AltersNothing n m rs c (error (p .action) (p .specifier) e)
       → AltersNothing n m′ rs′ c (error (q .action) (q .specifier) e) → AsChange n c p m rs q m′ rs′
-  both-let-in : (r : Report) → AltersNothing n m rs c (checked r) → List·Memᴰ (final c (changed r)) rs′ → AsChange n c p m rs q m′ rs′
+  both-let-in : (r : DataReport) → AltersNothing n m rs c (checked r) → List·Memᴰ (final c (changed r)) rs′ → AsChange n c p m rs q m′ rs′
 
 -- "judged exactly as `change` would be": of two lines that come at the same time
 abbrev pub ChecksAreAsChanges : Type 0

@@ -20,7 +20,7 @@ ghost use mathlib.Core.Path.{_≡_};
 ghost use mathlib.Core.Logic.{_⊎_};
 ghost use Prim.Native.Nat.{_≤_};
 ghost use lib.ListN.{getD};
-ghost use Rattle.script.specs.contracts.Head.{numberAt, Says};
+ghost use Rattle.script.specs.contracts.Head.{numberAt, FromHead};
 
 // What a head says. Code 0 is the end of the script.
 pub struct Operation {
@@ -64,7 +64,7 @@ fn code_of(head: &[u8; 23], count: usize) -> u8
 
 // The next head, read into a lent buffer. Which bytes come from standard input no promise can say.
 pub fn read_operation(head: &mut [u8; 23]) -> Operation
-    ensures { λ r. ⌜ Says (now (head .exit)) r ⌝ }
+    ensures { λ r. ⌜ FromHead (now (head .exit)) r ⌝ }
 {
     let count = io::read_full(STDIN_FILENO, head);
     Operation {

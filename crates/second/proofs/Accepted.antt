@@ -9,28 +9,28 @@ use Rattle.table.specs.Layout.{tableOf}
 use Rattle.report.specs.Judge.{tableNumber}
 use Rattle.plain.specs.Node.{Node, begin, isOpen}
 use Rattle.plain.specs.Calls.{Call, Piece}
-use Rattle.plain.specs.History.{step, own, marks, standing, itemsOf, items, kept, taken, Roomy, AllRoomy, EmptiesOpen}
+use Rattle.plain.specs.History.{step, own, marks, standing, itemsOf, items, ifAccepted, taken, Roomy, AllRoomy, EmptiesOpen}
 use Rattle.second.specs.Theorems.{keepCall, acceptedCalls, AcceptedCallsAreSecond}
 use Rattle.second.proofs.Calls.{permitted, accepts, step-number, step-used}
 use Rattle.second.proofs.Second.{used-open, standing-then, good-table}
 
 module _ (table : List ℕ) where
   kept-items : (h : List Call) (n : Node) → items (acceptedCalls table n h) ≡ taken table n h
-  unfolding acceptedCalls taken items keepCall kept
+  unfolding acceptedCalls taken items keepCall ifAccepted
   kept-items [] n = refl
   kept-items (e ∷ h) n =
       go (step table n e .1 .number) (acceptedCalls table (step table n e .0) h)
-      ∙ ap (kept (step table n e .1 .number) (itemsOf (e .event)) ++_) (kept-items h (step table n e .0))
+      ∙ ap (ifAccepted (step table n e .1 .number) (itemsOf (e .event)) ++_) (kept-items h (step table n e .0))
     where
-      go : (j : ℕ) (l : List Call) → items (keepCall j e l) ≡ kept j (itemsOf (e .event)) ++ items l
+      go : (j : ℕ) (l : List Call) → items (keepCall j e l) ≡ ifAccepted j (itemsOf (e .event)) ++ items l
       go zero l = refl
       go (suc j) l = refl
 
   -- one call, kept or not, before calls whose empty pieces come from open clients
   asked-kept : (n m : Node) (e : Call) (k : List Call) (j : ℕ) → (j ≡ 0 → So (permitted table n (e .event)))
-      → ((d : ℕ) → isOpen (m .clients d) ≡ standing (isOpen (n .clients d)) (own d (kept j (itemsOf (e .event)))))
+      → ((d : ℕ) → isOpen (m .clients d) ≡ standing (isOpen (n .clients d)) (own d (ifAccepted j (itemsOf (e .event)))))
       → EmptiesOpen m k → EmptiesOpen n (keepCall j e k)
-  unfolding keepCall kept own standing items
+  unfolding keepCall ifAccepted own standing items
   asked-kept n m e k (suc j) f u h l c t lent r q = ap (λ b. standing b (own c (items l))) (sym (u c)) ∙ h l c t lent r q
   asked-kept n m e k zero f u h [] c t lent r q =
       let p : e .event ≡ Piece c [] t = cc in

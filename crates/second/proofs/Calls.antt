@@ -14,13 +14,13 @@ use Rattle.fit.specs.Fit.{isFit}
 use Rattle.table.specs.Table.{Table}
 use Rattle.table.specs.Layout.{tableOf}
 use Rattle.table.specs.Search.{parameters}
-use Rattle.report.specs.Judge.{fault, lowest, tableNumber}
+use Rattle.report.specs.Judge.{fault, firstFault, tableNumber}
 use Rattle.message.specs.Error.{faultOf}
 use Rattle.outbox.specs.Outbox.{Record}
 use Rattle.plain.specs.Node.{Node, put, withClient, isOpen, receive, withClients}
 use Rattle.plain.specs.Answer.{answer}
 use Rattle.plain.specs.Calls.{Event, Open, Close, Piece, Reading, Unreadable, Call, fault10, readingVerdict, ownFaults, callNumber, beforeFeed, hasFeed, ended, pieceEffect, effect, settle, settling, stepIf}
-use Rattle.plain.specs.History.{step, Mark, feeds, opens, closes, reads, fails, Item, byte, mark, markOf, itemOf, consIf, own, marks, pieceItems, itemsOf, kept, InTime, Roomy, standing, after, runNode, runSent, joined}
+use Rattle.plain.specs.History.{step, Mark, feeds, opens, closes, reads, fails, Item, byte, mark, markOf, itemOf, consIf, own, marks, pieceItems, itemsOf, ifAccepted, InTime, Roomy, standing, after, runNode, runSent, joined}
 use Rattle.plain.proofs.Numbers.{accepted-call}
 use Rattle.plain.proofs.Put.{put-at, put-same, put-put}
 use Rattle.plain.proofs.Clients.{receive-more}
@@ -30,17 +30,17 @@ use Rattle.second.proofs.Runs.{outOf, run}
 -- ## Numbers
 
 -- the time, and the faults after it
-in-time : (t : ℕ) (ks : List ℕ) → (lowest (fault10 t ∷ ks) ≡ 0) ↔ ((t ≤ latest) × (lowest ks ≡ 0))
-unfolding lowest
+in-time : (t : ℕ) (ks : List ℕ) → (firstFault (fault10 t ∷ ks) ≡ 0) ↔ ((t ≤ latest) × (firstFault ks ≡ 0))
+unfolding firstFault
 in-time t ks = go (ltb latest t) refl
   where
-    go : (b : Bool) → ltb latest t ≡ b → (lowest (fault 10 b ∷ ks) ≡ 0) ↔ ((t ≤ latest) × (lowest ks ≡ 0))
+    go : (b : Bool) → ltb latest t ≡ b → (firstFault (fault 10 b ∷ ks) ≡ 0) ↔ ((t ≤ latest) × (firstFault ks ≡ 0))
     go true e = (λ h. absurd (omega arith), λ h. absurd (false≢true (sym (le-ltb latest t (h .0)) ∙ e)))
     go false e = (λ h. (ltb-false latest t e, h), λ h. h .1)
 
 -- the last two
-two-faults : (j k : ℕ) (a b : Bool) → (lowest (fault (suc j) a ∷ fault (suc k) b ∷ []) ≡ 0) ↔ So (not a && not b)
-unfolding lowest
+two-faults : (j k : ℕ) (a b : Bool) → (firstFault (fault (suc j) a ∷ fault (suc k) b ∷ []) ≡ 0) ↔ So (not a && not b)
+unfolding firstFault
 two-faults j k true b = (λ e. absurd (omega arith), λ e. absurd (false≢true e))
 two-faults j k false true = (λ e. absurd (omega arith), λ e. absurd (false≢true e))
 two-faults j k false false = (λ e. refl, λ e. refl)
@@ -64,13 +64,13 @@ module _ (table : List ℕ) where
   permitted n (Reading p bs t) = readable (reads p bs t)
   permitted n (Unreadable p k t) = readable (fails p k t)
 
-  timed : (t j k : ℕ) (p q : Bool) → (lowest (fault10 t ∷ fault (suc j) p ∷ fault (suc k) q ∷ []) ≡ 0) ↔ ((t ≤ latest) × So (not p && not q))
+  timed : (t j k : ℕ) (p q : Bool) → (firstFault (fault10 t ∷ fault (suc j) p ∷ fault (suc k) q ∷ []) ≡ 0) ↔ ((t ≤ latest) × So (not p && not q))
   timed t j k p q =
       let f = in-time t (fault (suc j) p ∷ fault (suc k) q ∷ []) in
       let g = two-faults j k p q in
       (λ h. (f .0 h .0, g .0 (f .0 h .1)), λ h. f .1 (h .0, g .1 (h .1)))
 
-  by-itself : (n : Node) (e : Event) → (lowest (ownFaults (tableOf table) n e) ≡ 0) ↔ (InTime e × So (permitted n e))
+  by-itself : (n : Node) (e : Event) → (firstFault (ownFaults (tableOf table) n e) ≡ 0) ↔ (InTime e × So (permitted n e))
   unfolding ownFaults
   by-itself n (Open c t) = timed t 10 12 (ltb 7 c) (isOpen (n .clients c))
   by-itself n (Close c t) = timed t 10 11 (ltb 7 c) (not (isOpen (n .clients c)))
@@ -234,12 +234,12 @@ module _ (table : List ℕ) (n : Node) (e : Call) where
       go (suc j) = refl
 
   -- Every call, accepted or not, does what the items that it used do.
-  pub step-used : Used table n (kept (step table n e .1 .number) (itemsOf (e .event))) (step table n e .0, step table n e .1 .records)
-  unfolding step stepIf settle kept
+  pub step-used : Used table n (ifAccepted (step table n e .1 .number) (itemsOf (e .event))) (step table n e .0, step table n e .1 .records)
+  unfolding step stepIf settle ifAccepted
   step-used = go (callNumber table false n e) refl
     where
       go : (j : ℕ) → callNumber table false n e ≡ j → let r = settling table n e j in
-          Used table n (kept (r .1 .number) (itemsOf (e .event))) (r .0, r .1 .records)
+          Used table n (ifAccepted (r .1 .number) (itemsOf (e .event))) (r .0, r .1 .records)
       go zero q =
           let h = accepts table (accepted-call table false e n .0 q .0 .accepted) n e .0 q .1 in
           record {

@@ -23,7 +23,7 @@ use Rattle.table.specs.Table.{Parameter, Table}
 use Rattle.table.specs.Layout.{tableOf}
 use Rattle.table.specs.Search.{Placed, parameters}
 use Rattle.plain.specs.Node.{Node, put, begin, lineOf, lineTaken, counting}
-use Rattle.plain.specs.Answer.{Outcome, refused, carried, activates, deactivates, sets, outcome, conclude, answerParts, answer}
+use Rattle.plain.specs.Answer.{Outcome, denied, carried, activates, deactivates, sets, outcome, conclude, answerParts, answer}
 use Rattle.plain.specs.Calls.{Open, Lent, Call, Effect, callNumber, driverEffect, readingEffect, unreadableEffect, effect, settle, stepIf}
 use Rattle.plain.specs.History.{step, answers, finish, sent, feeds, opens, closes, reads, fails, Item, byte, mark, taken, after, runNode, runSent, joined}
 use Rattle.plain.proofs.Put.{put-at}

@@ -11,10 +11,11 @@ use Rattle.table.specs.Table.{Parameter, Table}
 use Rattle.table.specs.Search.{Placed, parameters}
 use Rattle.message.specs.Line.{Line, whole, Parts}
 use Rattle.message.specs.Request.{Request, request}
-use Rattle.message.specs.Reply.{valued, Report, Reply, active, inactive, changed}
+use Rattle.message.specs.Reply.{valued, DataReport, Reply, active, inactive, changed}
 use Rattle.outbox.specs.Outbox.{Record, orderChange}
 use Rattle.plain.specs.Node.{Client, closed, connected, Node, put, withClient, Setting, settingValue, withSettings, isOpen, isActive, activated, reportOf, clientNumbers, updatesTo, updatesOf, withClients, below, activeCount}
-use Rattle.plain.specs.Answer.{Outcome, refused, carried, activates, deactivates, sets, outcome, conclude, answerParts, statusOf, busySettings, busyUpdates}
+use Rattle.plain.specs.Answer.{Outcome, denied, carried, settingsOf, statusOf, busySettings, busyUpdates}
+use Rattle.plain.specs.Answer.{activates, deactivates, sets, outcome, conclude, answerParts, partsSet}
 use Rattle.plain.proofs.Put.{put-all, put-same}
 use Rattle.plain.proofs.Clients.{activated-open}
 use Rattle.plain.proofs.Outcomes.{outcomes-hold}
@@ -28,17 +29,17 @@ abbrev pub weave : Node → (ℕ → Line) → Node
 weave n s = withClients n (λ d. relined (n .clients d) (s d))
 
 abbrev woven : (ℕ → Line) → Outcome → Outcome
-woven s (refused e) = refused e
+woven s (denied e) = denied e
 woven s (carried m ss rs r) = carried (weave m s) ss rs r
 
 -- the same clients are open as at the node n
-abbrev Kept : Node → Outcome → Type 0
-Kept n (refused e) = Unit {0}
-Kept n (carried m ss rs r) = (d : ℕ) → isOpen (m .clients d) ≡ isOpen (n .clients d)
+abbrev SameOpen : Node → Outcome → Type 0
+SameOpen n (denied e) = Unit {0}
+SameOpen n (carried m ss rs r) = (d : ℕ) → isOpen (m .clients d) ≡ isOpen (n .clients d)
 
 -- what is claimed of what a request comes to at the node n with other unfinished lines, and at n
 abbrev Through : Node → (ℕ → Line) → Outcome → Outcome → Type 0
-Through n s o p = (o ≡ woven s p) × Kept n p
+Through n s o p = (o ≡ woven s p) × SameOpen n p
 
 -- ## Clients
 
@@ -62,7 +63,7 @@ count-relined : (w : Table) (x : Client) (l : Line) → activeCount w (relined x
 unfolding activeCount
 count-relined w x l = ap (λ (f : ℕ → Bool). count f (below (length (w .modules)))) (fun-ext (active-relined x l))
 
-pub updates-woven : (f : ℕ → Client) (s : ℕ → Line) (i : ℕ) (r : Report) (cs : List ℕ)
+pub updates-woven : (f : ℕ → Client) (s : ℕ → Line) (i : ℕ) (r : DataReport) (cs : List ℕ)
     → updatesTo (λ d. relined (f d) (s d)) i r cs ≡ updatesTo f i r cs
 unfolding updatesTo
 updates-woven f s i r [] = refl
@@ -132,13 +133,21 @@ module _ (w : Table) (c now : ℕ) where
   answered p n s = ap (conclude w (weave n s) c now p) (through w c now n s (request p) .0) ∙ go (outcome w n c now (request p))
     where
       go : (o : Outcome) → conclude w (weave n s) c now p (woven s o) ≡ (weave (conclude w n c now p o .0) s, conclude w n c now p o .1)
-      go (refused e) = refl
+      go (denied e) = refl
+      go (carried m ss rs r) = refl
+
+  pub answered-sets : (p : Parts) (n : Node) (s : ℕ → Line) → partsSet w (weave n s) c now p ≡ partsSet w n c now p
+  unfolding partsSet settingsOf
+  answered-sets p n s = ap settingsOf (through w c now n s (request p) .0) ∙ go (outcome w n c now (request p))
+    where
+      go : (o : Outcome) → settingsOf (woven s o) ≡ settingsOf o
+      go (denied e) = refl
       go (carried m ss rs r) = refl
 
   pub answered-open : (p : Parts) (n : Node) (d : ℕ) → isOpen (answerParts w n c now p .0 .clients d) ≡ isOpen (n .clients d)
   unfolding answerParts conclude
   answered-open p n d = go (outcome w n c now (request p)) (through w c now n (λ d. whole []) (request p) .1)
     where
-      go : (o : Outcome) → Kept n o → isOpen (conclude w n c now p o .0 .clients d) ≡ isOpen (n .clients d)
-      go (refused e) h = refl
+      go : (o : Outcome) → SameOpen n o → isOpen (conclude w n c now p o .0 .clients d) ≡ isOpen (n .clients d)
+      go (denied e) h = refl
       go (carried m ss rs r) h = h d

@@ -7,11 +7,11 @@ use lib.Dec.{ltb}
 use Rattle.ascii.specs.Bytes.{all}
 use Rattle.table.specs.Layout.{tableOf}
 use Rattle.report.specs.Judge.{tableNumber}
-use Rattle.report.proofs.Faults.{lowest-none}
+use Rattle.report.proofs.Faults.{first-fault-none}
 use Rattle.outbox.specs.Outbox.{Record, encodeAll}
 use Rattle.plain.specs.Node.{Node, begin, isOpen}
 use Rattle.plain.specs.Calls.{Call, startNumber}
-use Rattle.plain.specs.History.{step, answers, finish, sent, sentBytes, AllAccepted, Item, own, marks, standing, itemsOf, items, kept, taken, AllRoomy, EmptiesOpen, IsSecond, Alike}
+use Rattle.plain.specs.History.{step, answers, finish, sent, sentBytes, AllAccepted, Item, own, marks, standing, itemsOf, items, ifAccepted, taken, AllRoomy, EmptiesOpen, IsSecond, Alike}
 use Rattle.second.specs.Theorems.{HistoriesAreTheirItems, SecondHistoriesAreAlike}
 use Rattle.second.proofs.Items.{own-append, standing-append, inOrder, own-both, marks-both, order-small}
 use Rattle.second.proofs.Runs.{run, run-append, same-run, run-open}
@@ -62,7 +62,7 @@ module _ (table : List ℕ) where
         → ((d : ℕ) → So (inOrder d (isOpen (n .clients d)) (own d (items k))))
         → So (all (readable table) (marks (items k))) → EmptiesOpen n k
         → AllAccepted (answers table n k) × (taken table n k ≡ items k)
-    unfolding taken answers items kept
+    unfolding taken answers items ifAccepted
     wholly [] n small room ok rd asked = (tt, refl)
     wholly (e ∷ k) n small room ok rd asked =
         let x = itemsOf (e .event) in
@@ -78,7 +78,7 @@ module _ (table : List ℕ) where
         ap₂ (λ a b. a && not (not b)) (small c s) s) in
         let a : step table n e .1 .number ≡ 0 = step-number table n e ∙ accepts table z n e .1 (room .0, p) in
         let u : (d : ℕ) → isOpen (m .clients d) ≡ standing (isOpen (n .clients d)) (own d x) =
-        used-open n x (m, step table n e .1 .records) (subst (λ j. Used table n (kept j x) (m, step table n e .1 .records)) a (step-used table n e)) in
+        used-open n x (m, step table n e .1 .records) (subst (λ j. Used table n (ifAccepted j x) (m, step table n e .1 .records)) a (step-used table n e)) in
         let r =
         wholly
         k
@@ -88,7 +88,7 @@ module _ (table : List ℕ) where
         (λ d. ap (λ b. inOrder d b (own d y)) (u d) ∙ f d .1)
         (g .1)
         (λ l c t lent r q. standing-then n m e c (u c) l ∙ asked (e ∷ l) c t lent r (ap (e ∷_) q)) in
-        ((a, r .0), ap₂ (λ j l. kept j x ++ l) a (r .1))
+        ((a, r .0), ap₂ (λ j l. ifAccepted j x ++ l) a (r .1))
 
     alike : (n : Node) → ((d : ℕ) → So (isOpen (n .clients d)) → So (not (ltb 7 d))) → (h k : List Call)
         → IsSecond table n h k → Alike table n h k
@@ -120,7 +120,7 @@ histories-are-their-items table n h =
 
 pub good-table : (table : List ℕ) (area time : ℕ) → startNumber table area time ≡ 0 → tableNumber table ≡ 0
 unfolding startNumber
-good-table table area time e = lowest-none _ e 0
+good-table table area time e = first-fault-none _ e 0
 
 pub second-histories-are-alike : SecondHistoriesAreAlike
 unfolding begin isOpen

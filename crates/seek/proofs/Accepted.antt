@@ -11,14 +11,14 @@ use Rattle.table.specs.Table.{Table}
 use Rattle.table.specs.Layout.{readTable, orEmpty, tableOf}
 use Rattle.table.specs.Rules.{countsGood, namesGood}
 use Rattle.report.specs.Judge.{treeNumber, numberOf, tableNumber}
-use Rattle.report.proofs.Faults.{no-fault, lowest-none}
+use Rattle.report.proofs.Faults.{no-fault, first-fault-none}
 use Rattle.index.specs.Accessibles.{accessibles}
 use Rattle.index.proofs.Accepted.{accessibles-few}
 
 tree-good : (t : Table) → treeNumber t ≡ 0 → (countsGood t ≡ true) × (namesGood t ≡ true)
 unfolding treeNumber
 tree-good t e =
-    let none-of = lowest-none _ e in
+    let none-of = first-fault-none _ e in
     (not-false (countsGood t) (no-fault 1 (not (countsGood t)) (none-of 0)), not-false (namesGood t) (no-fault 2 (not (namesGood t)) (none-of 1)))
 
 table-good : (s : List ℕ) → tableNumber s ≡ 0 → (countsGood (tableOf s) ≡ true) × (namesGood (tableOf s) ≡ true)

@@ -15,8 +15,8 @@ use Rattle.table.specs.Layout.{tableOf}
 use Rattle.table.specs.Rules.{accessibleName}
 use Rattle.table.specs.contracts.At.{bytesOf}
 use Rattle.table.specs.declared.layout.Part.{Part}
-use Rattle.report.specs.Judge.{fault, lowest, tableNumber}
-use Rattle.report.proofs.Faults.{lowest-first}
+use Rattle.report.specs.Judge.{fault, firstFault, tableNumber}
+use Rattle.report.proofs.Faults.{first-fault-first}
 use Rattle.search.specs.declared.cursor.One as O
 use Rattle.search.specs.contracts.Left.{nameOf}
 use Rattle.index.specs.Index.{empty, entered}
@@ -77,18 +77,18 @@ module _ (s index : List ℕ) (n : ℕ) (hn : n ≡ tableNumber s) where
   pub fill-refused : (n ≡ 0 → ⊥) → Fills s index index n
   unfolding indexAfter fillNumber
   fill-refused h =
-      let e : fillNumber s index ≡ n = lowest-first (tableNumber s) _ (λ z. h (hn ∙ z)) ∙ sym hn in
+      let e : fillNumber s index ≡ n = first-fault-first (tableNumber s) _ (λ z. h (hn ∙ z)) ∙ sym hn in
       record { is = sym e; index = rw (e, ne-eqb n 0 h) }
 
   pub fill-short : n ≡ 0 → length index < 128 → Fills s index index 18
-  unfolding indexAfter fillNumber lowest
+  unfolding indexAfter fillNumber firstFault
   fill-short h l =
       let e : tableNumber s ≡ 0 = sym hn ∙ h in
       record { is = rw (e, lt-ltb (length index) 128 l); index = rw (e, lt-ltb (length index) 128 l) }
 
   -- an accepted one, which has the table's accessibles in the first 128 bytes
   pub fill-done : n ≡ 0 → 128 ≤ length index → (xs : List ℕ) → xs ≡ indexOf (tableOf s) → Fills s index (xs ++ drop 128 index) 0
-  unfolding indexAfter fillNumber lowest
+  unfolding indexAfter fillNumber firstFault
   fill-done h l xs x =
       let e : tableNumber s ≡ 0 = sym hn ∙ h in
       record { is = rw (e, le-ltb (length index) 128 l); index = rw (e, le-ltb (length index) 128 l, x) }

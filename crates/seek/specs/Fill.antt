@@ -6,12 +6,12 @@ use mathlib.Core.List.{List, [], _∷_, _++_}
 use lib.Dec.{ltb, eqb}
 use lib.ListN.{length, drop}
 use Rattle.table.specs.Layout.{tableOf}
-use Rattle.report.specs.Judge.{fault, lowest, tableNumber}
+use Rattle.report.specs.Judge.{fault, firstFault, tableNumber}
 use Rattle.index.specs.Accessibles.{indexOf}
 
 -- "1 to 6, then 18", which is "index under 128 bytes" [I-4]
 unfoldable pub fillNumber : List ℕ → List ℕ → ℕ
-fillNumber table index = lowest (tableNumber table ∷ fault 18 (ltb (length index) 128) ∷ [])
+fillNumber table index = firstFault (tableNumber table ∷ fault 18 (ltb (length index) 128) ∷ [])
 
 -- "a refused one .. writes nothing"; an accepted one writes the first 128 bytes and no other [I-4]
 unfoldable pub indexAfter : List ℕ → List ℕ → List ℕ

@@ -22,7 +22,7 @@ use Rattle.table.specs.Rules.{accessibleName, accessibleCount, countsGood, note
 use Rattle.table.specs.Search.{Placed, parametersOf, commandsOf, placedFrom, parameters, commands}
 use Rattle.report.specs.Report.{report}
 use Rattle.report.specs.Judge.{treeNumber, numberOf, tableNumber}
-use Rattle.report.proofs.Faults.{no-fault, lowest-none}
+use Rattle.report.proofs.Faults.{no-fault, first-fault-none}
 use Rattle.plain.specs.Calls.{fault10, fault11}
 use Rattle.sound.specs.Theorems.{DatainfosInTable}
 use Rattle.sound.proofs.Tabled.{ModuleLies, ParameterIn, CommandIn, table-lies, Within, edition-within, modules-in, parameters-in, commands-in}
@@ -161,7 +161,7 @@ good-modules (m ∷ ms) e f g =
 accepted-tree : (w : Table) → Each ModuleLies (w .modules) → Within 16384 (w .edition) → treeNumber w ≡ 0 → Accepted w
 unfolding treeNumber countsGood namesGood goodNames initialsGood parameters commands isBetween
 accepted-tree w lies short e =
-    let none-of = lowest-none _ e in
+    let none-of = first-fault-none _ e in
     let h2 = not-false (countsGood w) (no-fault 1 (not (countsGood w)) (none-of 0)) in
     let h3 = not-false (namesGood w) (no-fault 2 (not (namesGood w)) (none-of 1)) in
     let h5 = not-false (initialsGood w) (no-fault 4 (not (initialsGood w)) (none-of 3)) in

@@ -3,7 +3,7 @@ use Prim.Native.Nat.{ℕ}
 use mathlib.Core.List.{List, [], _∷_}
 use mathlib.Core.Path.{_≡_}
 use Rattle.table.specs.Layout.{tableOf}
-use Rattle.report.proofs.Faults.{lowest-none}
+use Rattle.report.proofs.Faults.{first-fault-none}
 use Rattle.plain.specs.Node.{Node, begin}
 use Rattle.plain.specs.Calls.{Call, startNumber}
 use Rattle.plain.specs.History.{step, answers, finish}
@@ -30,9 +30,9 @@ module _ (table : List ℕ) where
   started : (area time : ℕ) → startNumber table area time ≡ 0 → (h : List Call) → Runs table (begin (tableOf table) time) h
   unfolding startNumber
   started area time z h =
-      let a = accepted table (lowest-none _ z 0) in
+      let a = accepted table (first-fault-none _ z 0) in
       runs a h (begin (tableOf table) time)
-      (begun (tableOf table) a time (time-low time (lowest-none _ z 2)))
+      (begun (tableOf table) a time (time-low time (first-fault-none _ z 2)))
 
 pub always-sound : AlwaysSound
 always-sound table area time z h = started table area time z h .sound

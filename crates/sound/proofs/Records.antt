@@ -18,7 +18,7 @@ use Rattle.ascii.specs.Numbers.{decimal, twoBytes, latest}
 use Rattle.ascii.proofs.Decimal.{decimal-short, seconds-latest}
 use Rattle.ascii.proofs.Lists.{both}
 use Rattle.message.specs.Error.{Fault, Denial, class, fault}
-use Rattle.message.specs.Reply.{Held, valued, failed, Report, Reply, identification, describing, pong, active, inactive, reply, changed, done, counted, error, dataReport, countsText, faultReport, heldReport, reportText, errorReport, optionally, replyLine, updateWord, updateLine, checked, identity}
+use Rattle.message.specs.Reply.{Held, valued, failed, DataReport, Reply, identification, describing, pong, active, inactive, reply, changed, done, counted, error, dataReport, countsText, faultReport, heldReport, reportText, errorReport, optionally, replyLine, updateWord, updateLine, checked, identity}
 use Rattle.message.proofs.Said.{fault-short, class-short}
 use Rattle.outbox.specs.Outbox.{Record, final, update, body, encode, encodeAll}
 use Rattle.outbox.specs.Theorems.{Word, Named, IsValue, WellFormed, WellFormedReply, AllWellFormed}
@@ -46,7 +46,7 @@ Small (valued v) = length v ≤ 256
 Small (failed f) = Unit {0}
 
 -- a report by good names, of what is so small, at a time within the limit
-pub record Fine (r : Report) : Type 0 where
+pub record Fine (r : DataReport) : Type 0 where
   pub names : GoodNames (r .moduleName) (r .accessible)
   pub small : Small (r .held)
   pub inTime : r .time ≤ latest
@@ -68,7 +68,7 @@ unfolding updateWord bytes
 word-low (valued v) = omega arith
 word-low (failed f) = omega arith
 
-report-short : (r : Report) → Fine r → length (updateWord (r .held)) + length (reportText r) ≤ 414
+report-short : (r : DataReport) → Fine r → length (updateWord (r .held)) + length (reportText r) ≤ 414
 unfolding reportText bytes
 report-short r f =
     simp length-append
@@ -79,11 +79,11 @@ report-short r f =
       name-short (r .accessible) (f .names .1),
     ))
 
-pub update-short : (r : Report) → Fine r → length (updateLine r) ≤ 414
+pub update-short : (r : DataReport) → Fine r → length (updateLine r) ≤ 414
 unfolding updateLine
 update-short r f = simp length-append (report-short r f)
 
-reply-short : (r : Report) → Fine r → length (reportText r) ≤ 407
+reply-short : (r : DataReport) → Fine r → length (reportText r) ≤ 407
 reply-short r f = omega (arith, report-short r f, word-low (r .held))
 
 -- what an error reply tells, at a time within the limit
@@ -99,54 +99,54 @@ denial-short (fault f t) h = fault-low f t h
 -- ## Replies
 
 -- a reply that is well formed, and at most k bytes
-abbrev pub Says : Reply → ℕ → Type 0
-Says r k = WellFormedReply r × (length (replyLine r) ≤ k)
+abbrev pub ReplyWithin : Reply → ℕ → Type 0
+ReplyWithin r k = WellFormedReply r × (length (replyLine r) ≤ k)
 
-pub says-within : (r : Reply) (j k : ℕ) → j ≤ k → Says r j → Says r k
-says-within r j k e h = (h .0, omega (arith, h .1))
+pub within-more : (r : Reply) (j k : ℕ) → j ≤ k → ReplyWithin r j → ReplyWithin r k
+within-more r j k e h = (h .0, omega (arith, h .1))
 
 -- the first edition's, or what a table gives
-pub says-identification : (e : Option (List ℕ)) → GoodEdition e → Says (identification e) 16384
+pub identification-within : (e : Option (List ℕ)) → GoodEdition e → ReplyWithin (identification e) 16384
 unfolding replyLine identity begins bytes
-says-identification none h = (tt, omega arith)
-says-identification (some x) h = (h .begun, h .short)
+identification-within none h = (tt, omega arith)
+identification-within (some x) h = (h .begun, h .short)
 
-pub says-describing : (xs : List ℕ) → length xs ≤ 32000 → Says (describing xs) 32013
+pub describing-within : (xs : List ℕ) → length xs ≤ 32000 → ReplyWithin (describing xs) 32013
 unfolding replyLine bytes
-says-describing xs h = (tt, omega arith)
+describing-within xs h = (tt, omega arith)
 
-pub says-pong : (xs : List ℕ) (t : ℕ) → Word xs → length xs ≤ 1024 → t ≤ latest → Says (pong xs t) 1057
+pub pong-within : (xs : List ℕ) (t : ℕ) → Word xs → length xs ≤ 1024 → t ≤ latest → ReplyWithin (pong xs t) 1057
 unfolding replyLine bytes
-says-pong xs t e h i = (e, simp length-append (omega (arith, data-short (bytes "null") t i)))
+pong-within xs t e h i = (e, simp length-append (omega (arith, data-short (bytes "null") t i)))
 
 optionally-short : (w : List ℕ) (m : Option (List ℕ)) → Named m → length (optionally w m) ≤ length w + 64
 unfolding optionally bytes
 optionally-short w none e = omega arith
 optionally-short w (some m) e = simp length-append (omega (arith, name-short m e))
 
-pub says-active : (m : Option (List ℕ)) → Named m → Says (active m) 70
+pub active-within : (m : Option (List ℕ)) → Named m → ReplyWithin (active m) 70
 unfolding replyLine bytes
-says-active m e = (e, omega (arith, optionally-short (bytes "active") m e))
+active-within m e = (e, omega (arith, optionally-short (bytes "active") m e))
 
-pub says-inactive : (m : Option (List ℕ)) → Named m → Says (inactive m) 72
+pub inactive-within : (m : Option (List ℕ)) → Named m → ReplyWithin (inactive m) 72
 unfolding replyLine bytes
-says-inactive m e = (e, omega (arith, optionally-short (bytes "inactive") m e))
+inactive-within m e = (e, omega (arith, optionally-short (bytes "inactive") m e))
 
-pub says-reply : (r : Report) → Fine r → IsValue (r .held) → Says (reply r) 415
+pub reply-within : (r : DataReport) → Fine r → IsValue (r .held) → ReplyWithin (reply r) 415
 unfolding replyLine bytes
-says-reply r f v = ((f .names, v), omega (arith, reply-short r f))
+reply-within r f v = ((f .names, v), omega (arith, reply-short r f))
 
-pub says-changed : (r : Report) → Fine r → IsValue (r .held) → Says (changed r) 415
+pub changed-within : (r : DataReport) → Fine r → IsValue (r .held) → ReplyWithin (changed r) 415
 unfolding replyLine bytes
-says-changed r f v = ((f .names, v), omega (arith, reply-short r f))
+changed-within r f v = ((f .names, v), omega (arith, reply-short r f))
 
-pub says-done : (r : Report) → Fine r → IsValue (r .held) → Says (done r) 415
+pub done-within : (r : DataReport) → Fine r → IsValue (r .held) → ReplyWithin (done r) 415
 unfolding replyLine bytes
-says-done r f v = ((f .names, v), omega (arith, reply-short r f))
+done-within r f v = ((f .names, v), omega (arith, reply-short r f))
 
-pub says-checked : (r : Report) → Fine r → IsValue (r .held) → Says (checked r) 415
+pub checked-within : (r : DataReport) → Fine r → IsValue (r .held) → ReplyWithin (checked r) 415
 unfolding replyLine bytes
-says-checked r f v = ((f .names, v), omega (arith, reply-short r f))
+checked-within r f v = ((f .names, v), omega (arith, reply-short r f))
 
 count-short : (n : ℕ) → n ≤ highest → length (decimal n) ≤ 10
 count-short n h = decimal-short 9 n (omega arith)
@@ -157,13 +157,13 @@ counts-short x n h i =
     simp length-append
     (omega (arith, count-short (x .lines) (h .0), count-short (x .errors) (h .1 .0), count-short (x .updates) (h .1 .1), count-short n i))
 
-pub says-counted : (x : Counts) (n t : ℕ) → CountsHeld x → n ≤ highest → t ≤ latest → Says (counted x n t) 79
+pub counted-within : (x : Counts) (n t : ℕ) → CountsHeld x → n ≤ highest → t ≤ latest → ReplyWithin (counted x n t) 79
 unfolding replyLine bytes
-says-counted x n t h i j = (tt, simp length-append (omega (arith, data-short (countsText x n) t j, counts-short x n h i)))
+counted-within x n t h i j = (tt, simp length-append (omega (arith, data-short (countsText x n) t j, counts-short x n h i)))
 
-pub says-error : (a s : List ℕ) (d : Denial) → DeniedInTime d → Word a → Word s → length a ≤ 1024 → length s ≤ 1024 → Says (error a s d) 2122
+pub error-within : (a s : List ℕ) (d : Denial) → DeniedInTime d → Word a → Word s → length a ≤ 1024 → length s ≤ 1024 → ReplyWithin (error a s d) 2122
 unfolding replyLine bytes
-says-error a s d t p q h i = ((p, q), simp length-append (omega (arith, denial-short d t)))
+error-within a s d t p q h i = ((p, q), simp length-append (omega (arith, denial-short d t)))
 
 -- ## Records
 
@@ -192,14 +192,14 @@ pub written-within : {rs : List Record} {j : ℕ} (k : ℕ) → j ≤ k → Writ
 written-within k e h = record { formed = h .formed; short = omega (arith, h .short) }
 
 -- a final reply
-pub written-final : (c : ℕ) (r : Reply) (k : ℕ) → Says r k → Written (final c r ∷ []) (k + 6)
+pub written-final : (c : ℕ) (r : Reply) (k : ℕ) → ReplyWithin r k → Written (final c r ∷ []) (k + 6)
 unfolding body bytes
 written-final c r k h = written-one (final c r) (k + 6) (h .0) (simp length-append (omega (arith, h .1)))
 
 -- ## Updates
 
 -- one update or none, before others
-written-update : (b : Bool) (c : ℕ) (r : Report) → Fine r → (rs : List Record) (j : ℕ) → Written rs (j * 420)
+written-update : (b : Bool) (c : ℕ) (r : DataReport) → Fine r → (rs : List Record) (j : ℕ) → Written rs (j * 420)
     → Written (cond b (update c r ∷ []) [] ++ rs) (suc j * 420)
 unfolding body bytes
 written-update false c r f rs j h = written-within (suc j * 420) (omega arith) h
@@ -207,7 +207,7 @@ written-update true c r f rs j h =
     let one = written-one (update c r) 420 (f .names) (simp length-append (omega (arith, update-short r f))) in
     written-within (suc j * 420) (omega arith) (written-append (update c r ∷ []) rs 420 (j * 420) one h)
 
-pub written-to : (f : ℕ → Client) (i : ℕ) (r : Report) → Fine r → (cs : List ℕ)
+pub written-to : (f : ℕ → Client) (i : ℕ) (r : DataReport) → Fine r → (cs : List ℕ)
     → Written (updatesTo f i r cs) (length cs * 420)
 unfolding updatesTo
 written-to f i r g [] = written-none

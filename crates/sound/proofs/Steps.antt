@@ -28,11 +28,11 @@ use Rattle.table.specs.Table.{Parameter, Command, Table}
 use Rattle.table.specs.Layout.{tableOf}
 use Rattle.table.specs.Search.{Placed, parameters, commands}
 use Rattle.report.specs.Report.{report}
-use Rattle.report.specs.Judge.{lowest}
-use Rattle.report.proofs.Faults.{no-fault, lowest-none}
+use Rattle.report.specs.Judge.{firstFault}
+use Rattle.report.proofs.Faults.{no-fault, first-fault-none}
 use Rattle.plain.specs.Node.{closed, Value, Node, withClient, withValue, Setting, Client, fresh, opened, isActive, below, activeCount, lineOf, receive, emptied, lineTaken, counting, reportOf, clientNumbers, updatesTo, holding, showing, withValues, withSettings}
 use Rattle.plain.specs.Answer.{shownValue, judgedAt, storedAt, busy, statusOf, busySettings, busyUpdates}
-use Rattle.plain.specs.Answer.{Outcome, refused, carried, argumentVerdict, argumentForm, activates, deactivates, sets, outcome, conclude, answerParts, answer}
+use Rattle.plain.specs.Answer.{Outcome, denied, carried, argumentVerdict, argumentForm, activates, deactivates, sets, outcome, conclude, answerParts, answer}
 use Rattle.plain.specs.Calls.{Event, Open, Close, Piece, Reading, Unreadable, Call, readingVerdict, ownFaults, callNumber, beforeFeed, hasFeed, ended, Effect, pieceEffect, driverEffect, readingEffect, unreadableEffect, effect, settle, settling, stepIf}
 use Rattle.plain.specs.History.{step}
 use Rattle.plain.proofs.Numbers.{accepted-call}
@@ -43,19 +43,19 @@ use Rattle.sound.specs.Theorems.{HeldFits, ValueHeld, Sound}
 use Rattle.sound.proofs.Lists.{each-at}
 use Rattle.sound.proofs.Tabled.{ParameterIn}
 use Rattle.sound.proofs.Accepted.{Accepted, GoodParameter, GoodCommand, client-low, time-low}
-use Rattle.sound.proofs.Records.{Small, DeniedInTime, Fine, Says, says-within, says-identification, says-describing, says-pong, says-active, says-inactive, says-reply, says-changed, says-done, says-counted, says-error, Written, written-none, written-one, written-append, written-within, written-final, written-to, written-of, says-checked}
+use Rattle.sound.proofs.Records.{Small, DeniedInTime, Fine, ReplyWithin, within-more, identification-within, describing-within, pong-within, active-within, inactive-within, reply-within, changed-within, done-within, counted-within, error-within, Written, written-none, written-one, written-append, written-within, written-final, written-to, written-of, checked-within}
 use Rattle.sound.proofs.Lines.{before-feed, received, content-short, ShortWord, parts-words, Asked, asked}
 use Rattle.sound.proofs.Held.{with-client, with-value, with-count, one-line, with-counting, line-held, emptied-held, more-active, less-active}
 
--- a node that is left, and the records that are written
-pub record Kept (w : Table) (n : Node) (rs : List Record) : Type 0 where
+-- a node that is left is sound, and the records that are written are no more than any call may write
+pub record StillSound (w : Table) (n : Node) (rs : List Record) : Type 0 where
   pub sound : Sound w n
   pub written : Written rs 32019
 
 -- what is left and written where a request comes to this; an error's time is within the limit, and the rest is for `concluded`
 abbrev pub Comes : Table → ℕ → Outcome → Type 0
-Comes w c (refused e) = DeniedInTime e
-Comes w c (carried m ss rs r) = Kept w m (rs ++ (final c r ∷ []))
+Comes w c (denied e) = DeniedInTime e
+Comes w c (carried m ss rs r) = StillSound w m (rs ++ (final c r ∷ []))
 
 -- of the first k numbers
 pub count-low : (f : ℕ → Bool) (k : ℕ) → count f (below k) ≤ k
@@ -134,7 +134,7 @@ module _ (w : Table) (a : Accepted w) (n : Node) (s : Sound w n) where
 
   -- requests of client c at the time t
   module _ (c : ℕ) (low : c ≤ 7) (t : ℕ) (h : t ≤ latest) where
-    comes : (m : Node) (ss : List Setting) (rs : List Record) (r : Reply) (j k : ℕ) → Sound w m → Written rs j → Says r k → j + (k + 6) ≤ 32019
+    comes : (m : Node) (ss : List Setting) (rs : List Record) (r : Reply) (j k : ℕ) → Sound w m → Written rs j → ReplyWithin r k → j + (k + 6) ≤ 32019
         → Comes w c (carried m ss rs r)
     comes m ss rs r j k u v x i =
         record {
@@ -142,7 +142,7 @@ module _ (w : Table) (a : Accepted w) (n : Node) (s : Sound w n) where
           written = written-within 32019 i (written-append rs (final c r ∷ []) j (k + 6) v (written-final c r k x));
         }
 
-    only : (r : Reply) (k : ℕ) → Says r k → k ≤ 32013 → Comes w c (carried n [] [] r)
+    only : (r : Reply) (k : ℕ) → ReplyWithin r k → k ≤ 32013 → Comes w c (carried n [] [] r)
     only r k x i = comes n [] [] r 0 k s written-none x (omega arith)
 
     pub comes-activates : (wanted : ℕ → Bool) (m : Option (List ℕ)) → Named m → Comes w c (activates w n c t wanted m)
@@ -152,32 +152,32 @@ module _ (w : Table) (a : Accepted w) (n : Node) (s : Sound w n) where
         λ j p q. rw zero-add (fine j p q (n .values j) (s .values j p q)) in
         comes _ [] _ (active m) (length (parameters w) * 420) 70
         (with-client w n c _ low (more-active w (n .clients c) wanted (s .clients c)) s)
-        (written-of c wanted (n .values) 0 (parameters w) there) (says-active m e) (omega (arith, a .few))
+        (written-of c wanted (n .values) 0 (parameters w) there) (active-within m e) (omega (arith, a .few))
 
     comes-deactivates : (wanted : ℕ → Bool) (m : Option (List ℕ)) → Named m → Comes w c (deactivates w n c t wanted m)
     unfolding deactivates
     comes-deactivates wanted m e =
         comes _ [] [] (inactive m) 0 72
-        (with-client w n c _ low (less-active w (n .clients c) wanted (s .clients c)) s) written-none (says-inactive m e) (omega arith)
+        (with-client w n c _ low (less-active w (n .clients c) wanted (s .clients c)) s) written-none (inactive-within m e) (omega arith)
 
     -- a reply alone
-    told-short : (q : Request) (r : Reply) → Tells w n c t q r → Asked q → Says r 32013
-    told-short _ _ by-identify q = says-within (identification (w .edition)) 16384 32013 (omega arith) (says-identification (w .edition) (a .edition))
-    told-short _ _ by-describe q = says-describing (report w) (a .short)
-    told-short _ _ (by-ping {token}) q = says-within (pong token t) 1057 32013 (omega arith) (says-pong token t (q .0) (q .1) h)
+    told-short : (q : Request) (r : Reply) → Tells w n c t q r → Asked q → ReplyWithin r 32013
+    told-short _ _ by-identify q = within-more (identification (w .edition)) 16384 32013 (omega arith) (identification-within (w .edition) (a .edition))
+    told-short _ _ by-describe q = describing-within (report w) (a .short)
+    told-short _ _ (by-ping {token}) q = within-more (pong token t) 1057 32013 (omega arith) (pong-within token t (q .0) (q .1) h)
     told-short _ _ (by-read k e v u i) q =
         let r = reportOf (k .1) (showing v u) in
-        says-within (reply r) 415 32013 (omega arith)
-        (says-reply r (fine (k .0) (k .1) e (showing v u) (subst (ValueHeld (k .1 .it)) i (s .values (k .0) (k .1) e))) tt)
+        within-more (reply r) 415 32013 (omega arith)
+        (reply-within r (fine (k .0) (k .1) e (showing v u) (subst (ValueHeld (k .1 .it)) i (s .values (k .0) (k .1) e))) tt)
     told-short _ _ (by-check k v l e) q =
         let x = showing (storedAt (n .values) k v) t in
         let i = let-in-stored w a (n .values) k v l in
-        says-within (checked (reportOf (k .1) x)) 415 32013 (omega arith)
-        (says-checked (reportOf (k .1) x) (fine (k .0) (k .1) (l .there) x (i, h)) tt)
+        within-more (checked (reportOf (k .1) x)) 415 32013 (omega arith)
+        (checked-within (reportOf (k .1) x) (fine (k .0) (k .1) (l .there) x (i, h)) tt)
     told-short _ _ by-count q =
         let m = activeCount w (n .clients c) in
-        says-within (counted (n .counts c) m t) 79 32013 (omega arith)
-        (says-counted (n .counts c) m t (s .counts c) (omega (arith, active-few (n .clients c), a .fewModules)) h)
+        within-more (counted (n .counts c) m t) 79 32013 (omega arith)
+        (counted-within (n .counts c) m t (s .counts c) (omega (arith, active-few (n .clients c), a .fewModules)) h)
 
     comes-tells : (q : Request) (r : Reply) → Tells w n c t q r → Asked q → Comes w c (carried n [] [] r)
     comes-tells q r u i = only r 32013 (told-short q r u i) (omega arith)
@@ -211,7 +211,7 @@ module _ (w : Table) (a : Accepted w) (n : Node) (s : Sound w n) where
         (subst (λ f. Sound w (withValues n f)) (sym (set-more (n .values) (busySettings o t) set))
         (new-node-at (k .0) (k .1) e x i t h (withSettings n (busySettings o t)) (b .0)))
         (written-append (order ∷ []) (first ++ updates) 262 6720 told (written-append first updates 3360 3360 (b .1) (new-updates (k .0) (k .1) e x i t h)))
-        (says-changed r (fine (k .0) (k .1) e (holding x t) (i, h)) tt)
+        (changed-within r (fine (k .0) (k .1) e (holding x t) (i, h)) tt)
         (omega arith)
 
     argument-short : (d : Option Datainfo) (v : List ℕ) → isFit (argumentVerdict d v) ≡ true → length (argumentForm d v) ≤ 256
@@ -227,7 +227,7 @@ module _ (w : Table) (a : Accepted w) (n : Node) (s : Sound w n) where
         let told = written-one (orderCommand c (k .0) x) 262 tt (omega (arith, argument-short (k .1 .it .argument) v f)) in
         let names = each-at GoodCommand (commands w) (a .allCommands) (k .0) (k .1) (i .there) in
         comes n [] (orderCommand c (k .0) x ∷ []) (done (doneOf (k .1) t)) 262 415 s told
-        (says-done (doneOf (k .1) t) (record { names = names; small = omega arith; inTime = h }) tt) (omega arith)
+        (done-within (doneOf (k .1) t) (record { names = names; small = omega arith; inTime = h }) tt) (omega arith)
 
     comes-outcome : (q : Request) → Asked q → Comes w c (outcome w n c t q)
     comes-outcome =
@@ -243,26 +243,26 @@ module _ (w : Table) (a : Accepted w) (n : Node) (s : Sound w n) where
         })
 
     concluded : (p : Parts) → ShortWord (p .action) × ShortWord (p .specifier) → (o : Outcome) → Comes w c o
-        → Kept w (conclude w n c t p o .0) (conclude w n c t p o .1)
+        → StillSound w (conclude w n c t p o .0) (conclude w n c t p o .1)
     unfolding conclude
-    concluded p q (refused e) i =
+    concluded p q (denied e) i =
         comes n [] [] (error (p .action) (p .specifier) e) 0 2122 s written-none
-        (says-error (p .action) (p .specifier) e i (q .0 .0) (q .1 .0) (q .0 .1) (q .1 .1)) (omega arith)
+        (error-within (p .action) (p .specifier) e i (q .0 .0) (q .1 .0) (q .0 .1) (q .1 .1)) (omega arith)
     concluded p q (carried m ss rs r) i = i
 
     answered-parts : (p : Parts) → ShortWord (p .action) × ShortWord (p .specifier)
-        → Kept w (answerParts w n c t p .0) (answerParts w n c t p .1)
+        → StillSound w (answerParts w n c t p .0) (answerParts w n c t p .1)
     unfolding answerParts
     answered-parts p q = concluded p q (outcome w n c t (request p)) (comes-outcome (request p) (asked p (q .1)))
 
 -- ## Calls, on an accepted table, at a sound node
 
 module _ (w : Table) (a : Accepted w) (n : Node) (s : Sound w n) where
-  quiet : Kept w n []
+  quiet : StillSound w n []
   quiet = record { sound = s; written = written-within 32019 (omega arith) written-none }
 
   -- a line feed, or none yet
-  pub answered : (c t : ℕ) → c ≤ 7 → t ≤ latest → (b : Bool) → Kept w (ended w n c t b .0) (ended w n c t b .1)
+  pub answered : (c t : ℕ) → c ≤ 7 → t ≤ latest → (b : Bool) → StillSound w (ended w n c t b .0) (ended w n c t b .1)
   unfolding ended answer
   answered c t low h false = quiet
   answered c t low h true =
@@ -274,7 +274,7 @@ module _ (w : Table) (a : Accepted w) (n : Node) (s : Sound w n) where
 
   -- what a driver tells is held
   told-in : (k : ℕ) (p : Placed Parameter) → getElem? (parameters w) k ≡ some p → (x : Held) → HeldFits (p .it) x → (t : ℕ) → t ≤ latest
-      → Kept w (driverEffect n k p x t .next) (driverEffect n k p x t .records)
+      → StillSound w (driverEffect n k p x t .next) (driverEffect n k p x t .records)
   unfolding driverEffect
   told-in k p e x f t h =
       record {
@@ -284,13 +284,13 @@ module _ (w : Table) (a : Accepted w) (n : Node) (s : Sound w n) where
 
   read-in : (k : ℕ) (o : Option (Placed Parameter)) → getElem? (parameters w) k ≡ o
       → (bs : List ℕ) (t : ℕ) → t ≤ latest → isFit (readingVerdict o bs) ≡ true
-      → Kept w (readingEffect n k o bs t .next) (readingEffect n k o bs t .records)
+      → StillSound w (readingEffect n k o bs t .next) (readingEffect n k o bs t .records)
   unfolding readingEffect readingVerdict
   read-in k none e bs t h f = quiet
   read-in k (some p) e bs t h f = told-in k p e (valued (storedForm (p .it .datainfo) bs)) (stored (p .it .datainfo) bs (in-table w a n s k p e) f) t h
 
   unread-in : (k : ℕ) (o : Option (Placed Parameter)) → getElem? (parameters w) k ≡ o → (x : Option Fault) (t : ℕ) → t ≤ latest
-      → Kept w (unreadableEffect n k o x t .next) (unreadableEffect n k o x t .records)
+      → StillSound w (unreadableEffect n k o x t .next) (unreadableEffect n k o x t .records)
   unfolding unreadableEffect
   unread-in k none e x t h = quiet
   unread-in k (some p) e none t h = quiet
@@ -301,33 +301,33 @@ module _ (table : List ℕ) (a : Accepted (tableOf table)) where
   w = tableOf table
 
   module _ (n : Node) (s : Sound w n) where
-    effected : (e : Event) → lowest (ownFaults w n e) ≡ 0 → Kept w (effect w n e .next) (effect w n e .records)
+    effected : (e : Event) → firstFault (ownFaults w n e) ≡ 0 → StillSound w (effect w n e .next) (effect w n e .records)
     unfolding ownFaults effect pieceEffect all
     effected (Open c t) z =
-        let low = client-low c (lowest-none _ z 1) in
+        let low = client-low c (first-fault-none _ z 1) in
         let m = with-client w n c fresh low ((omega arith, refl), λ i e. refl) s in
         quiet w a (opened n c) (with-count w _ c noCounts (omega arith, (omega arith, omega arith)) m)
     effected (Close c t) z =
-        let low = client-low c (lowest-none _ z 1) in
+        let low = client-low c (first-fault-none _ z 1) in
         quiet w a (withClient n c closed) (with-client w n c closed low tt s)
     effected (Piece c bs t) z =
-        let low = client-low c (lowest-none _ z 1) in
+        let low = client-low c (first-fault-none _ z 1) in
         let x = receive (n .clients c) (beforeFeed bs) in
         let h = received w (n .clients c) (beforeFeed bs) (before-feed bs) (s .clients c) in
-        answered w a (withClient n c x) (with-client w n c x low h s) c t low (time-low t (lowest-none _ z 0)) (hasFeed bs)
+        answered w a (withClient n c x) (with-client w n c x low h s) c t low (time-low t (first-fault-none _ z 0)) (hasFeed bs)
     effected (Reading k bs t) z =
         let x = getElem? (parameters w) k in
         let f = isFit (readingVerdict x bs) in
-        read-in w a n s k x refl bs t (time-low t (lowest-none _ z 0)) (not-false f (no-fault 14 (not f) (lowest-none _ z 2)))
-    effected (Unreadable k x t) z = unread-in w a n s k (getElem? (parameters w) k) refl (faultOf x) t (time-low t (lowest-none _ z 0))
+        read-in w a n s k x refl bs t (time-low t (first-fault-none _ z 0)) (not-false f (no-fault 14 (not f) (first-fault-none _ z 2)))
+    effected (Unreadable k x t) z = unread-in w a n s k (getElem? (parameters w) k) refl (faultOf x) t (time-low t (first-fault-none _ z 0))
 
-    pub stepped : (e : Call) → Kept w (step table n e .0) (step table n e .1 .records)
+    pub stepped : (e : Call) → StillSound w (step table n e .0) (step table n e .1 .records)
     unfolding step stepIf settle
     stepped e = go (callNumber table false n e) (λ z. effected (e .event) (accepted-call table false e n .0 z .1))
       where
         f : Effect
         f = effect w n (e .event)
 
-        go : (k : ℕ) → (k ≡ 0 → Kept w (f .next) (f .records)) → let s = settling table n e k in Kept w (s .0) (s .1 .records)
+        go : (k : ℕ) → (k ≡ 0 → StillSound w (f .next) (f .records)) → let s = settling table n e k in StillSound w (s .0) (s .1 .records)
         go zero f = f refl
         go (suc k) f = quiet w a n s

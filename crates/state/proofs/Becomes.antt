@@ -10,7 +10,10 @@ use denote.Shadow.{shadow}
 use mir.Val.{Val}
 use Rattle.ascii.specs.Bytes.{any}
 use Rattle.plain.specs.Node.{Client, put}
+use Rattle.state.specs.declared.Brief.{Brief}
 use Rattle.state.specs.declared.Clients.{Clients}
+use Rattle.state.specs.contracts.Bare.{withLines}
+use Rattle.state.proofs.Brief as Briefs
 use Rattle.state.specs.View.{isSet, clientAt}
 use Rattle.state.specs.Fit.{clientUnfit, pastLast}
 use Rattle.state.proofs.Clients.{the-type, the-field}
@@ -36,13 +39,12 @@ pub record Activatable (s : Clients) (c mask m : ℕ) : Type 0 where
   pub isOpen : isSet (s .open) c ≡ true
   pub within : pastLast mask m ≡ false
 
--- how many elements the arrays have
+-- how many elements the arrays have, but for the lines
 pub record Sized (s : Clients) : Type 0 where
   pub isOpen : length (s .open) ≡ 8
   pub isOverlong : length (s .overlong) ≡ 8
   pub mask : length (s .active) ≡ 8
   pub size : length (s .length) ≡ 8
-  pub room : length (s .lines) ≡ 8192
 
 -- as the fields of a struct are handed to a proof
 pub clients-sized : (s : Clients) {v : List Val} → shadow (the-field .row .own (the-type .to s) v) → Sized s
@@ -53,7 +55,21 @@ clients-sized s g =
       isOverlong = length-unmapped ℕ (s .overlong) 8 (fs .1 .0 .1 .0 .1);
       mask = length-unmapped ℕ (s .active) 8 (fs .1 .1 .0 .1 .0 .1);
       size = length-unmapped ℕ (s .length) 8 (fs .1 .1 .1 .0 .1 .0 .1);
-      room = length-unmapped ℕ (s .lines) 8192 (fs .1 .1 .1 .1 .0 .1 .0 .1);
+    }
+
+-- the lines
+pub lines-sized : (s : Clients) {v : List Val} → shadow (the-field .row .own (the-type .to s) v) → length (s .lines) ≡ 8192
+lines-sized s g = length-unmapped ℕ (s .lines) 8192 (g .1 .1 .1 .1 .1 .1 .0 .1 .0 .1)
+
+-- of clients without their lines, whatever lines they are given
+pub brief-sized : (s : Brief) {v : List Val} → shadow (Briefs.the-field .row .own (Briefs.the-type .to s) v) → (lines : List ℕ) → Sized (withLines s lines)
+brief-sized s g lines =
+    let fs = g .1 .1 in
+    record {
+      isOpen = length-unmapped ℕ (s .open) 8 (fs .0 .1 .0 .1);
+      isOverlong = length-unmapped ℕ (s .overlong) 8 (fs .1 .0 .1 .0 .1);
+      mask = length-unmapped ℕ (s .active) 8 (fs .1 .1 .0 .1 .0 .1);
+      size = length-unmapped ℕ (s .length) 8 (fs .1 .1 .1 .0 .1 .0 .1);
     }
 
 -- no line reaches into the next client's place

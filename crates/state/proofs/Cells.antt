@@ -13,7 +13,8 @@ use Rattle.plain.specs.Node.{Client, closed, connected, fresh, put, emptied, ac
 use Rattle.state.specs.declared.Clients.{Clients}
 use Rattle.state.specs.View.{isSet, bit, lineBytes, lineAt, clientAt}
 use Rattle.state.specs.Fit.{clientUnfit, pastLast}
-use Rattle.state.specs.contracts.Changed.{withOpened, withClosed, withEnded, withActive}
+use Rattle.state.specs.Changed.{withOpened, withClosed, withEnded}
+use Rattle.state.specs.contracts.Bare.{withActive}
 use Rattle.state.proofs.Becomes.{Becomes, Always, Activatable, Sized}
 use Rattle.ascii.proofs.Lists.{neither}
 use Rattle.state.proofs.Masks.{no-bit, past-last}

@@ -18,12 +18,15 @@ use Rattle.outbox.specs.Sent.{errorsSent, updatesSent}
 use Rattle.outbox.specs.contracts.Tallied.{Holds}
 use Rattle.plain.specs.Node.{Node, put, withCount, withCounts, counting}
 use Rattle.plain.proofs.Counts.{counted-twice, line-counted, NoneTo}
+use Rattle.state.specs.declared.Bare.{Bare}
 use Rattle.state.specs.declared.State.{State}
 use Rattle.state.proofs.State.{the-type, the-field}
+use Rattle.state.proofs.Bare as Bared
 use Rattle.state.specs.View.{countsAt, view, nextCounts}
 use Rattle.state.specs.Fit.{isUnfit}
 use Rattle.table.specs.Table.{Table}
 use Rattle.state.specs.declared.Settings.{Settings}
+use Rattle.state.specs.contracts.Bare.{lined}
 use Rattle.state.specs.contracts.Counted.{countsCleared, lineCounted, withSent, sentCounted, LineCounted, SentCounted}
 
 sent-length : (xs : List Counts) (rs : List Record) (k : ℕ) → length (sentCounted xs rs k) ≡ length xs
@@ -121,6 +124,10 @@ module _ (table : List ℕ) (s : State) (values : List ℕ) (size : length (s .c
 pub counts-sized : (s : State) {v : List Val} → shadow (the-field .row .own (the-type .to s) v) → length (s .counts) ≡ 8
 counts-sized s g = sym (length-map (s .counts) _) ∙ g .1 .1 .1 .1 .0 .1 .0 .1
 
+-- the same of a state without its lines
+pub bare-sized : (s : Bare) {v : List Val} → shadow (Bared.the-field .row .own (Bared.the-type .to s) v) → length (s .counts) ≡ 8
+bare-sized s g = sym (length-map (s .counts) _) ∙ g .1 .1 .1 .1 .0 .1 .0 .1
+
 stays : (k : ℕ) → k < 2 ^ 32 → k ≡ stopping k 0
 stays k h = omega arith
 
@@ -147,13 +154,16 @@ pub counts-fit : (w : Table) (s r : State) (values : List ℕ) (xs : List Counts
 unfolding isUnfit
 counts-fit w s r values xs e h = rw e h
 
--- what is sent is counted, where nothing goes to clients that there are not
-module _ (table : List ℕ) (s : State) (values out : List ℕ) (p : ℕ) (r : State) (k : SentCounted s out p r) (rs : List Record) (h : Holds out p rs) where
-  pub sent-node : ((d : ℕ) → 8 ≤ d → NoneTo d rs) → view table r values ≡ counting (view table s values) rs
-  sent-node none = ap (λ (x : State). view table x values) (k .is rs h) ∙ sent-view table s values (k .size) rs none
+-- what is sent is counted, where nothing goes to clients that there are not; whatever the lines are
+module _ (table : List ℕ) (s : Bare) (lines values out : List ℕ) (p : ℕ) (r : Bare) (k : SentCounted s out p r) (rs : List Record) (h : Holds out p rs) where
+  pub sent-node : ((d : ℕ) → 8 ≤ d → NoneTo d rs) → view table (lined r lines) values ≡ counting (view table (lined s lines) values) rs
+  sent-node none = ap (λ (x : Bare). view table (lined x lines) values) (k .is rs h) ∙ sent-view table (lined s lines) values (k .size) rs none
 
-  pub sent-fit : (w : Table) → isUnfit w s values ≡ false → isUnfit w r values ≡ false
-  sent-fit w f = counts-fit w s r values _ (k .is rs h) f
+  pub sent-fit : (w : Table) → isUnfit w (lined s lines) values ≡ false → isUnfit w (lined r lines) values ≡ false
+  sent-fit w f = counts-fit w (lined s lines) (lined r lines) values _ (ap (λ (x : Bare). lined x lines) (k .is rs h)) f
 
   pub sent-settings : r .settings ≡ s .settings
-  sent-settings = ap (λ (x : State). x .settings) (k .is rs h)
+  sent-settings = ap (λ (x : Bare). x .settings) (k .is rs h)
+
+  pub sent-clients : r .clients ≡ s .clients
+  sent-clients = ap (λ (x : Bare). x .clients) (k .is rs h)

@@ -14,7 +14,7 @@ use Rattle.message.specs.Line.{Line, whole, overlong}
 use Rattle.plain.specs.Node.{closed, connected, receive}
 use Rattle.state.specs.declared.Clients.{Clients}
 use Rattle.state.specs.View.{isSet, bit, lineBytes, lineAt, clientAt}
-use Rattle.state.specs.contracts.Changed.{withOverlong, withBytes, withJoined}
+use Rattle.state.specs.Changed.{withOverlong, withBytes, withJoined}
 use Rattle.state.proofs.Becomes.{Becomes, Joinable, Sized, LinesFit}
 use Rattle.state.proofs.Areas.{other-line, written}
 use Rattle.state.proofs.Received.{receive-closed, receive-overlong, receive-whole, receive-over, any-append}
@@ -47,12 +47,11 @@ module _ (s : Clients) (c : ℕ) (bs : List ℕ) where
       (rw e (receive-by overlong overlong a bs (receive-overlong a bs) (yes (getD (s .open) c 0))))
       (λ m f k. f)
 
-module _ (s : Clients) (z : Sized s) (c : ℕ) (h : c < 8) (fits : LinesFit s) (bs : List ℕ) where
+module _ (s : Clients) (z : Sized s) (room : length (s .lines) ≡ 8192) (c : ℕ) (h : c < 8) (fits : LinesFit s) (bs : List ℕ) where
   line-length : length (lineBytes s c) ≡ getD (s .length) c 0
   unfolding lineBytes
   line-length =
       let n = fits c in
-      let e = z .room in
       length-take-le (getD (s .length) c 0) (drop (1024 * c) (s .lines)) (rw length-drop (omega arith))
 
   module _ (w : isSet (s .overlong) c ≡ false) where
@@ -76,7 +75,7 @@ module _ (s : Clients) (z : Sized s) (c : ℕ) (h : c < 8) (fits : LinesFit s) (
             isOverlong = unchanged (s .overlong) c;
             mask = unchanged (s .active) c;
             size = sized;
-            own = rw (sized .own) (written bs (s .lines) (1024 * c) (getD (s .length) c 0) (rw (z .room) (omega arith)));
+            own = rw (sized .own) (written bs (s .lines) (1024 * c) (getD (s .length) c 0) (rw room (omega arith)));
             others = λ d q. rw (sized .others d q) (other-line bs (s .lines) c (getD (s .length) c 0) d (getD (s .length) d 0) q o (fits d));
           }
 

@@ -11,6 +11,7 @@ use lib.Seq.{drop-cons}
 use borrow.Author.Tests.{ne-eqb, lt-ltb, le-ltb}
 use Rattle.ascii.specs.Bytes.{any}
 use Rattle.plain.specs.Node.{isActive, clientNumbers}
+use Rattle.state.specs.declared.Brief.{Brief}
 use Rattle.state.specs.declared.Clients.{Clients}
 use Rattle.state.specs.View.{isSet, bit, lineBytes, clientAt}
 use Rattle.state.specs.Fit.{clientUnfit, pastLast}
@@ -56,7 +57,7 @@ pub not-set : (l : List ℕ) (c : ℕ) → getD l c 0 ≡ 0 → isSet l c ≡ fa
 unfolding isSet
 not-set l c h = rw h
 
-module _ (s : Clients) (c : ℕ) where
+module _ (s : Brief) (c : ℕ) where
   pub nothing-dropped : getD (s .overlong) c 0 ≡ 0 → false ≡ isSet (s .overlong) c && isSet (s .length) c
   nothing-dropped h = rw (not-set (s .overlong) c h)
 

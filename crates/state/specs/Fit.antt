@@ -43,7 +43,7 @@ clientUnfit modules s c =
     || pastLast (getD (s .active) c 0) modules
     || (not (isSet (s .open) c) && (isSet (s .length) c || isSet (s .overlong) c || isSet (s .active) c))
 
--- [C-17, C-18]
+-- "State is unfit if, for this table: ..": a stored value is at fault, or a client is [C-17, C-18]
 unfoldable pub isUnfit : Table → State → List ℕ → Bool
 isUnfit w s values =
     settingsUnfit (s .settings) values 0 (parameters w)

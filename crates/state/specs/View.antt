@@ -25,7 +25,7 @@ use Rattle.state.specs.declared.State.{State}
 
 -- ## Clients
 
--- a flag
+-- a flag [C-19]
 unfoldable pub isSet : List ℕ → ℕ → Bool
 isSet flags c = not (eqb (getD flags c 0) 0)
 
@@ -33,7 +33,7 @@ isSet flags c = not (eqb (getD flags c 0) 0)
 unfoldable pub bit : ℕ → ℕ → Bool
 bit mask i = eqb (mask / 2 ^ i % 2) 1
 
--- the bytes of client c's unfinished line
+-- the bytes of client c's unfinished line [C-19]
 unfoldable pub lineBytes : Clients → ℕ → List ℕ
 lineBytes s c = take (getD (s .length) c 0) (drop (1024 * c) (s .lines))
 
@@ -86,7 +86,7 @@ nextSettings s r = record { clients = s .clients; settings = r; counts = s .coun
 abbrev pub nextCounts : State → List Counts → State
 nextCounts s r = record { clients = s .clients; settings = s .settings; counts = r }
 
--- [H-1, H-5]
+-- the plain node that a state stands for: its clients, what each parameter holds, and the counts [H-1, H-5]
 unfoldable pub view : List ℕ → State → List ℕ → Node
 view table s values =
     record {
@@ -113,7 +113,7 @@ unfoldable pub withHeld : List ℕ → ℕ → Held → List ℕ
 withHeld values p (valued v) = withStored values p v
 withHeld values p (failed f) = values
 
--- [L-28, H-1]
+-- and lengths, errors and times after it [L-28, H-1]
 unfoldable pub withSetting : Settings → ℕ → Held → ℕ → Settings
 withSetting s p (valued v) t = withLength s p (length v) t
 withSetting s p (failed f) t = withError s p (faultNumber f) t
@@ -133,6 +133,6 @@ settingsWith s (x ∷ xs) = settingsWith (withSetting s (x .parameter) (x .held)
 unfoldable pub outboxAfter : List ℕ → List Record → List ℕ
 outboxAfter outbox rs = sets outbox 0 (encodeAll rs)
 
--- [C-13]
+-- how many bytes these records are [C-13]
 unfoldable pub written : List Record → ℕ
 written rs = length (encodeAll rs)

@@ -1,2 +1,2 @@
-pub mod Changed
+pub mod Bare
 pub mod Counted

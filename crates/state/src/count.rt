@@ -1,4 +1,5 @@
 // What is counted of the clients. Any number is fit.
+use crate::Bare;
 use crate::State;
 use counter::Counts;
 use counter::counted;
@@ -34,7 +35,7 @@ pub fn cleared(s: State, c: usize) -> State
 }
 
 // "lines completed": one more of client c.
-pub fn line_counted(s: State, c: usize) -> State
+pub fn line_counted(s: Bare, c: usize) -> Bare
     requires { ⌜ c < 8 ⌝ }
     ensures { λ r. ⌜ LineCounted s c r ⌝ }
 {
@@ -43,7 +44,7 @@ pub fn line_counted(s: State, c: usize) -> State
     let mut counts = s.counts;
     let one = counts[c];
     counts[c] = counted(one, 1, 0, 0);
-    State {
+    Bare {
         clients,
         settings,
         counts,
@@ -60,7 +61,7 @@ fn with_sent(one: Counts, out: &[u8], written: usize, client: u8) -> Counts
 }
 
 // "errors replied", "updates sent": of each client, by the records in the first `written` bytes of an outbox.
-pub fn sent_counted(s: State, out: &[u8], written: usize) -> State
+pub fn sent_counted(s: Bare, out: &[u8], written: usize) -> Bare
     requires { ⌜ written ≤ 65536 ⌝ }
     ensures { λ r. ⌜ SentCounted s (now (out .entry)) written r ⌝ }
 {
@@ -73,7 +74,7 @@ pub fn sent_counted(s: State, out: &[u8], written: usize) -> State
         counts[c] = with_sent(one, out, written, c as u8);
         c += 1;
     }
-    State {
+    Bare {
         clients,
         settings,
         counts,
@@ -88,7 +89,7 @@ fn stopped(one: Counts) -> Counts
 }
 
 // Client c's counts.
-pub fn counts_of(s: State, c: usize) -> Counts
+pub fn counts_of(s: Bare, c: usize) -> Counts
     requires { ⌜ c < 8 ⌝ }
     ensures { λ r. ⌜ r ≡ countsAt (s .counts) c ⌝ }
 {

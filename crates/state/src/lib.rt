@@ -21,6 +21,14 @@ pub struct Clients {
     pub lines: [u8; CLIENTS * LINE],
 }
 
+// The clients without their lines, which are most of a state.
+pub struct Brief {
+    pub open: [u8; CLIENTS],
+    pub overlong: [u8; CLIENTS],
+    pub active: [u16; CLIENTS],
+    pub length: [u16; CLIENTS],
+}
+
 // Of each parameter: the length of its stored value (0: never set), the class of the error in the value's place (0: none), and the time of the
 // value or of the error.
 #[repr(C)]
@@ -34,6 +42,14 @@ pub struct Settings {
 #[repr(C)]
 pub struct State {
     pub clients: Clients,
+    pub settings: Settings,
+    pub counts: [Counts; CLIENTS],
+}
+
+// A state without its lines. The code below a call is handed this one, by value; what judges lines or joins bytes to them is lent them. A state is
+// large, and each copy of one is on the stack.
+pub struct Bare {
+    pub clients: Brief,
     pub settings: Settings,
     pub counts: [Counts; CLIENTS],
 }

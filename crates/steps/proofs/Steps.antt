@@ -19,7 +19,7 @@ use Rattle.index.specs.Search.{looked}
 use Rattle.index.specs.Accessibles.{accessibles, isNamed, findAccessible, indexOf, sought, seekSteps}
 use Rattle.index.proofs.Accepted.{steps-are-few, present-names-are-quick}
 use Rattle.report.specs.Judge.{numberOf, treeNumber, tableNumber}
-use Rattle.report.proofs.Faults.{no-fault, lowest-none}
+use Rattle.report.proofs.Faults.{no-fault, first-fault-none}
 use Rattle.message.specs.Line.{content, partsOf}
 use Rattle.message.specs.Request.{Request, identify, describe, ping, activate, deactivate, read, change, execute, count, malformed, check, request}
 use Rattle.plain.specs.Node.{Client, Node, put, withClient, lineOf, receive}
@@ -61,7 +61,7 @@ indexes-alter-no-answer table unfit n e index h i =
 tree-good : (t : Table) → treeNumber t ≡ 0 → (countsGood t ≡ true) × (namesGood t ≡ true)
 unfolding treeNumber
 tree-good t e =
-    let none-of = lowest-none _ e in
+    let none-of = first-fault-none _ e in
     (not-false (countsGood t) (no-fault 1 (not (countsGood t)) (none-of 0)), not-false (namesGood t) (no-fault 2 (not (namesGood t)) (none-of 1)))
 
 table-good : (s : List ℕ) → tableNumber s ≡ 0 → (countsGood (tableOf s) ≡ true) × (namesGood (tableOf s) ≡ true)

@@ -53,11 +53,11 @@ namesSought w (check m a v) = cond (isSome (w .edition)) (some (m, a)) none
 namesSought w count = none
 namesSought w malformed = none
 
--- the same of an event: a piece with a line feed ends a line
+-- the same of a piece: one with a line feed ends a line
 abbrev pub lineSought : Table → Node → ℕ → List ℕ → Option (List ℕ × List ℕ)
 lineSought w n c bs = cond (hasFeed bs) (namesSought w (requestOf n c bs)) none
 
--- [I-6]
+-- the same of an event: no other seeks [I-6]
 unfoldable pub eventSought : Table → Node → Event → Option (List ℕ × List ℕ)
 eventSought w n (Open c t) = none
 eventSought w n (Close c t) = none

@@ -58,8 +58,8 @@ figureLines sets k (p ∷ ps) = figureLine (p .moduleName) (p .it .name) (p .it 
 unfoldable pub startLine : ℕ → List ℕ
 startLine n = bytes "start " ++ decimal n ++ bytes "\n"
 
--- all of it, figures "after all of M-110's lines", "none after a refused start", for a replay that lends areas of 16,384 and outboxes of 32,768 bytes
--- [R-4, R-9, R-10, R-11, R-12, R-14]
+-- all of it, figures "after all of M-110's lines", "none after a refused start", for a replay that lends areas of 16,384 bytes and outboxes of
+-- 32,768 [R-4, R-14]
 unfoldable pub replayText : List ℕ → ℕ → List ℕ → List ℕ
 replayText table time trace =
     let read = takeBytes unread trace in

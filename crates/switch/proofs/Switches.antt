@@ -22,7 +22,7 @@ use Rattle.plain.specs.Node.{Client, closed, connected, Node, withClient, isAct
 use Rattle.plain.specs.Answer.{carried, activates, deactivates, inScope, outcome}
 use Rattle.sound.specs.Theorems.{ClientHeld, Sound}
 use Rattle.sound.proofs.Accepted.{accepted}
-use Rattle.sound.proofs.Records.{says-inactive, written-final}
+use Rattle.sound.proofs.Records.{inactive-within, written-final}
 use Rattle.sound.proofs.Room.{puts-none, puts-after, room-after}
 use Rattle.sound.proofs.Steps.{comes-activates}
 use Rattle.state.specs.declared.State.{State}
@@ -43,7 +43,7 @@ few table a i m f = let k = accepted table a .fewModules in let l = f .low in om
 
 pub inactive-room : (d : List ℕ) (c : ℕ) (m : Option (List ℕ)) → Named m → 32768 ≤ length d → RoomFor d 0 (final c (inactive m))
 inactive-room d c m e h =
-    let k = written-final c (inactive m) 72 (says-inactive m e) .short in
+    let k = written-final c (inactive m) 72 (inactive-within m e) .short in
     room-after [] (final c (inactive m)) d d 0 (puts-none d) (omega arith) h
 
 -- what a client of a state has active

@@ -13,6 +13,7 @@ ghost use Rattle.plain.specs.Node.{Node, isActive};
 ghost use Rattle.plain.specs.Answer.{activates, deactivates};
 ghost use Rattle.state.specs.View.{bit};
 ghost use Rattle.state.specs.Fit.{pastLast};
+ghost use Rattle.state.specs.contracts.Bare.{unlined};
 ghost use Rattle.outcome.specs.contracts.Ready.{Ready};
 ghost use Rattle.outcome.specs.contracts.Outcome.{OutcomeIs, ComesTo, Comes, ComesAtAny};
 ghost use Rattle.switch.specs.contracts.Scoped.{Scoped};
@@ -21,7 +22,7 @@ use outbox::write::put_final_switched;
 use outbox::write::put_final_switched_name;
 use outcome::Outcome;
 use search::find::module_count;
-use state::State;
+use state::Bare;
 use state::bits::with_bit;
 use state::bits::with_bits;
 use state::bits::without_bit;
@@ -33,11 +34,11 @@ pub fn activate_all<'a>(
     table: &'a [u8],
     values: &'a [u8],
     out: &mut [u8],
-    state: State,
+    state: Bare,
     client: u8,
 ) -> Outcome
-    requires { ⌜ Ready (now table) state (now values) (now out) client ⌝ }
-    ensures { λ r. ⌜ ((t : ℕ) → Comes (now (table .entry)) state (now (values .entry)) (now (out .entry)) client t r (now (values .entry))
+    requires { ⌜ Ready (now table) (unlined state) (now values) (now out) client ⌝ }
+    ensures { λ r. ⌜ ((t : ℕ) → Comes (now (table .entry)) (unlined state) (now (values .entry)) (now (out .entry)) client t r (now (values .entry))
         (now (out .exit)) (Request.activate none)) ⌝ }
 {
     let clients = state.clients;
@@ -54,13 +55,13 @@ pub fn activate<'a>(
     table: &'a [u8],
     values: &'a [u8],
     out: &mut [u8],
-    state: State,
+    state: Bare,
     client: u8,
     i: usize,
     module: &[u8],
 ) -> Outcome
-    requires { ⌜ Ready (now table) state (now values) (now out) client × Scoped (length (tableOf (now table) .modules)) i (now «module») ⌝ }
-    ensures { λ r. ⌜ ((t : ℕ) → ComesTo (now (table .entry)) state (now (values .entry)) (now (out .entry)) client t r (now (values .entry))
+    requires { ⌜ Ready (now table) (unlined state) (now values) (now out) client × Scoped (length (tableOf (now table) .modules)) i (now «module») ⌝ }
+    ensures { λ r. ⌜ ((t : ℕ) → ComesTo (now (table .entry)) (unlined state) (now (values .entry)) (now (out .entry)) client t r (now (values .entry))
         (now (out .exit)) (λ w n c t. activates w n c t (λ j. eqb j i) (some (now («module» .entry))))) ⌝ }
 {
     let clients = state.clients;

@@ -17,7 +17,7 @@ use Rattle.ascii.specs.contracts.Reader.{Ends, rest}
 use Rattle.datainfo.specs.Rules.{goodNames, isBetween}
 use Rattle.table.specs.Table as Table
 use Rattle.table.specs.Layout.{begins, moduleAt, modulesAt, headAt, wholeTable, readTable, Readable, orEmpty, tableOf}
-use Rattle.table.specs.Rules.{accessibleName, accessibleCount, countsGood, editionGood, namesGood, datainfosGood, initialsGood, lowest}
+use Rattle.table.specs.Rules.{accessibleName, accessibleCount, countsGood, editionGood, namesGood, datainfosGood, initialsGood, firstFault}
 use Rattle.table.specs.declared.layout.ModuleAt.{ModuleAt}
 use Rattle.table.specs.declared.layout.Heading as H
 use Rattle.table.specs.declared.layout.HeadAt.{HeadAt}
@@ -271,24 +271,24 @@ module _ (s : List ℕ) (b : Bool) (h : b ≡ isSome (readTable s)) (n : not b �
 
   module _ (c : Bool) (hc : (t : Table.Table) → wholeTable s ≡ some t → c ≡ countsGood t) where
     pub number-2 : not c ≡ true → 2 ≡ numberBelow6 (readTable s)
-    unfolding numberBelow6 lowest
+    unfolding numberBelow6 firstFault
     number-2 k = let g = is-read in rw (g .is, ← (hc (g .it) (whole (g .it) (g .is))), not-true c k)
 
     module _ (nc : not c ≡ false) (d : Bool) (hd : (t : Table.Table) → wholeTable s ≡ some t → d ≡ namesGood t) where
       pub number-3 : not d ≡ true → 3 ≡ numberBelow6 (readTable s)
-      unfolding numberBelow6 lowest
+      unfolding numberBelow6 firstFault
       number-3 k = let g = is-read in let w = whole (g .it) (g .is) in rw (g .is, ← (hc (g .it) w), not-false c nc, ← (hd (g .it) w), not-true d k)
 
       module _ (nd : not d ≡ false) (e : Bool) (he : (t : Table.Table) → wholeTable s ≡ some t → e ≡ datainfosGood t) where
         pub number-4 : not e ≡ true → 4 ≡ numberBelow6 (readTable s)
-        unfolding numberBelow6 lowest
+        unfolding numberBelow6 firstFault
         number-4 k = let g = is-read in let w = whole (g .it) (g .is) in rw (g .is, ← (hc (g .it) w), not-false c nc, ← (hd (g .it) w), not-false d nd, ← (he (g .it) w), not-true e k)
 
         module _ (ne : not e ≡ false) (f : Bool) (hf : (t : Table.Table) → wholeTable s ≡ some t → f ≡ initialsGood t) where
           pub number-5 : not f ≡ true → 5 ≡ numberBelow6 (readTable s)
-          unfolding numberBelow6 lowest
+          unfolding numberBelow6 firstFault
           number-5 k = let g = is-read in let w = whole (g .it) (g .is) in rw (g .is, ← (hc (g .it) w), not-false c nc, ← (hd (g .it) w), not-false d nd, ← (he (g .it) w), not-false e ne, ← (hf (g .it) w), not-true f k)
 
           pub number-0 : not f ≡ false → 0 ≡ numberBelow6 (readTable s)
-          unfolding numberBelow6 lowest
+          unfolding numberBelow6 firstFault
           number-0 k = let g = is-read in let w = whole (g .it) (g .is) in rw (g .is, ← (hc (g .it) w), not-false c nc, ← (hd (g .it) w), not-false d nd, ← (he (g .it) w), not-false e ne, ← (hf (g .it) w), not-false f k)

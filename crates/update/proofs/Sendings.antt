@@ -14,7 +14,7 @@ use Rattle.ascii.specs.contracts.Writer.{Puts}
 use Rattle.ascii.proofs.Puts.{puts-length, puts-both}
 use Rattle.ascii.proofs.Decimal.{seconds-low}
 use Rattle.message.specs.Error.{Fault}
-use Rattle.message.specs.Reply.{Held, valued, failed, heldAs, Report, updateWord, updateLine}
+use Rattle.message.specs.Reply.{Held, valued, failed, heldAs, DataReport, updateWord, updateLine}
 use Rattle.message.specs.contracts.Said.{reportOf}
 use Rattle.message.proofs.Said.{held-short, report-length}
 use Rattle.outbox.specs.Outbox.{Record, update, body, encode, encodeAll}
@@ -84,7 +84,7 @@ module _ (m a : List ℕ) (o : Option Fault) (v : List ℕ) (t : ℕ) where
 
 -- ## Updates to one client and the next
 
-module _ (f : ℕ → Client) (i : ℕ) (r : Report) where
+module _ (f : ℕ → Client) (i : ℕ) (r : DataReport) where
   updates-cond : (c : ℕ) → updatesTo f i r (c ∷ []) ≡ cond (isActive (f c) i) (update c r ∷ []) []
   unfolding updatesTo
   updates-cond c = append-nil (cond (isActive (f c) i) (update c r ∷ []) [])
@@ -104,23 +104,23 @@ module _ (f : ℕ → Client) (i : ℕ) (r : Report) where
 
 -- to client c, of which b says whether it has the module active
 module _ (f : ℕ → Client) (i c : ℕ) (b : Bool) (h : b ≡ isActive (f c) i) where
-  is-update : (r : Report) → b ≡ true → updatesTo f i r (c ∷ []) ≡ update c r ∷ []
+  is-update : (r : DataReport) → b ≡ true → updatesTo f i r (c ∷ []) ≡ update c r ∷ []
   is-update r e = updates-cond f i r c ∙ rw (← h, e)
 
   pub to-room : (d : List ℕ) (at : ℕ) (m a : List ℕ) (o : Option Fault) (v : List ℕ) (t : ℕ) → b ≡ true → length m + length a + length v ≤ 1024 → t < 2 ^ 64
       → at + length (encodeAll (updatesTo f i (reportOf m a (heldAs o v) t) (c ∷ []))) ≤ length d → RoomFor d at (update c (reportOf m a (heldAs o v) t))
   to-room d at m a o v t e s k l = room-update m a o v t d at c s k (rw (is-update (reportOf m a (heldAs o v) t) e) at l)
 
-  pub to-active : (r : Report) {d e : List ℕ} {at p : ℕ} → b ≡ true → Puts d at (encode (update c r)) e p
+  pub to-active : (r : DataReport) {d e : List ℕ} {at p : ℕ} → b ≡ true → Puts d at (encode (update c r)) e p
       → Puts d at (encodeAll (updatesTo f i r (c ∷ []))) e p
   to-active r e x = rw (is-update r e, encode-one (update c r)) x
 
-  pub to-none : (r : Report) (d : List ℕ) (at : ℕ) → b ≡ false → Puts d at (encodeAll (updatesTo f i r (c ∷ []))) d at
+  pub to-none : (r : DataReport) (d : List ℕ) (at : ℕ) → b ≡ false → Puts d at (encodeAll (updatesTo f i r (c ∷ []))) d at
   to-none r d at e = rw (updates-cond f i r c, ← h, e) (puts-none d)
 
 -- ## Updates to all clients, of which the first c have theirs
 
-module _ {d : List ℕ} {at : ℕ} (f : ℕ → Client) (i : ℕ) (r : Report) {e : List ℕ} {p : ℕ} (c : ℕ)
+module _ {d : List ℕ} {at : ℕ} (f : ℕ → Client) (i : ℕ) (r : DataReport) {e : List ℕ} {p : ℕ} (c : ℕ)
     (g : Going d at (updatesTo f i r clientNumbers) (updatesTo f i r (drop c clientNumbers)) e p) where
   module _ (h : c < 8) where
     split : Going d at (updatesTo f i r clientNumbers) (updatesTo f i r (c ∷ []) ++ updatesTo f i r (drop (c + 1) clientNumbers)) e p

@@ -13,7 +13,7 @@ use borrow.Author.Tests.{not-true, not-false}
 use Rattle.ascii.specs.contracts.Writer.{Puts}
 use Rattle.ascii.specs.Text.{bytes}
 use Rattle.message.specs.Error.{Fault, faultOf}
-use Rattle.message.specs.Reply.{heldAs, Report}
+use Rattle.message.specs.Reply.{heldAs, DataReport}
 use Rattle.message.specs.contracts.Said.{reportOf}
 use Rattle.outbox.specs.Outbox.{Record, update, body, encode, encodeAll}
 use Rattle.outbox.specs.contracts.Written.{RoomFor}
@@ -53,7 +53,7 @@ use Rattle.update.proofs.Sendings.{Going, going-start, going-room, goin
 -- ## One parameter
 
 -- one update, if the scope has the module that is the latest at e
-abbrev pub updateIf : Scope → ℕ → Cursor → Report → List Record
+abbrev pub updateIf : Scope → ℕ → Cursor → DataReport → List Record
 updateIf scope c e r = cond (wanted scope (e .modules - 1)) (update c r ∷ []) []
 
 module _ (table : List ℕ) (s : Settings) (values out : List ℕ) (at c : ℕ) (scope : Scope) (k : ℕ) (q : ParameterAt) (e : Cursor)
@@ -76,7 +76,7 @@ module _ (table : List ℕ) (s : Settings) (values out : List ℕ) (at c : ℕ) 
     shown-put x = rw (← h, not-false b z, encode-one (update c (shownReport table s values k q e)), same-report) x
 
 -- room for the update of a fine report
-fine-room : (d : List ℕ) (at c : ℕ) (r : Report) → Fine r → at + length (encodeAll (update c r ∷ [])) ≤ length d → RoomFor d at (update c r)
+fine-room : (d : List ℕ) (at c : ℕ) (r : DataReport) → Fine r → at + length (encodeAll (update c r ∷ [])) ≤ length d → RoomFor d at (update c r)
 unfolding body bytes
 fine-room d at c r f h = record { fits = rw (encode-one (update c r)) at h; short = simp length-append (omega (arith, update-short r f)) }
 
@@ -138,7 +138,7 @@ module _ (table : List ℕ) (s : Settings) (values : List ℕ) (c : ℕ) (scope 
             ∙ ap (λ (l : List ℕ). holding (heldAs (faultOf (getD (s .error) k 0)) (cond (eqb (getD (s .length) k 0) 0) l (storedText s values k))) (getD (s .time) k 0))
             (initial-lies table (tableOf table) (was-read table a) k it there)
 
-        abbrev own : Report
+        abbrev own : DataReport
         own = shownReport table s values k q n
 
         report-is : Node.reportOf it (shownAt k) ≡ own
@@ -149,7 +149,7 @@ module _ (table : List ℕ) (s : Settings) (values : List ℕ) (c : ℕ) (scope 
         unfolding updatesOf
         step =
             ap (updatesOf c (wanted scope) shownAt k) (drop-there k (parameters (tableOf table)) it there)
-            ∙ ap (λ (x : Report). updateIf scope c n x ++ updatesOf c (wanted scope) shownAt (suc k) (drop (k + 1) (parameters (tableOf table)))) report-is
+            ∙ ap (λ (x : DataReport). updateIf scope c n x ++ updatesOf c (wanted scope) shownAt (suc k) (drop (k + 1) (parameters (tableOf table)))) report-is
             ∙ ap (λ (j : ℕ). updateIf scope c n own ++ updatesOf c (wanted scope) shownAt j (drop (k + 1) (parameters (tableOf table)))) (sym (add-one k))
 
         next : Going d 0 every (updateIf scope c n own ++ left (k + 1)) e p

@@ -13,6 +13,7 @@ ghost use Rattle.table.specs.Layout.{tableOf};
 ghost use Rattle.table.specs.Search.{parameters};
 ghost use Rattle.plain.specs.Node.{clientNumbers, updatesTo, updatesOf};
 ghost use Rattle.state.specs.View.{clientAt, view};
+ghost use Rattle.state.specs.contracts.Bare.{unlined, withLines};
 ghost use Rattle.outcome.specs.contracts.Ready.{Ready};
 ghost use Rattle.update.specs.contracts.Scope.{wanted};
 ghost use Rattle.update.specs.contracts.Updatable.{shownReport, Updatable};
@@ -24,9 +25,9 @@ use search::cursor::Cursor;
 use search::cursor::NextParameter;
 use search::cursor::first_cursor;
 use search::cursor::next_parameter;
-use state::Clients;
+use state::Bare;
+use state::Brief;
 use state::Settings;
-use state::State;
 use state::client::is_active;
 use state::setting::sensor_at;
 use state::setting::shown;
@@ -43,7 +44,7 @@ pub enum Scope {
 fn put_update_to(
     out: &mut [u8],
     at: usize,
-    clients: Clients,
+    clients: Brief,
     c: usize,
     home: usize,
     module: &[u8],
@@ -52,10 +53,10 @@ fn put_update_to(
     value: &[u8],
     time: u64,
 ) -> usize
-    requires { ⌜ (c < 8) × ((home < 16) × ((at + length (encodeAll (updatesTo (clientAt clients) home
+    requires { ⌜ (c < 8) × ((home < 16) × ((at + length (encodeAll (updatesTo (clientAt (withLines clients [])) home
         (reportOf (now «module») (now accessible) (heldBy sensor (now value)) time) (c ∷ []))) ≤ length (now out))
         × (length (now «module») + length (now accessible) + length (now value) ≤ 1024))) ⌝ }
-    ensures { λ r. ⌜ Puts (now (out .entry)) at (encodeAll (updatesTo (clientAt clients) home
+    ensures { λ r. ⌜ Puts (now (out .entry)) at (encodeAll (updatesTo (clientAt (withLines clients [])) home
         (reportOf (now («module» .entry)) (now (accessible .entry)) (heldBy sensor (now (value .entry))) time) (c ∷ []))) (now (out .exit)) r ⌝ }
 {
     if is_active(clients, c, home) {
@@ -68,7 +69,7 @@ fn put_update_to(
 pub fn put_updates_to(
     out: &mut [u8],
     at: usize,
-    clients: Clients,
+    clients: Brief,
     home: usize,
     module: &[u8],
     accessible: &[u8],
@@ -76,10 +77,10 @@ pub fn put_updates_to(
     value: &[u8],
     time: u64,
 ) -> usize
-    requires { ⌜ (home < 16) × ((at + length (encodeAll (updatesTo (clientAt clients) home
+    requires { ⌜ (home < 16) × ((at + length (encodeAll (updatesTo (clientAt (withLines clients [])) home
         (reportOf (now «module») (now accessible) (heldBy sensor (now value)) time) clientNumbers)) ≤ length (now out))
         × (length (now «module») + length (now accessible) + length (now value) ≤ 1024)) ⌝ }
-    ensures { λ r. ⌜ Puts (now (out .entry)) at (encodeAll (updatesTo (clientAt clients) home
+    ensures { λ r. ⌜ Puts (now (out .entry)) at (encodeAll (updatesTo (clientAt (withLines clients [])) home
         (reportOf (now («module» .entry)) (now (accessible .entry)) (heldBy sensor (now (value .entry))) time) clientNumbers)) (now (out .exit)) r ⌝ }
 {
     let mut end = at;
@@ -148,13 +149,13 @@ pub fn put_updates_of<'a>(
     table: &'a [u8],
     values: &'a [u8],
     out: &mut [u8],
-    state: State,
+    state: Bare,
     client: u8,
     scope: Scope,
 ) -> usize
-    requires { ⌜ Ready (now table) state (now values) (now out) client ⌝ }
-    ensures { λ r. ⌜ Puts (now (out .entry)) 0 (encodeAll (updatesOf client (wanted scope) (view (now (table .entry)) state (now (values .entry)) .values) 0
-        (parameters (tableOf (now (table .entry)))))) (now (out .exit)) r ⌝ }
+    requires { ⌜ Ready (now table) (unlined state) (now values) (now out) client ⌝ }
+    ensures { λ r. ⌜ Puts (now (out .entry)) 0 (encodeAll (updatesOf client (wanted scope)
+        (view (now (table .entry)) (unlined state) (now (values .entry)) .values) 0 (parameters (tableOf (now (table .entry)))))) (now (out .exit)) r ⌝ }
 {
     let settings = state.settings;
     let mut end = 0;

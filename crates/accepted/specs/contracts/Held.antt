@@ -15,8 +15,8 @@ use Rattle.plain.specs.Answer.{answerParts, answerSets, lineSteps}
 use Rattle.state.specs.declared.Clients.{Clients}
 use Rattle.state.specs.declared.State.{State}
 use Rattle.state.specs.View.{isSet, lineBytes}
-use Rattle.outcome.specs.contracts.Outcome.{Answers}
 use Rattle.outcome.specs.declared.Replied.{Replied}
+use Rattle.promise.specs.contracts.Leaves.{AnswersEnded}
 
 -- no line feed
 abbrev pub Unfed : List ℕ → Type 0
@@ -34,5 +34,5 @@ heldAnswer w n c t = answerParts w (lineTaken n c) c t (partsOf (content (lineOf
 -- the next node and the records x, and with the steps of the line's search
 pub record AnswersHeld (table index : List ℕ) (s : State) (values before : List ℕ) (n : Node) (c t : ℕ) (r : Replied)
     (stored after : List ℕ) (x : Node × List Record) : Type 0 where
-  pub answers : Answers table (s .settings) values before (r .answered) stored after x (answerSets (tableOf table) n c t)
+  pub answers : AnswersEnded table s values before c (r .answered) stored after x (answerSets (tableOf table) n c t)
   pub steps : r .steps ≡ lineSteps (tableOf table) index n c

@@ -1,5 +1,6 @@
 -- `access::change` meets its contract. Assumes nothing.
 use borrow.Author.Needs.{needs}
+use Rattle.state.specs.contracts.Bare.{unlined}
 use Rattle.access.proofs.Filled.{fill-given, filled-within, filled-length, change-filled}
 use Rattle.access.proofs.change.Statement.{statement}
 use Rattle.access.proofs.change.Tie as tie
@@ -29,7 +30,7 @@ returns : tie.Need-returns
 returns c =
     let start = c .before .before .before .before .before .before .before .before .before .before .before .before .before .before .before .before .before .before in
     let came = c .before .before .before .before .change-whole in
-    change-filled (start .args .table .now) (start .args .state) (start .args .values .now) _ _ _ _ _ _ (c .before .before .before .before .before .before .before .before .before .fill .ensures)
+    change-filled (start .args .table .now) (unlined (start .args .state)) (start .args .values .now) _ _ _ _ _ _ (c .before .before .before .before .before .before .before .before .before .fill .ensures)
     (start .args .client) (start .args .time) (came .result) (start .args .out .now) (came .last .1 .1 .0) (came .last .1 .0) (came .ensures)
 
 pub change-spec : {M : Type 1} → statement M

@@ -1,5 +1,6 @@
 -- `access::check` meets its contract. Assumes nothing.
 use borrow.Author.Needs.{needs}
+use Rattle.state.specs.contracts.Bare.{unlined}
 use Rattle.access.proofs.Filled.{fill-given, filled-within, filled-length, check-filled}
 use Rattle.access.proofs.check.Statement.{statement}
 use Rattle.access.proofs.check.Tie as tie
@@ -26,9 +27,9 @@ returns : tie.Need-returns
 returns c =
     let start = c .before .before .before .before .before .before .before .before .before .before .before .before .before .before in
     let came = c .before .before .check-whole in
-    check-filled (start .args .table .now) (start .args .state) (start .args .values .now) _ _ _ _ _ _ (c .before .before .before .before .before .before .fill .ensures)
+    check-filled (start .args .table .now) (unlined (start .args .state)) (start .args .values .now) _ _ _ _ _ _ (c .before .before .before .before .before .before .fill .ensures)
     (start .args .client) (start .args .time) (came .result) (start .args .out .now) (came .last .1 .0) (start .args .values .now)
-    (came .ensures (start .args .state) (start .args .values .now))
+    (came .ensures (unlined (start .args .state)) (start .args .values .now))
 
 pub check-spec : {M : Type 1} → statement M
 check-spec =

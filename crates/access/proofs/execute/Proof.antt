@@ -1,6 +1,6 @@
 -- `access::execute` meets its contract. Assumes nothing.
 use Rattle.access.proofs.Finding.{argument-known, command-known}
-use Rattle.access.proofs.Executed.{execute-refused, execute-ordered, execute-sent}
+use Rattle.access.proofs.Executed.{execute-denied, execute-ordered, execute-sent}
 use borrow.Author.Needs.{needs}
 use Rattle.access.proofs.execute.Statement.{statement}
 use Rattle.access.proofs.execute.Tie as tie
@@ -27,7 +27,7 @@ order-requires c κs =
 returns : tie.Need-returns
 returns c =
     let start = c .before .before .before .before .before .before .before .before .before .before in
-    execute-refused _ _ _ _ (start .pre .0) _ _ _ _ _ _ (start .pre .1 .1) _ (c .before .before .before .before .argument-verdict .ensures) _ (c .before .before .before .let-in .ensures) _ (c .before .class .given .1)
+    execute-denied _ _ _ _ (start .pre .0) _ _ _ _ _ _ (start .pre .1 .1) _ (c .before .before .before .before .argument-verdict .ensures) _ (c .before .before .before .let-in .ensures) _ (c .before .class .given .1)
 
 same-length : tie.Need-same-length
 same-length c = search needs

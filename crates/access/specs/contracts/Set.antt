@@ -11,7 +11,7 @@ use Rattle.ascii.specs.contracts.Writer.{Puts}
 use Rattle.datainfo.specs.Datainfo.{Datainfo}
 use Rattle.fit.specs.Fit.{storedForm}
 use Rattle.form.specs.contracts.Formed.{FitsAt}
-use Rattle.message.specs.Reply.{valued, Report, changed}
+use Rattle.message.specs.Reply.{valued, DataReport, changed}
 use Rattle.message.specs.contracts.Said.{reportOf}
 use Rattle.outbox.specs.Outbox.{Record, final, orderChange, encodeAll}
 use Rattle.report.specs.Judge.{tableNumber}
@@ -28,7 +28,7 @@ use Rattle.access.specs.contracts.Busy.{StatusLow, FindsStatus, withStat
 -- status that is set to the text b
 unfoldable pub setRecords : Clients → Status → List ℕ → ℕ → ℕ → ℕ → List ℕ → List ℕ → List ℕ → ℕ → List Record
 setRecords s first b c k h m a v t =
-    let r : Report = reportOf m a (valued v) t in
+    let r : DataReport = reportOf m a (valued v) t in
     orderChange c k v ∷ ((statusUpdates s first m b t ++ updatesTo (clientAt s) h r clientNumbers) ++ (final c (changed r) ∷ []))
 
 -- the parameter a of the module m has these numbers, reports of it can be written, and the outbox has room for the records

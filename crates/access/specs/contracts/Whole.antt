@@ -14,7 +14,7 @@ use Rattle.table.specs.Search.{Placed, findParameter}
 use Rattle.search.specs.contracts.Found.{ParameterFound}
 use Rattle.message.specs.Error.{class, ReadOnly}
 use Rattle.plain.specs.Node.{Node}
-use Rattle.plain.specs.Answer.{Outcome, refused, letIn, shownValue, sets, shows}
+use Rattle.plain.specs.Answer.{Outcome, denied, letIn, shownValue, sets, shows}
 use Rattle.state.specs.declared.State.{State}
 use Rattle.state.specs.View.{view}
 use Rattle.outcome.specs.contracts.Ready.{Ready}
@@ -22,7 +22,7 @@ use Rattle.outcome.specs.contracts.Ready.{Ready}
 -- what f makes of the stored form of a text that is let in as it is
 unfoldable pub judgingWhole : (ℕ × Placed Parameter → List ℕ → Outcome) → List ℕ → ℕ × Placed Parameter → Outcome
 judgingWhole f v k =
-    cond (k .1 .it .readonly) (refused (class ReadOnly))
+    cond (k .1 .it .readonly) (denied (class ReadOnly))
     (letIn (verdict (k .1 .it .datainfo) v) (f k (storedForm (k .1 .it .datainfo) v)))
 
 abbrev pub changesWhole : Table → Node → ℕ → ℕ → List ℕ → ℕ × Placed Parameter → Outcome

@@ -14,7 +14,7 @@ use Rattle.decimal.specs.Decimal.{Decimal, numeralFrom, numeral}
 use Rattle.datainfo.specs.Datainfo.{Datainfo}
 use Rattle.datainfo.specs.Layout.{limit, datainfoAt}
 use Rattle.fit.specs.Fit.{isStored}
-use Rattle.figures.specs.Figures.{isNarrow, isSummed, least, greatest, total, full, kept}
+use Rattle.figures.specs.Figures.{isNarrow, isSummed, least, greatest, total, full, firstSettings}
 use Rattle.figures.specs.declared.Tally.{Tally}
 use Rattle.figures.specs.declared.Figures.{Figures}
 
@@ -64,8 +64,8 @@ Sums (x ∷ xs) t =
 
 -- and for these settings of a parameter
 pub record Tallies (d : Datainfo) (vs : List (List ℕ)) (t : Tally) : Type 0 where
-  pub count : t .count ≡ length (kept vs)
-  pub numbers : isSummed d ≡ true → Sums (map numeral (kept vs)) t
+  pub count : t .count ≡ length (firstSettings vs)
+  pub numbers : isSummed d ≡ true → Sums (map numeral (firstSettings vs)) t
 
 -- ## Its line, by what is kept
 

@@ -9,14 +9,14 @@ use Rattle.message.specs.Error.{Denial, class, fault}
 use Rattle.message.specs.Reply.{error}
 use Rattle.message.specs.contracts.Said.{classOf, faultAs}
 use Rattle.outbox.specs.Outbox.{final, encode}
-use Rattle.state.specs.declared.State.{State}
+use Rattle.state.specs.declared.Bare.{Bare}
 use Rattle.state.specs.View.{withLength, settingsWith}
-use Rattle.state.specs.contracts.Changed.{withActive}
+use Rattle.state.specs.contracts.Bare.{briefActive}
 use Rattle.outcome.specs.contracts.Outcome.{statusSettings}
 use Rattle.outcome.specs.declared.Status.{Status}
 use Rattle.outcome.specs.declared.Status.the-variants.{Stays, Busy}
 use Rattle.outcome.specs.declared.Outcome.{Outcome}
-use Rattle.outcome.specs.declared.Outcome.the-variants.{Refused, Unreadable, Sent, Active, Stored}
+use Rattle.outcome.specs.declared.Outcome.the-variants.{Denied, Unreadable, Sent, Active, Stored}
 use Rattle.outcome.specs.declared.Answered.{Answered}
 
 -- an outbox that has room for an error line, and an action and a specifier of a line
@@ -32,14 +32,14 @@ StatusNumbered (Busy k h) = k < 64
 
 -- what an outcome asks for: an error, that it can be answered; a stored value, numbers of parameters and a length that it may have
 abbrev pub Concludable : List ℕ → List ℕ → List ℕ → Outcome → Type 0
-Concludable out action specifier (Refused e) = Deniable out action specifier
+Concludable out action specifier (Denied e) = Deniable out action specifier
 Concludable out action specifier (Unreadable f since) = Deniable out action specifier
 Concludable out action specifier (Sent written) = Unit
 Concludable out action specifier (Active mask written) = Unit
 Concludable out action specifier (Stored first k size written) = StatusNumbered first × ((k < 64) × (size ≤ 256))
 
 -- Handed the state s, for client c at the time t: the outbox held `before` and holds `after`, and the answer is r.
-module _ (before after : List ℕ) (s : State) (c t : ℕ) (r : Answered) where
+module _ (before after : List ℕ) (s : Bare) (c t : ℕ) (r : Answered) where
   -- "Errors: `error_ACTION SPECIFIER [..]`, action and specifier as sent."; the state stays
   pub record Denies (action specifier : List ℕ) (e : Denial) : Type 0 where
     pub state : r .state ≡ s
@@ -59,7 +59,7 @@ module _ (before after : List ℕ) (s : State) (c t : ℕ) (r : Answered) where
   pub record Switches (mask written : ℕ) : Type 0 where
     pub keeps : Keeps written
     pub settings : r .state .settings ≡ s .settings
-    pub clients : r .state .clients ≡ withActive (s .clients) c mask
+    pub clients : r .state .clients ≡ briefActive (s .clients) c mask
     pub counts : r .state .counts ≡ s .counts
 
   -- after a status parameter k has a stored value of so many bytes, from this time on
@@ -70,7 +70,7 @@ module _ (before after : List ℕ) (s : State) (c t : ℕ) (r : Answered) where
     pub counts : r .state .counts ≡ s .counts
 
   abbrev pub Concludes : List ℕ → List ℕ → Outcome → Type 0
-  Concludes action specifier (Refused e) = Denies action specifier (class (classOf e))
+  Concludes action specifier (Denied e) = Denies action specifier (class (classOf e))
   Concludes action specifier (Unreadable f since) = Denies action specifier (fault (faultAs f) since)
   Concludes action specifier (Sent written) = Passes written
   Concludes action specifier (Active mask written) = Switches mask written

@@ -5,7 +5,7 @@ use mathlib.Core.Option.{Option, none, some}
 use Rattle.ascii.specs.Text.{bytes}
 use Rattle.message.specs.Error as Error
 use Rattle.message.specs.Error.{faultName}
-use Rattle.message.specs.Reply.{Held, heldAs, Report, dataReport}
+use Rattle.message.specs.Reply.{Held, heldAs, DataReport, dataReport}
 use Rattle.message.specs.declared.say.Class.{Class}
 use Rattle.message.specs.declared.say.Class.the-variants.{ProtocolError, NoSuchModule, NoSuchParameter, NoSuchCommand, ReadOnly}
 use Rattle.message.specs.declared.say.Class.the-variants.{BadJSON, WrongType, RangeError}
@@ -45,7 +45,7 @@ sensorFault (Fails f) = some (faultAs f)
 abbrev pub heldBy : Sensor → List ℕ → Held
 heldBy s v = heldAs (sensorFault s) v
 
-abbrev pub reportOf : List ℕ → List ℕ → Held → ℕ → Report
+abbrev pub reportOf : List ℕ → List ℕ → Held → ℕ → DataReport
 reportOf m a h t = record { moduleName = m; accessible = a; held = h; time = t }
 
 -- what stands before the time in a report of why a parameter can't be read

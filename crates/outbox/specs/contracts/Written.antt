@@ -5,7 +5,7 @@ use mathlib.Core.Option.{Option}
 use lib.ListN.{length}
 use Rattle.ascii.specs.Text.{bytes}
 use Rattle.ascii.specs.Numbers.{twoBytes}
-use Rattle.message.specs.Reply.{Report, Reply, active, inactive, reply, changed, done, checked}
+use Rattle.message.specs.Reply.{DataReport, Reply, active, inactive, reply, changed, done, checked}
 use Rattle.outbox.specs.Outbox.{Record, body, encode}
 use Rattle.outbox.specs.declared.write.Told.{Told}
 use Rattle.outbox.specs.declared.write.Told.the-variants as Told
@@ -35,7 +35,7 @@ pub record RoomFor (out : List ℕ) (at : ℕ) (r : Record) : Type 0 where
 unfoldable pub describingStart : ℕ → ℕ → List ℕ
 describingStart c n = bytes "RP" ++ (c ∷ twoBytes (n + 14)) ++ bytes "describing . "
 
-abbrev pub toldReply : Told → Report → Reply
+abbrev pub toldReply : Told → DataReport → Reply
 toldReply Told.Reply = reply
 toldReply Told.Changed = changed
 toldReply Told.Done = done

@@ -16,16 +16,17 @@ use Rattle.message.specs.Reply.{valued, Reply}
 use Rattle.outbox.specs.Outbox.{Record, final, encodeAll}
 use Rattle.plain.specs.Node.{Node, withClient, Setting, withSettings, activated}
 use Rattle.plain.specs.Answer as Plain
-use Rattle.plain.specs.Answer.{refused, carried, busy, outcome}
+use Rattle.plain.specs.Answer.{denied, carried, busy, outcome}
 use Rattle.message.specs.Request.{Request}
-use Rattle.state.specs.declared.Settings.{Settings}
+use Rattle.state.specs.declared.Bare.{Bare}
 use Rattle.state.specs.declared.State.{State}
 use Rattle.state.specs.View.{bit, view, areaWith, settingsWith}
 use Rattle.state.specs.Fit.{isUnfit, pastLast}
+use Rattle.state.specs.contracts.Bare.{unlined, briefMasks}
 use Rattle.outcome.specs.declared.Status.{Status}
 use Rattle.outcome.specs.declared.Status.the-variants.{Stays, Busy}
 use Rattle.outcome.specs.declared.Outcome.{Outcome}
-use Rattle.outcome.specs.declared.Outcome.the-variants.{Refused, Unreadable, Sent, Active, Stored}
+use Rattle.outcome.specs.declared.Outcome.the-variants.{Denied, Unreadable, Sent, Active, Stored}
 use Rattle.outcome.specs.declared.Answered.{Answered}
 
 -- what is set of a status at a time, and then of the parameter of number p
@@ -56,8 +57,8 @@ module _ (w : Table) (n : Node) (c t : ℕ) (before after values stored : List �
     pub is : o ≡ carried next set records reply
     pub puts : Puts before 0 (encodeAll (records ++ (final c reply ∷ []))) after written
 
-  -- the request o is refused, and nothing is altered
-  pub record Refuses (o : Plain.Outcome) (e : Plain.Outcome) : Type 0 where
+  -- the request o is denied, and nothing is altered
+  pub record IsDenied (o : Plain.Outcome) (e : Plain.Outcome) : Type 0 where
     pub is : o ≡ e
     pub quiet : after ≡ before
     pub area : stored ≡ values
@@ -85,8 +86,8 @@ module _ (w : Table) (n : Node) (c t : ℕ) (before after values stored : List �
   -- the code's outcome r stands for the plain node's outcome o. Two may stand for one: what alters nothing may be told with the mask that is there
   -- already
   abbrev pub OutcomeIs : Outcome → Plain.Outcome → Type 0
-  OutcomeIs (Refused e) o = Refuses o (refused (class (classOf e)))
-  OutcomeIs (Unreadable f since) o = Refuses o (refused (fault (faultAs f) since))
+  OutcomeIs (Denied e) o = IsDenied o (denied (class (classOf e)))
+  OutcomeIs (Unreadable f since) o = IsDenied o (denied (fault (faultAs f) since))
   OutcomeIs (Sent written) o = Sends o written
   OutcomeIs (Active mask written) o = Activates o mask written
   OutcomeIs (Stored first p size written) o = Stores o first p size written
@@ -118,12 +119,14 @@ abbrev pub OfCommand : List ℕ → List ℕ → ℕ → ℕ → Outcome → Lis
 OfCommand table before c t r after m a f = (n : Node) (values : List ℕ) (x : ℕ × Placed Command) → findCommand (tableOf table) m a ≡ some x
     → OutcomeIs (tableOf table) n c t before after values values r (f (tableOf table) n c t x)
 
--- A line is answered as the plain node has it, o, which sets ss: on the table's bytes, from the settings, the values area and the outbox as
--- they were.
-pub record Answers (table : List ℕ) (s : Settings) (values before : List ℕ) (r : Answered) (stored after : List ℕ) (o : Node × List Record)
+-- A line is answered as the plain node has it, o, which sets ss: on the table's bytes, from the state without its lines, the values area and the outbox
+-- as they were.
+pub record Answers (table : List ℕ) (s : Bare) (values before : List ℕ) (r : Answered) (stored after : List ℕ) (o : Node × List Record)
     (ss : List Setting) : Type 0 where
-  pub node : view table (r .state) stored ≡ o .0
-  pub fit : isUnfit (tableOf table) (r .state) stored ≡ false
+  pub node : view table (unlined (r .state)) stored ≡ o .0
+  pub fit : isUnfit (tableOf table) (unlined (r .state)) stored ≡ false
   pub puts : Puts before 0 (encodeAll (o .1)) after (r .written)
   pub area : stored ≡ areaWith values ss
-  pub settings : r .state .settings ≡ settingsWith s ss
+  pub settings : r .state .settings ≡ settingsWith (s .settings) ss
+  -- of the clients only masks change
+  pub clients : r .state .clients ≡ briefMasks (s .clients) (r .state .clients .active)

@@ -18,7 +18,7 @@ abbrev pub numberAt : List ℕ → ℕ → ℕ → ℕ
 numberAt head at k = orZero (unsigned k (drop at head))
 
 -- an operation is what these bytes of a head say; its code is their first or, where the script has ended, 0
-pub record Says (head : List ℕ) (o : Operation) : Type 0 where
+pub record FromHead (head : List ℕ) (o : Operation) : Type 0 where
   pub code : (o .code ≡ 0) ⊎ (o .code ≡ getD head 0 0)
   pub number : o .number ≡ numberAt head 1 8
   pub time : o .time ≡ numberAt head 9 8

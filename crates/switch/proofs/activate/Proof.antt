@@ -1,7 +1,9 @@
 -- `switch::activate` meets its contract. Assumes nothing.
 use lib.Dec.{eqb}
+use mathlib.Core.List.{[]}
 use mathlib.Core.Option.{some}
-use Rattle.state.proofs.Becomes.{clients-sized}
+use Rattle.state.specs.contracts.Bare.{unlined}
+use Rattle.state.proofs.Becomes.{brief-sized}
 use Rattle.switch.proofs.Switches.{few, active-room, activated-one}
 use borrow.Author.Needs.{needs}
 use Rattle.switch.proofs.activate.Statement.{statement}
@@ -24,8 +26,8 @@ put-updates-of-requires c κs = c .before .before .before .before .before .befor
 put-final-switched-name-requires : tie.Need-put-final-switched-name-requires
 put-final-switched-name-requires c κs =
     let start = c .before .before .before .before .before .before .before .before .before .before .before .before in
-    let z = clients-sized (start .args .state .clients) (start .good .1 .1 .1 .0 .1 .1 .0) in
-    active-room _ (start .args .state) z _ _ _ (start .pre .0) (λ j. eqb j _) (some _) (start .pre .1 .named) _ _ (c .before .before .before .put-updates-of .ensures)
+    let z = brief-sized (start .args .state .clients) (start .good .1 .1 .1 .0 .1 .1 .0) [] in
+    active-room _ (unlined (start .args .state)) z _ _ _ (start .pre .0) (λ j. eqb j _) (some _) (start .pre .1 .named) _ _ (c .before .before .before .put-updates-of .ensures)
 
 same-length : tie.Need-same-length
 same-length c = search needs
@@ -33,9 +35,9 @@ same-length c = search needs
 returns : tie.Need-returns
 returns c =
     let start = c .before .before .before .before .before .before .before .before .before .before .before .before .before .before .before in
-    let z = clients-sized (start .args .state .clients) (start .good .1 .1 .1 .0 .1 .1 .0) in
+    let z = brief-sized (start .args .state .clients) (start .good .1 .1 .1 .0 .1 .1 .0) [] in
     λ t.
-    activated-one _ (start .args .state) z _ _ _ (start .pre .0) t _ _ _ _ _ _ _ (start .pre .1 .low)
+    activated-one _ (unlined (start .args .state)) z _ _ _ (start .pre .0) t _ _ _ _ _ _ _ (start .pre .1 .low)
     (c .before .before .before .before .before .before .before .before .with-bit .ensures) (c .before .before .before .before .before .before .put-updates-of .ensures) (c .before .before .put-final-switched-name .ensures)
 
 pub activate-spec : {M : Type 1} → statement M

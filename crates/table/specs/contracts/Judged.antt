@@ -16,7 +16,7 @@ use Rattle.fit.specs.Fit.{isStored}
 use Rattle.table.specs.Table.{Accessible, Module, Table}
 use Rattle.table.specs.Layout.{begins, moduleAt}
 use Rattle.table.specs.Rules.{accessibleName, accessibleCount, noteGood, accessibleNamesGood, moduleNamesGood, rulesKept}
-use Rattle.table.specs.Rules.{initialGood, lowest, faultsBelow6}
+use Rattle.table.specs.Rules.{initialGood, firstFault, faultsBelow6}
 use Rattle.table.specs.contracts.At.{bytesOf, Inside, accessibleBegins, accessibleAt, accessiblesFrom, modulesFrom}
 use Rattle.table.specs.declared.layout.Part.{Part}
 use Rattle.table.specs.declared.layout.ModuleAt.{ModuleAt}
@@ -132,4 +132,4 @@ few most ms = leb (accessibleCount ms) most
 -- the lowest of the numbers 1 to 5
 unfoldable pub numberBelow6 : Option Table → ℕ
 numberBelow6 none = 1
-numberBelow6 (some t) = lowest (faultsBelow6 t)
+numberBelow6 (some t) = firstFault (faultsBelow6 t)

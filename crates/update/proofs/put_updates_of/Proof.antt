@@ -4,6 +4,7 @@ use native.Mathlib.Omega.{arith}
 use Prim.Native.Nat.{_-_, _≤_}
 use Rattle.report.proofs.Faults.{accepted-readable}
 use Rattle.state.specs.View.{view}
+use Rattle.state.specs.contracts.Bare.{unlined}
 use Rattle.update.proofs.Showings.{Sent, sent-start, sent-way, sent-length, sent-all, sent-end, sent-on, next-shows}
 use Rattle.update.proofs.put_updates_of.Statement.{statement}
 use Rattle.update.proofs.put_updates_of.Tie as tie
@@ -44,7 +45,7 @@ returns c =
 put-shown-requires : tie.Need-put-shown-requires Inv-loop μ-loop
 put-shown-requires c κs =
     let start = c .before .before .before .before .before .before .before .before .before .before .before .before in
-    let given = next-shows (start .args .table .now) (start .args .state) (start .args .values .now) (start .args .client) (start .args .scope) (start .args .out .now) (start .pre) in
+    let given = next-shows (start .args .table .now) (unlined (start .args .state)) (start .args .values .now) (start .args .client) (start .args .scope) (start .args .out .now) (start .pre) in
     search given
 
 add-k : tie.Need-add-k Inv-loop μ-loop

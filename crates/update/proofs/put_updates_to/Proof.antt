@@ -2,18 +2,21 @@
 use borrow.Author.Needs.{needs}
 use native.Mathlib.Omega.{arith}
 use Prim.Native.Nat.{_-_, _≤_}
+use mathlib.Core.List.{[]}
 use lib.ListN.{drop}
 use Rattle.message.specs.contracts.Said.{heldBy, reportOf}
 use Rattle.plain.specs.Node.{clientNumbers, updatesTo}
 use Rattle.state.specs.View.{clientAt}
+use Rattle.state.specs.contracts.Bare.{withLines}
 use Rattle.update.proofs.Sendings.{Going, going-start, going-length, next-room, next-sent, all-sent}
 use Rattle.update.proofs.put_updates_to.Statement.{statement}
 use Rattle.update.proofs.put_updates_to.Tie as tie
 
 abbrev Inv-loop : tie.InvT-loop
 Inv-loop out₀ at clients home «module» accessible sensor value time end₀ c₀ out end c =
+    let s = clientAt (withLines clients []) in
     let r = reportOf «module» accessible (heldBy sensor value) time in
-    (c ≤ 8) × Going out₀ at (updatesTo (clientAt clients) home r clientNumbers) (updatesTo (clientAt clients) home r (drop c clientNumbers)) out end
+    (c ≤ 8) × Going out₀ at (updatesTo s home r clientNumbers) (updatesTo s home r (drop c clientNumbers)) out end
 
 abbrev μ-loop : tie.MeasureT-loop
 μ-loop out₀ at clients home «module» accessible sensor value time end₀ c₀ out end c = 8 - c

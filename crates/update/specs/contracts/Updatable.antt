@@ -5,7 +5,7 @@ use mathlib.Core.List.{List}
 use mathlib.Core.Path.{_≡_}
 use lib.ListN.{length, getD}
 use Rattle.message.specs.Error.{faultOf}
-use Rattle.message.specs.Reply.{heldAs, Report}
+use Rattle.message.specs.Reply.{heldAs, DataReport}
 use Rattle.outbox.specs.Outbox.{update}
 use Rattle.outbox.specs.contracts.Written.{RoomFor}
 use Rattle.table.specs.declared.layout.ParameterAt.{ParameterAt}
@@ -18,7 +18,7 @@ use Rattle.update.specs.declared.Scope.{Scope}
 use Rattle.update.specs.contracts.Scope.{wanted}
 
 -- the report of the parameter of number k, of which q has the positions, and e is the cursor after it
-unfoldable pub shownReport : List ℕ → Settings → List ℕ → ℕ → ParameterAt → Cursor → Report
+unfoldable pub shownReport : List ℕ → Settings → List ℕ → ℕ → ParameterAt → Cursor → DataReport
 shownReport table s values k q e =
     record {
       moduleName = bytesOf table (e .name);

@@ -1,6 +1,7 @@
 -- `accepted::pieces::answer_counted` meets its contract. Assumes nothing.
 use borrow.Author.Needs.{needs}
-use Rattle.state.proofs.Becomes.{clients-sized}
+use Rattle.state.specs.contracts.Bare.{lined}
+use Rattle.state.proofs.Becomes.{brief-sized}
 use Rattle.accepted.proofs.Joins.{replied-few, replied-counted}
 use Rattle.accepted.proofs.pieces.answer_counted.Statement.{statement}
 use Rattle.accepted.proofs.pieces.answer_counted.Tie as tie
@@ -10,10 +11,12 @@ answer-held-requires c κs = search needs
 
 sent-counted-requires : tie.Need-sent-counted-requires
 sent-counted-requires c κs =
-    let start = c .before .before .before .before .before .before .before .before .before .before .before .before .before .before in
-    let z = clients-sized (start .args .state .clients) (start .good .1 .1 .1 .0 .1 .1 .0) in
-    replied-few _ (start .args .state) _ _ _ (start .args .time) (start .pre .0) (start .args .bytes .now) z (start .pre .1 .0) (start .pre .1 .1) _
-    (c .before .before .before .before .before .before .answer-held .ensures)
+    let held = c .before .before .before .before .before .before in
+    let start = held .before .before .before .before .before .before .before .before .before in
+    let lines = start .args .lines .now in
+    let z = brief-sized (start .args .state .clients) (start .good .1 .1 .1 .0 .1 .1 .0) lines in
+    replied-few _ (lined (start .args .state) lines) _ _ _ (start .args .time) (start .pre .0) (start .args .bytes .now) z (start .pre .1 .0)
+    (start .pre .1 .1 .1) _ (held .answer-held .ensures)
 
 same-length : tie.Need-same-length
 same-length c = search needs
@@ -23,10 +26,12 @@ same-length-2 c = search needs
 
 returns : tie.Need-returns
 returns c =
-    let start = c .before .before .before .before .before .before .before .before .before .before .before .before .before .before .before in
-    let z = clients-sized (start .args .state .clients) (start .good .1 .1 .1 .0 .1 .1 .0) in
-    replied-counted _ (start .args .state) _ _ _ (start .args .time) (start .pre .0) (start .args .bytes .now) z (start .pre .1 .0) (start .pre .1 .1) _
-    (c .before .before .before .before .before .before .before .answer-held .ensures) _ (c .sent-counted .ensures)
+    let held = c .before .before .before .before .before .before .before in
+    let start = held .before .before .before .before .before .before .before .before .before in
+    let lines = start .args .lines .now in
+    let z = brief-sized (start .args .state .clients) (start .good .1 .1 .1 .0 .1 .1 .0) lines in
+    replied-counted _ (lined (start .args .state) lines) _ _ _ (start .args .time) (start .pre .0) (start .args .bytes .now) z (start .pre .1 .0)
+    (start .pre .1 .1 .1) _ (held .answer-held .ensures) _ (c .sent-counted .ensures)
 
 pub answer-counted-spec : {M : Type 1} → statement M
 answer-counted-spec =

@@ -1,9 +1,9 @@
 -- `accepted::pieces::answer_held` meets its contract. Assumes nothing.
 use borrow.Author.Needs.{needs}
 use Rattle.promise.proofs.Held.{line-short}
-use Rattle.state.proofs.Becomes.{clients-sized}
-use Rattle.state.proofs.Cells.{ended-becomes}
-use Rattle.accepted.proofs.Joins.{prefix-short, prefix-length, counted-ready, held-replied}
+use Rattle.state.specs.contracts.Bare.{lined}
+use Rattle.state.proofs.Becomes.{brief-sized}
+use Rattle.accepted.proofs.Joins.{prefix-short, prefix-length, bare-ready, held-replied}
 use Rattle.accepted.proofs.pieces.answer_held.Statement.{statement}
 use Rattle.accepted.proofs.pieces.answer_held.Tie as tie
 
@@ -27,11 +27,12 @@ slice-aggregate-answer-line c = search (prefix-length, array-share-prefix-line)
 
 answer-line-requires : tie.Need-answer-line-requires
 answer-line-requires c κs =
-    let start = c .before .before .before .before .before .before .before .before .before .before .before .before .before .before .before in
-    let z = clients-sized (start .args .state .clients) (start .good .1 .1 .1 .0 .1 .1 .0) in
-    let b = ended-becomes _ z _ (start .pre .0 .lent .low) (c .before .before .before .before .ended .ensures) in (
-      counted-ready _ (start .args .state) _ _ _ (start .args .time) (start .pre .0) (start .args .bytes .now) z _ b _ (c .before .before .before .line-counted .ensures),
-      (start .pre .1, search prefix-short),
+    let start = c .before .before .before .before .before .before .before .before .before .before .before .before .before .before .before .before in
+    let lines = start .args .lines .now in
+    let z = brief-sized (start .args .state .clients) (start .good .1 .1 .1 .0 .1 .1 .0) lines in (
+      bare-ready _ (lined (start .args .state) lines) _ _ _ (start .args .time) (start .pre .0) (start .args .bytes .now) z (start .pre .1 .1) _
+          (c .before .before .before .before .ended .ensures) _ (c .before .before .before .line-counted .ensures),
+      (start .pre .1 .0, prefix-short _ _ (c .before .before .before .before .before .before .before .before .whole-line .ensures .0)),
     )
 
 same-length : tie.Need-same-length
@@ -42,11 +43,13 @@ same-length-2 c = search needs
 
 returns : tie.Need-returns
 returns c =
-    let start = c .before .before .before .before .before .before .before .before .before .before .before .before .before .before .before .before .before .before .before .before in
-    let z = clients-sized (start .args .state .clients) (start .good .1 .1 .1 .0 .1 .1 .0) in
-    let b = ended-becomes _ z _ (start .pre .0 .lent .low) (c .before .before .before .before .before .before .before .before .before .ended .ensures) in
-    held-replied _ (start .args .state) _ _ _ (start .args .time) (start .pre .0) (start .args .bytes .now) z _ b _ (c .before .before .before .before .before .before .before .before .line-counted .ensures) _
-    (c .before .before .before .before .before .before .before .before .before .before .before .before .before .whole-line .ensures .1) _ (c .before .before .before .before .answer-line .ensures)
+    let counted = c .before .before .before .before .before .before .before .before in
+    let line = counted .before .before .before .before .before in
+    let start = line .before .before .before .before .before .before .before .before in
+    let lines = start .args .lines .now in
+    let z = brief-sized (start .args .state .clients) (start .good .1 .1 .1 .0 .1 .1 .0) lines in
+    held-replied _ (lined (start .args .state) lines) _ _ _ (start .args .time) (start .pre .0) (start .args .bytes .now) z (start .pre .1 .1) _
+    (counted .before .ended .ensures) _ (counted .line-counted .ensures) _ (line .whole-line .ensures .1) _ (c .before .before .before .before .answer-line .ensures)
 
 pub answer-held-spec : {M : Type 1} → statement M
 answer-held-spec =

@@ -1,6 +1,6 @@
 -- `access::whole::check_whole` meets its contract. Assumes nothing.
 use Rattle.access.proofs.Finding.{info-known, parameter-known}
-use Rattle.access.proofs.Checked.{check-refused, check-told, check-sent}
+use Rattle.access.proofs.Checked.{check-denied, check-told, check-sent}
 use borrow.Author.Needs.{needs}
 use Rattle.access.proofs.whole.check_whole.Statement.{statement}
 use Rattle.access.proofs.whole.check_whole.Tie as tie
@@ -25,7 +25,7 @@ put-checked-requires c κs =
 returns : tie.Need-returns
 returns c =
     let start = c .before .before .before .before .before .before .before .before .before in
-    check-refused _ _ _ _ (start .pre .0) _ _ _ _ _ _ (start .pre .1 .1) _ (c .before .before .before .judge-change .ensures) _ (c .before .class .given .1)
+    check-denied _ _ _ _ (start .pre .0) _ _ _ _ _ _ (start .pre .1 .1) _ (c .before .before .before .judge-change .ensures) _ (c .before .class .given .1)
 
 same-length : tie.Need-same-length
 same-length c = search needs

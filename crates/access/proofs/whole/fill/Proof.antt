@@ -1,5 +1,6 @@
 -- `access::whole::fill` meets its contract. Assumes nothing.
 use borrow.Author.Needs.{needs}
+use Rattle.state.specs.contracts.Bare.{unlined}
 use Rattle.access.proofs.Filled.{fill-low, fill-lies, none-given, none-filled, shown-given, shown-filled}
 use Rattle.access.proofs.whole.fill.Statement.{statement}
 use Rattle.access.proofs.whole.fill.Tie as tie
@@ -25,7 +26,7 @@ shown-requires c κs = search fill-lies
 complete-requires-2 : tie.Need-complete-requires-2
 complete-requires-2 c κs =
     let start = c .before .before .before .before .before .before .before .before .before .before .before .before .before in
-    shown-given _ (start .args .state) _ _ _ _ _ _ _ _ (start .pre) _ (c .before .before .before .before .before .sensor-at .ensures) (c .before .before .before .enum-told2 .given .1) _ (c .before .shown .ensures)
+    shown-given _ (unlined (start .args .state)) _ _ _ _ _ _ _ _ (start .pre) _ (c .before .before .before .before .before .sensor-at .ensures) (c .before .before .before .enum-told2 .given .1) _ (c .before .shown .ensures)
 
 same-length : tie.Need-same-length
 same-length c = search needs

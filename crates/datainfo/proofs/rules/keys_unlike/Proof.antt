@@ -4,7 +4,7 @@ use native.Mathlib.Omega.{arith}
 use Prim.Native.Nat.{_+_, _-_, _≤_}
 use mathlib.Core.Path.{_≡_}
 use lib.ListN.{length, drop}
-use Rattle.datainfo.specs.contracts.Kept.{keysGood, fromEach}
+use Rattle.datainfo.specs.contracts.Obeyed.{keysGood, fromEach}
 use Rattle.datainfo.proofs.Keys.{positions-later, keys-bad, keys-repeated, keys-more, keys-end}
 use Rattle.datainfo.proofs.rules.keys_unlike.Statement.{statement}
 use Rattle.datainfo.proofs.rules.keys_unlike.Tie as tie

@@ -5,7 +5,7 @@ use Prim.Native.Nat.{_-_, _≤_}
 use mathlib.Core.Path.{_≡_, refl}
 use lib.ListN.{length, drop, length-set}
 use Rattle.datainfo.specs.Layout.{datainfoIn}
-use Rattle.datainfo.specs.contracts.Kept.{starts}
+use Rattle.datainfo.specs.contracts.Obeyed.{starts}
 use Rattle.datainfo.proofs.Keys.{Noting, noting-start, noted-last, noted-more, noted-all}
 use Rattle.datainfo.proofs.rules.note_starts.Statement.{statement}
 use Rattle.datainfo.proofs.rules.note_starts.Tie as tie

@@ -4,6 +4,7 @@ use mathlib.Core.Path.{_≡_, refl, subst}
 use Rattle.table.specs.Layout.{tableOf}
 use Rattle.message.specs.declared.line.Verb.the-variants as Verb
 use Rattle.plain.specs.Answer.{reads, changes, checks, outcome}
+use Rattle.state.specs.contracts.Bare.{unlined}
 use Rattle.line.specs.contracts.Asked.{isBuilt}
 use Rattle.line.proofs.Sought.{lacks, parameter-comes}
 use borrow.Author.Needs.{needs}
@@ -44,7 +45,7 @@ returns c =
     let came = c .before .before .read in
     rw (c .before .before .before .before .before .enum-told .given .1)
     (parameter-comes (start .args .table .now) (start .args .«module» .now) (start .args .name .now) _ _ _ (start .pre .1 .1 .0)
-    (start .args .state) (start .args .values .now) (start .args .out .now) (start .args .client) (start .args .time)
+    (unlined (start .args .state)) (start .args .values .now) (start .args .out .now) (start .args .client) (start .args .time)
     (came .result) (start .args .values .now) (came .last .1 .1 .0) reads (came .ensures (start .args .time)))
 
 same-length-3 : tie.Need-same-length-3
@@ -60,7 +61,7 @@ returns-2 c =
     let came = c .before .before .before .before .change in
     rw (c .before .before .before .before .before .before .before .enum-told2 .given .1)
     (parameter-comes (start .args .table .now) (start .args .«module» .now) (start .args .name .now) _ _ _ (start .pre .1 .1 .0)
-    (start .args .state) (start .args .values .now) (start .args .out .now) (start .args .client) (start .args .time)
+    (unlined (start .args .state)) (start .args .values .now) (start .args .out .now) (start .args .client) (start .args .time)
     (came .result) (came .last .1 .0) (came .last .1 .1 .0) (λ w n c t. changes w n c t (start .args .text .now)) (came .ensures))
 
 returns-3 : tie.Need-returns-3
@@ -85,7 +86,7 @@ returns-4 c =
     let told = c .before .before .before .before .before .enum-told4 .given .1 in
     rw (told, subst (λ v. isBuilt (tableOf (start .args .table .now)) v ≡ true) told (start .pre .1 .1 .1 .0))
     (parameter-comes (start .args .table .now) (start .args .«module» .now) (start .args .name .now) _ _ _ (start .pre .1 .1 .0)
-    (start .args .state) (start .args .values .now) (start .args .out .now) (start .args .client) (start .args .time)
+    (unlined (start .args .state)) (start .args .values .now) (start .args .out .now) (start .args .client) (start .args .time)
     (came .result) (start .args .values .now) (came .last .1 .1 .0) (λ w n c t. checks w n c t (start .args .text .now)) (came .ensures))
 
 pub at-parameter-spec : {M : Type 1} → statement M

@@ -1,5 +1,6 @@
 -- `line::scoped::switch_module` meets its contract. Assumes nothing.
 use Rattle.report.proofs.Faults.{accepted-readable}
+use Rattle.state.specs.contracts.Bare.{unlined}
 use Rattle.switch.proofs.Switches.{open-bits}
 use Rattle.line.proofs.Carried.{mask-low}
 use Rattle.line.proofs.Sought.{no-module, module-scoped, module-low, module-comes}
@@ -50,7 +51,8 @@ returns-2 c =
     let came = c .before .before .activate in
     λ t.
     module-comes (start .args .table .now) (start .args .«module» .now) _ (c .before .before .before .before .before .before .before .before .before .before .before .find-module .ensures) _ _ (c .before .before .before .before .before .before .before .before .before .i .given .1) (start .args .switch)
-    (start .args .state) (start .args .values .now) (start .args .out .now) (start .args .client) t (came .result) (start .args .values .now) (came .last .1 .1 .0)
+    (unlined (start .args .state)) (start .args .values .now) (start .args .out .now) (start .args .client) t
+    (came .result) (start .args .values .now) (came .last .1 .1 .0)
     (rw (c .before .before .before .before .enum-told2 .given .1) (came .ensures t))
 
 same-length-2 : tie.Need-same-length-2
@@ -64,11 +66,11 @@ returns-3 c =
     let came = c .before .before .deactivate in
     λ t.
     module-comes table (start .args .«module» .now) _ (c .before .before .before .before .before .before .before .before .before .before .before .find-module .ensures) _ _ (c .before .before .before .before .before .before .before .before .before .i .given .1) (start .args .switch)
-    (start .args .state) values (start .args .out .now) (start .args .client) t (came .result) values (came .last .0)
+    (unlined (start .args .state)) values (start .args .out .now) (start .args .client) t (came .result) values (came .last .0)
     (rw (c .before .before .before .before .enum-told3 .given .1)
     (came .ensures _ _ t _
-    (mask-low table (start .args .state) values (start .args .out .now) (start .args .client) (start .pre))
-    (open-bits table (start .args .state) values (start .args .client) (start .pre .isOpen))))
+    (mask-low table (unlined (start .args .state)) values (start .args .out .now) (start .args .client) (start .pre))
+    (open-bits table (unlined (start .args .state)) values (start .args .client) (start .pre .isOpen))))
 
 pub switch-module-spec : {M : Type 1} → statement M
 switch-module-spec =

@@ -16,8 +16,14 @@ same-length c = search needs
 returns : tie.Need-returns
 returns c = search read-lent
 
+bare-of-requires : tie.Need-bare-of-requires
+bare-of-requires c κs = search needs
+
 read-one-requires : tie.Need-read-one-requires
 read-one-requires c κs = search read-lending
+
+done-by-requires : tie.Need-done-by-requires
+done-by-requires c κs = search needs
 
 same-length-2 : tie.Need-same-length-2
 same-length-2 c = search needs
@@ -36,7 +42,9 @@ jihfasul-reading-spec =
     quiet-requires
     same-length
     returns
+    bare-of-requires
     read-one-requires
+    done-by-requires
     same-length-2
     same-length-3
     returns-2)

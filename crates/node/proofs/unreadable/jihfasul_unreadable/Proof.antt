@@ -57,14 +57,28 @@ quiet-requires-4 c κs = search needs
 returns-4 : tie.Need-returns-4
 returns-4 c = search unread-unknown
 
+bare-of-requires : tie.Need-bare-of-requires
+bare-of-requires c κs = search needs
+
 take-unreadable-requires : tie.Need-take-unreadable-requires
 take-unreadable-requires c κs = search unread-tells
+
+done-by-requires : tie.Need-done-by-requires
+done-by-requires c κs = search needs
 
 same-length : tie.Need-same-length
 same-length c = search needs
 
 returns-5 : tie.Need-returns-5
-returns-5 c = search unread-taken
+returns-5 c =
+    let taken = c .before .before .before in
+    let told = taken .before .before .before .before .before .before .before .before in
+    let found = told .before .before .before .before in
+    let lent = found .before .before .before in
+    let start = lent .before .before .before .before .before in
+    unread-taken _ (start .args .state) _ _ _ _ (start .args .time) _ _ (lent .lent-number .ensures) (found .before .before .if1 .left) _
+    (found .parameter-by-number .ensures) _ _ (told .before .before .p .given .1) _ (told .sensor-of .ensures) _
+    (taken .before .before .before .before .before .before .fault .given .1) (taken .before .bare-of .ensures) (taken .take-unreadable .ensures) (c .done-by .ensures)
 
 pub jihfasul-unreadable-spec : {M : Type 1} → statement M
 jihfasul-unreadable-spec =
@@ -85,6 +99,8 @@ jihfasul-unreadable-spec =
     enum-told-2
     quiet-requires-4
     returns-4
+    bare-of-requires
     take-unreadable-requires
+    done-by-requires
     same-length
     returns-5)

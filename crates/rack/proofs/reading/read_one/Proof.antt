@@ -7,14 +7,14 @@ use Rattle.rack.proofs.Readings.{not-first, readable, read-info, read-l
 use Rattle.rack.proofs.reading.read_one.Statement.{statement}
 use Rattle.rack.proofs.reading.read_one.Tie as tie
 
-quiet-requires : tie.Need-quiet-requires
-quiet-requires c κs = search needs
+bare-quiet-requires : tie.Need-bare-quiet-requires
+bare-quiet-requires c κs = search needs
 
 returns : tie.Need-returns
 returns c = search read-late
 
-quiet-requires-2 : tie.Need-quiet-requires-2
-quiet-requires-2 c κs = search needs
+bare-quiet-requires-2 : tie.Need-bare-quiet-requires-2
+bare-quiet-requires-2 c κs = search needs
 
 returns-2 : tie.Need-returns-2
 returns-2 c = search read-past
@@ -28,8 +28,8 @@ enum-known-p c = search needs
 enum-told : tie.Need-enum-told
 enum-told c = search needs
 
-quiet-requires-3 : tie.Need-quiet-requires-3
-quiet-requires-3 c κs = search needs
+bare-quiet-requires-3 : tie.Need-bare-quiet-requires-3
+bare-quiet-requires-3 c κs = search needs
 
 returns-3 : tie.Need-returns-3
 returns-3 c = search read-none
@@ -40,13 +40,13 @@ verdict-requires c κs = search read-info
 enum-told-2 : tie.Need-enum-told-2
 enum-told-2 c = search needs
 
-quiet-requires-4 : tie.Need-quiet-requires-4
-quiet-requires-4 c κs = search needs
+bare-quiet-requires-4 : tie.Need-bare-quiet-requires-4
+bare-quiet-requires-4 c κs = search needs
 
 returns-4 : tie.Need-returns-4
 returns-4 c =
     read-unfit _ _ _ _ _ _ _ (search needs) (search needs) _ (c .before .before .before .before .before .before .parameter-by-number .ensures) _ _ (c .before .before .before .before .p .given .1) _ (c .before .before .verdict .ensures)
-    (not-first (tagOf the-type) refl _ (c .before .match2 .keys2)) (c .quiet4 .ensures)
+    (not-first (tagOf the-type) refl _ (c .before .match2 .keys2)) (c .bare-quiet4 .ensures)
 
 take-reading-requires : tie.Need-take-reading-requires
 take-reading-requires c κs = search read-fits
@@ -69,18 +69,18 @@ pub read-one-spec : {M : Type 1} → statement M
 read-one-spec =
     tie.close
     (tie.spec
-    quiet-requires
+    bare-quiet-requires
     returns
-    quiet-requires-2
+    bare-quiet-requires-2
     returns-2
     parameter-by-number-requires
     enum-known-p
     enum-told
-    quiet-requires-3
+    bare-quiet-requires-3
     returns-3
     verdict-requires
     enum-told-2
-    quiet-requires-4
+    bare-quiet-requires-4
     returns-4
     take-reading-requires
     same-length

@@ -32,10 +32,7 @@ part-has-feed-start : tie.Need-part-has-feed-start
 part-has-feed-start c = search needs
 
 part-has-feed-end : tie.Need-part-has-feed-end
-part-has-feed-end c =
-    let at = c .before .before .before in
-    let e : length (at .args .s .lines) ≡ 8192 = search needs in
-    omega (arith, ap length (at .pre .1 .1))
+part-has-feed-end c = omega (arith, c .before .before .before .pre .1 .1)
 
 has-feed-requires : tie.Need-has-feed-requires
 has-feed-requires c κs = search needs

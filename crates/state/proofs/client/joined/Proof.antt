@@ -1,7 +1,6 @@
 -- `state::client::joined` meets its contract. Assumes nothing.
-use mathlib.Core.Path.{_≡_}
-use lib.ListN.{length}
 use borrow.Author.Needs.{needs}
+use Rattle.state.specs.contracts.Bare.{withLines}
 use Rattle.state.proofs.Joins.{joined-stays, joined-over, joined-room, joined-on}
 use Rattle.state.proofs.client.joined.Statement.{statement}
 use Rattle.state.proofs.client.joined.Tie as tie
@@ -34,10 +33,9 @@ array-write-length : tie.Need-array-write-length
 array-write-length c = search needs
 
 returns-2 : tie.Need-returns-2
-returns-2 c = search joined-over
-
-slice-aggregate-put : tie.Need-slice-aggregate-put
-slice-aggregate-put c = search needs
+returns-2 c =
+    let at = c .before .before .before .before .before .before .before .before in
+    joined-over (withLines (at .args .s) (at .args .lines .now)) (at .args .c) (at .args .bytes .now) (search needs) (at .pre .1 .0) (search needs)
 
 mul-put : tie.Need-mul-put
 mul-put c = search needs
@@ -47,8 +45,8 @@ add-put c = search needs
 
 put-requires : tie.Need-put-requires
 put-requires c κs =
-    let e : length (c .before .before .before .before .before .before .before .before .before .args .s .lines) ≡ 8192 = search needs in
-    search joined-room
+    let at = c .before .before .before .before .before .before .before .before .before in
+    joined-room (withLines (at .args .s) (at .args .lines .now)) (at .args .c) (at .args .bytes .now) (search needs) (at .pre .1 .0) (search needs) (at .pre .0) (at .pre .1 .1)
 
 add-length : tie.Need-add-length
 add-length c = search needs
@@ -62,10 +60,13 @@ mul-length-2 c = search needs
 array-write-length-2 : tie.Need-array-write-length-2
 array-write-length-2 c = search needs
 
+same-length : tie.Need-same-length
+same-length c = search needs
+
 returns-3 : tie.Need-returns-3
 returns-3 c =
-    let at = c .before .before .before .before .before .before .before .before .before .before .before in
-    joined-on (at .args .s) (at .args .c) (at .args .bytes .now) (search needs) (at .pre .1) (search needs) (c .before .put .ensures)
+    let at = c .before .before .before .before .before .before .before .before .before .before .before .before in
+    joined-on (withLines (at .args .s) (at .args .lines .now)) (at .args .c) (at .args .bytes .now) (search needs) (at .pre .1 .0) (search needs) (c .before .before .put .ensures)
 
 pub joined-spec : {M : Type 1} → statement M
 joined-spec =
@@ -81,7 +82,6 @@ joined-spec =
     mul-length
     array-write-length
     returns-2
-    slice-aggregate-put
     mul-put
     add-put
     put-requires
@@ -89,4 +89,5 @@ joined-spec =
     cast-length
     mul-length-2
     array-write-length-2
+    same-length
     returns-3)

@@ -32,9 +32,9 @@ Agrees r (some b) = r ≡ b
 abbrev pub asked : {A : Type 0} → (A → Bool) → Option (A × List ℕ) → Option Bool
 asked p o = o >>= λ a. some (p (a .0))
 
--- number 3 or number 4
-unfoldable pub kept : Bool → Datainfo → Bool
-kept names d = cond names (namesGood d) (rulesKept d)
+-- a datainfo obeys what number 3 asks (good names), or what number 4 asks (its own rules)
+unfoldable pub obeys : Bool → Datainfo → Bool
+obeys names d = cond names (namesGood d) (rulesKept d)
 
 -- the datainfos inside
 unfoldable pub elementList : Elements → List Datainfo
@@ -58,13 +58,13 @@ inside (scaled s lo hi) = []
 inside (blob lo hi) = []
 inside (partial ns fs) = fieldList fs
 
-unfoldable pub insideKept : Bool → Datainfo → Bool
-insideKept names d = all (kept names) (inside d)
+unfoldable pub insideObeys : Bool → Datainfo → Bool
+insideObeys names d = all (obeys names) (inside d)
 
 -- r decides what is asked of a datainfo, but for the datainfos inside it
 abbrev pub Decides : Bool → Bool → Option (Datainfo × List ℕ) → Type 0
 Decides names r none = Unit
-Decides names r (some p) = kept names (p .0) ≡ (r && insideKept names (p .0))
+Decides names r (some p) = obeys names (p .0) ≡ (r && insideObeys names (p .0))
 
 -- r decides the limits of a string, of a blob, and those of an array whose inner datainfo is read by f
 pub record Ordered (r : Bool) (xs : List ℕ) : Type 0 where
@@ -133,10 +133,10 @@ module _ (inner : List ℕ → Option (Datainfo × List ℕ)) (k : ℕ) where
 
   module _ (names : Bool) where
     -- the answer to the datainfos of n members
-    unfoldable pub heldKept : ℕ → List ℕ → Option Bool
-    heldKept zero xs = some true
-    heldKept (suc n) xs =
-        beforeHeld k xs >>= λ h. inner h >>= λ p. heldKept n (p .1) >>= λ b. some (kept names (p .0) && b)
+    unfoldable pub heldObeys : ℕ → List ℕ → Option Bool
+    heldObeys zero xs = some true
+    heldObeys (suc n) xs =
+        beforeHeld k xs >>= λ h. inner h >>= λ p. heldObeys n (p .1) >>= λ b. some (obeys names (p .0) && b)
 
-    unfoldable pub heldKeptAt : List ℕ → Option Bool
-    heldKeptAt xs = unsigned 1 xs >>= λ p. heldKept (p .0) (p .1)
+    unfoldable pub heldObeysAt : List ℕ → Option Bool
+    heldObeysAt xs = unsigned 1 xs >>= λ p. heldObeys (p .0) (p .1)
