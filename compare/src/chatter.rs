@@ -32,10 +32,11 @@ impl Chatter {
         &mut self,
         first: &History,
         quieter: &Quieter,
+        seed: u64,
         counts: &mut Counts,
     ) -> Result<(), Difference> {
-        let whole = histories::run(first, counts)?;
-        let less = histories::run(&quieter.history, counts)?;
+        let whole = histories::run(first, seed, counts)?;
+        let less = histories::run(&quieter.history, seed, counts)?;
         let call = quieter.history.calls.len();
         self.compare(&whole, &less, quieter)
             .map_err(|text| Difference { call, text })

@@ -1,13 +1,18 @@
-//! A history through the library and through the plain node, call by call.
+//! A history through the library and through the plain node, call by call, with
+//! the bytes of a state kept beside the node.
 
+use crate::bytes::same_kept;
 use crate::difference::{same, same_answer, Counts, Difference};
 use crate::library::{readable, Library, Shown};
 use crate::seen::Seen;
-use reference::history::{Call, History, Player};
-use reference::node::{self, MIN_VALUES};
+use reference::generate::free;
+use reference::history::{Answer, Call, History, Player};
+use reference::kept::Kept;
+use reference::node::{self, Node, MIN_VALUES};
+use reference::operation::VALUES_AREA;
+use reference::random::Random;
 use reference::refusal::Refusal;
 use reference::table::Table;
-use reference::value;
 
 /// What a history sends in all, and how it ends.
 #[derive(Debug, PartialEq)]
@@ -25,26 +30,26 @@ impl Course {
     }
 }
 
-/// Runs a history; the first call is a start.
-pub fn run(history: &History, counts: &mut Counts) -> Result<Course, Difference> {
-    let mut player = Player::new(&history.table);
-    let mut library = Library::new(&history.table);
+/// Runs a history; the first call is a start. Between the calls what none of them
+/// looks at is changed now and then, as it follows from a seed.
+pub fn run(history: &History, seed: u64, counts: &mut Counts) -> Result<Course, Difference> {
+    let mut random = Random::new(seed);
+    let mut sides = Sides::over(&history.table);
     let mut sent = Vec::new();
     for (at, call) in history.calls.iter().enumerate() {
-        let difference = |text| Difference { call: at + 1, text };
-        let due = player.call(call).expect("the first call is a start");
-        if let Call::Lend { index } = call {
-            library.lend(index);
-            continue;
+        sides.scribble(&mut random);
+        let found = sides.call(call);
+        let found = found.map_err(|text| Difference { call: at + 1, text })?;
+        if call.is_made() {
+            counts.add(&found);
+            sent.extend(found.outbox);
         }
-        let found = library.call(call).map_err(difference)?;
-        same_answer(call, &found, &due).map_err(difference)?;
-        counts.add(&found);
-        expect_rows(&mut library, call, found.taken);
-        let node = player.node().expect("a start makes a node").state();
-        same_state(&mut library, node).map_err(difference)?;
-        sent.extend(found.outbox);
     }
+    let Sides {
+        mut library,
+        player,
+        ..
+    } = sides;
     let node = player.node().expect("a start makes a node").state();
     let refusal = Table::judge(&history.table).err();
     let call = history.calls.len();
@@ -58,37 +63,53 @@ pub fn run(history: &History, counts: &mut Counts) -> Result<Course, Difference>
     })
 }
 
-/// What the readings of a list that were taken leave in the values area, one
-/// after another: of the same parameter a shorter value leaves the end of a longer.
-fn expect_rows(library: &mut Library, call: &Call, taken: usize) {
-    let Call::Readings { rows, texts, .. } = call else {
-        return;
-    };
-    let Ok(table) = Table::judge(&library.table) else {
-        return;
-    };
-    for row in &rows[..taken] {
-        let parameter = table.parameters()[row.parameter as usize];
-        let text = row.text(texts).expect("it was taken");
-        let stored = value::judge(parameter.datainfo, text).expect("it was taken");
-        library.values.expect(256 * parameter.number, &stored);
-    }
+/// The library, the plain node, and the bytes that are kept beside the node.
+struct Sides {
+    library: Library,
+    player: Player,
+    kept: Kept,
 }
 
-/// The state, and each byte of the values area: stored values at the front of
-/// their places, all else as it was.
-fn same_state(library: &mut Library, node: &node::State) -> Result<(), String> {
-    let found = Seen::in_library(&library.state, node.parameters.len());
-    found.same(&Seen::in_node(node))?;
-    let held = node.parameters.iter().enumerate();
-    for (number, held) in held.filter(|(_, held)| held.set) {
-        library.values.expect(256 * number, &held.value);
+impl Sides {
+    fn over(table: &[u8]) -> Sides {
+        let mut library = Library::new(table);
+        let mut kept = Kept::new(VALUES_AREA);
+        let values = library.values.front(VALUES_AREA);
+        kept.values.copy_from_slice(values);
+        Sides {
+            library,
+            player: Player::new(table),
+            kept,
+        }
     }
-    same(
-        "place in the values area",
-        &library.values.difference(),
-        &None,
-    )
+
+    /// Changes now and then what no call looks at. The plain node has no place
+    /// for it.
+    fn scribble(&mut self, random: &mut Random) {
+        let state = self.player.node().map(Node::state);
+        let parameters = state.map_or(0, |state| state.parameters.len());
+        for poke in free::some(random, &self.kept, parameters) {
+            poke.apply(&mut self.kept);
+            self.library.poke(&poke);
+        }
+    }
+
+    /// Makes a call, and compares its answer and what it leaves.
+    fn call(&mut self, call: &Call) -> Result<Answer, String> {
+        let due = self.player.call(call).expect("the first call is a start");
+        if let Call::Lend { index } = call {
+            self.library.lend(index);
+            return Ok(due);
+        }
+        let node = self.player.node().expect("a start makes a node");
+        self.kept.follow(call, &due, node);
+        let found = self.library.call(call)?;
+        same_answer(call, &found, &due)?;
+        let said = Seen::in_library(&self.library.state, node.state().parameters.len());
+        said.same(&Seen::in_node(node.state()))?;
+        same_kept(&mut self.library, &self.kept)?;
+        Ok(found)
+    }
 }
 
 /// Each parameter's value, and what is refused.
@@ -126,8 +147,13 @@ fn same_values(
 
 /// Runs a history that is another one cut and mingled anew: it sends the same
 /// bytes and ends the same.
-pub fn run_second(second: &History, first: &Course, counts: &mut Counts) -> Result<(), Difference> {
-    let course = run(second, counts)?;
+pub fn run_second(
+    second: &History,
+    seed: u64,
+    first: &Course,
+    counts: &mut Counts,
+) -> Result<(), Difference> {
+    let course = run(second, seed, counts)?;
     let call = second.calls.len();
     let end = course
         .end
@@ -135,4 +161,74 @@ pub fn run_second(second: &History, first: &Course, counts: &mut Counts) -> Resu
         .and_then(|()| same("values", &course.values, &first.values))
         .and_then(|()| same("bytes sent", &course.sent, &first.sent));
     end.map_err(|text| Difference { call, text })
+}
+
+#[cfg(test)]
+mod tests {
+    use super::*;
+    use reference::outbox::MIN_OUTBOX;
+
+    /// A module without accessibles.
+    const TABLE: &[u8] = b"ND\x01e\x01dMO\x01m\x01dEN";
+
+    fn piece(bytes: &[u8]) -> Call {
+        Call::Piece {
+            client: 1,
+            values_len: MIN_VALUES,
+            outbox_len: MIN_OUTBOX,
+            time: 7,
+            bytes: bytes.to_vec(),
+        }
+    }
+
+    /// Client 1 open, with a line begun.
+    fn begun() -> Sides {
+        let (values_len, time) = (MIN_VALUES, 5);
+        let start = Call::Start { values_len, time };
+        let open = Call::Open {
+            client: 1,
+            values_len,
+            time,
+        };
+        let mut sides = Sides::over(TABLE);
+        for call in [start, open, piece(b"pi")] {
+            let answer = sides.call(&call).expect("both sides agree");
+            assert!(answer.is_accepted());
+        }
+        sides
+    }
+
+    /// What is told of the next call, up to the numbers that differ.
+    fn told(mut sides: Sides, call: &Call) -> String {
+        let told = sides.call(call).expect_err("a side was altered");
+        told.lines().next().unwrap_or_default().to_string()
+    }
+
+    #[test]
+    fn a_byte_parked_in_another_clients_place_is_told() {
+        for (place, expected) in [
+            (5 * 1_024 + 7, "line's place of client 5, byte 7"),
+            (1_024 + 2, "line's place of client 1, byte 2"),
+            (8_191, "line's place of client 7, byte 1023"),
+            (0, "line's place of client 0, byte 0"),
+        ] {
+            let mut sides = begun();
+            sides.library.state.clients.lines[place] = b'x';
+            assert_eq!(told(sides, &piece(b"\n")), expected);
+        }
+    }
+
+    #[test]
+    fn other_numbers_that_no_call_looks_at_are_told() {
+        let next = piece(b"ng\n");
+        let mut sides = begun();
+        sides.library.state.clients.open[1] = 5;
+        assert_eq!(told(sides, &next), "open flag of client 1");
+        let mut sides = begun();
+        sides.library.state.settings.length[63] = 257;
+        assert_eq!(told(sides, &next), "stored length of parameter 63");
+        let mut sides = begun();
+        sides.library.state.settings.time[0] = 6;
+        assert_eq!(told(sides, &next), "time of parameter 0");
+    }
 }

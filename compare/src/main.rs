@@ -2,6 +2,7 @@
 
 mod area;
 mod beside;
+mod bytes;
 mod chatter;
 mod cost;
 mod difference;
@@ -30,7 +31,8 @@ usage: compare [COMMAND ...]
                lines, lists of readings), then for each of COUNT seeds, from
                SEED on, a small history, a random one and one with lists, all
                again cut and mingled anew, listed anew and lent other indexes,
-               and one in which the state is changed at random between the calls
+               and one in which the state is changed at random between the calls;
+               in all of these what no call looks at is changed now and then
   (nothing)    the same with the seeds of ./test
   chatter      for the same seeds a small history, a random one and one with
                lists, each with and without lines of other clients that are no
@@ -164,12 +166,12 @@ impl Tally {
 
     /// A history, and the same cut and mingled anew.
     fn twice(&mut self, name: &str, seed: u64, first: &History) {
-        let result = histories::run(first, &mut self.counts);
+        let result = histories::run(first, seed, &mut self.counts);
         let Some(course) = self.count(name, seed, result) else {
             return;
         };
         if let Some(second) = second::second(first, seed) {
-            let result = histories::run_second(&second, &course, &mut self.counts);
+            let result = histories::run_second(&second, seed, &course, &mut self.counts);
             self.count(&format!("second of {name}"), seed, result);
         }
     }
@@ -177,7 +179,7 @@ impl Tally {
     /// A history, and the same without lines that are nothing to a client.
     fn without_lines(&mut self, name: &str, seed: u64, first: &History, chatter: &mut Chatter) {
         if let Some(quieter) = quieter::quieter(first, seed) {
-            let result = chatter.run(first, &quieter, &mut self.counts);
+            let result = chatter.run(first, &quieter, seed, &mut self.counts);
             self.count(&format!("quieter {name}"), seed, result);
         }
     }

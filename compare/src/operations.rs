@@ -1,9 +1,9 @@
 //! Operations through the library and over the reference program's kept state:
 //! calls, and changes of the state between them, past all rules.
 
+use crate::bytes::same_kept;
 use crate::difference::{same, same_answer, Counts};
 use crate::library::{readable, Library, Shown};
-use crate::seen::Seen;
 use reference::history::Call;
 use reference::kept::{Kept, UNFIT};
 use reference::node::MIN_VALUES;
@@ -81,12 +81,7 @@ impl Pair {
         let found = self.library.call(call)?;
         same_answer(call, &found, &due)?;
         counts.add(&found);
-        let count = self.parameters.unwrap_or(0);
-        let found = Seen::in_library(&self.library.state, count);
-        found.same(&Seen::in_kept(&self.kept, count))?;
-        self.library.values.expect(0, &self.kept.values);
-        let difference = self.library.values.difference();
-        same("place in the values area", &difference, &None)?;
+        same_kept(&mut self.library, &self.kept)?;
         self.value()
     }
 
@@ -122,5 +117,30 @@ impl Pair {
             time: setting.time,
             set,
         }
+    }
+}
+
+#[cfg(test)]
+mod tests {
+    use super::*;
+
+    #[test]
+    fn a_byte_parked_between_operations_is_told() {
+        let (values_len, time) = (MIN_VALUES, 5);
+        let table = b"ND\x01e\x01dMO\x01m\x01dEN".to_vec();
+        let start = Call::Start { values_len, time };
+        let open = Call::Open {
+            client: 1,
+            values_len,
+            time,
+        };
+        let (mut pair, mut counts) = (Pair::new(), Counts::default());
+        for operation in [Operation::Table(table), Operation::Call(start)] {
+            assert_eq!(pair.operate(&operation, &mut counts), Ok(()));
+        }
+        pair.library.state.clients.lines[5 * 1_024 + 7] = b'x';
+        let told = pair.operate(&Operation::Call(open), &mut counts);
+        let expected = "line's place of client 5, byte 7\n  found 120\n  due   0";
+        assert_eq!(told, Err(expected.to_string()));
     }
 }

@@ -1,11 +1,11 @@
-//! What a state says, whichever side keeps it. What the reference program has no
-//! place for is left out: the bytes past a line, which number stands for "yes" in
-//! a flag, and the places past the last parameter.
+//! What a state says: of a history's end, which another history is to have too,
+//! and of the plain node. Neither tells what no call looks at, which `bytes`
+//! compares: the bytes past a line, which number stands for "yes" in a flag, and
+//! the places past the last parameter.
 
 use crate::difference::same;
 use jihfasul::state::LINE;
 use jihfasul::State;
-use reference::kept::Kept;
 use reference::line::Unfinished;
 use reference::node;
 
@@ -104,23 +104,6 @@ impl Seen {
             clients: state.clients.iter().map(client).collect(),
             settings: state.parameters.iter().map(setting).collect(),
             counts: state.counts.iter().map(counted).collect(),
-        }
-    }
-
-    pub fn in_kept(kept: &Kept, parameters: usize) -> Seen {
-        let clients = kept.clients.iter().map(|client| Client {
-            open: client.open != 0,
-            overlong: client.overlong != 0,
-            active: client.active,
-            line: readable(&client.line, client.length),
-        });
-        let settings = kept.settings[..parameters].iter();
-        Seen {
-            clients: clients.collect(),
-            settings: settings
-                .map(|one| (one.length, one.error, one.time))
-                .collect(),
-            counts: kept.counts.iter().map(counted).collect(),
         }
     }
 }

@@ -1,13 +1,14 @@
 //! A state that somebody else keeps between the calls: its parts as they lie
 //! in memory, whether they are fit for a table (number 9), and the calls over
-//! it. What a call does is the plain node's affair.
+//! it. What a call does is the plain node's affair; what the node has no place
+//! for (a flag's number, the bytes past a line, the places past the last
+//! parameter) is kept here, and is brought along by each call (C-19).
 
 use crate::error::SensorError;
 use crate::history::{self, Answer, Call};
 use crate::line::{Unfinished, LINE_FEED, MAX_LINE};
 use crate::list::Row;
-use crate::node::{Client, Counts, Held, Node, State, CLIENTS, MAX_TIME, MIN_VALUES};
-use crate::outbox::MIN_OUTBOX;
+use crate::node::{Client, Counts, Held, Node, State, CLIENTS, MAX_TIME};
 use crate::refusal::Refusal;
 use crate::table::{Parameter, Table, MAX_ACCESSIBLES};
 use crate::value::{self, MAX_STORED};
@@ -74,14 +75,51 @@ impl KeptClient {
         (client.open || client == Client::default()).then_some(client)
     }
 
-    fn take_over(&mut self, client: &Client) {
-        self.open = u8::from(client.open);
-        self.active = client.active;
-        self.overlong = u8::from(client.line == Unfinished::Overlong);
+    /// An open or a close: the line is forgotten.
+    fn set_open(&mut self, flag: u8) {
+        self.open = flag;
+        self.forget_line();
+    }
+
+    /// The bytes that a piece uses: a line feed ends the line, any others join
+    /// it. Inside an overlong line they are dropped.
+    fn take(&mut self, used: &[u8]) {
+        if used.ends_with(&[LINE_FEED]) {
+            self.forget_line();
+        } else if self.overlong == 0 {
+            self.join(used);
+        }
+    }
+
+    /// Bytes stand behind those that the line has; where there are too many none
+    /// of them is written.
+    fn join(&mut self, bytes: &[u8]) {
+        let place = self.line.get_mut(usize::from(self.length)..);
+        match place.and_then(|place| place.get_mut(..bytes.len())) {
+            Some(place) => {
+                place.copy_from_slice(bytes);
+                self.length += bytes.len() as u16;
+            }
+            None => {
+                self.forget_line();
+                self.overlong = 1;
+            }
+        }
+    }
+
+    /// The bytes stay in their place, and are no line any more.
+    fn forget_line(&mut self) {
+        self.overlong = 0;
         self.length = 0;
-        if let Unfinished::Bytes(bytes) = &client.line {
-            self.length = bytes.len() as u16;
-            self.line[..bytes.len()].copy_from_slice(bytes);
+    }
+}
+
+impl Setting {
+    fn of(held: &Held) -> Setting {
+        Setting {
+            length: if held.set { held.value.len() as u16 } else { 0 },
+            error: held.error.map_or(0, SensorError::class),
+            time: held.time,
         }
     }
 }
@@ -102,42 +140,65 @@ impl Kept {
     pub fn call(&mut self, table: &[u8], index: &[u8], call: &Call) -> Answer {
         if let Call::Start { values_len, time } = call {
             let (node, result) = Node::start(table, *values_len, *time);
-            self.start_anew(node.state());
-            return Answer::plain(result);
+            let answer = Answer::plain(result);
+            self.follow(call, &answer, &node);
+            return answer;
         }
         let judged = Table::judge(table);
         let before = judged.as_ref().ok().and_then(|table| self.view(table));
-        let mut node = Node::over(judged, before.clone());
+        let is_fit = before.is_some();
+        let mut node = Node::over(judged, before);
         node.lend(index);
         let answer = history::answer(&mut node, call);
         let lent = [Refusal::Index, Refusal::List].map(Refusal::number);
         let judged_first = (1..=Refusal::Values.number())
             .chain(lent)
             .any(|it| it == answer.number);
-        match (before, call) {
-            (None, _) if !judged_first => Answer {
+        if !is_fit && !judged_first {
+            return Answer {
                 number: UNFIT,
                 ..Answer::default()
-            },
-            (Some(_), Call::Readings { rows, texts, .. }) => {
-                self.take_rows(table, &rows[..answer.taken], texts);
-                answer
+            };
+        }
+        self.follow(call, &answer, &node);
+        answer
+    }
+
+    /// Brings what is kept along with a call, by the node's answer and what it
+    /// holds then. A refused call changes nothing; a start begins anew.
+    pub fn follow(&mut self, call: &Call, answer: &Answer, node: &Node) {
+        match call {
+            Call::Start { time, .. } => {
+                return self.start_anew(if answer.is_accepted() { *time } else { 0 });
             }
-            (Some(before), _) if answer.is_accepted() => {
-                self.take_over(&before, node.state());
-                answer
+            _ if !answer.has_effect() => return,
+            Call::Open { client, .. } => self.clients[*client as usize].set_open(1),
+            Call::Close { client, .. } => self.clients[*client as usize].set_open(0),
+            Call::Piece { client, bytes, .. } => {
+                self.clients[*client as usize].take(&bytes[..answer.used]);
             }
-            _ => answer,
+            Call::Readings { rows, texts, .. } => {
+                self.store_rows(&node.parameters(), &rows[..answer.taken], texts);
+            }
+            Call::Reading { .. } | Call::Unreadable { .. } | Call::Lend { .. } => {}
+        }
+        self.take_over(node.state());
+    }
+
+    /// The readings that a list took, one after another: a shorter value leaves
+    /// the end of a longer one in the values area.
+    fn store_rows(&mut self, parameters: &[Parameter], rows: &[Row], texts: &[u8]) {
+        for row in rows {
+            let parameter = parameters[row.parameter as usize];
+            let text = row.text(texts).expect("it was taken");
+            let stored = value::judge(parameter.datainfo, text).expect("it was taken");
+            self.store(parameter.number, &stored);
         }
     }
 
-    /// Takes readings of a list one by one: the values area has what each of
-    /// them leaves there.
-    fn take_rows(&mut self, table: &[u8], rows: &[Row], texts: &[u8]) {
-        for row in rows {
-            let call = row.single(MIN_VALUES, MIN_OUTBOX, texts);
-            assert!(self.call(table, &[], &call).is_accepted());
-        }
+    /// A value stands at the front of its parameter's place.
+    fn store(&mut self, number: usize, value: &[u8]) {
+        self.values[MAX_STORED * number..][..value.len()].copy_from_slice(value);
     }
 
     /// Whether the state is fit for a table; for a faulty one there is none.
@@ -145,12 +206,14 @@ impl Kept {
         Table::judge(table).is_ok_and(|table| self.view(&table).is_some())
     }
 
-    fn start_anew(&mut self, state: &State) {
+    /// The start's time stands in all places, also those past the last
+    /// parameter; the values area stays.
+    fn start_anew(&mut self, time: u64) {
         let values = std::mem::take(&mut self.values);
         *self = Kept::new(0);
         self.values = values;
-        for (setting, held) in self.settings.iter_mut().zip(&state.parameters) {
-            setting.time = held.time;
+        for setting in &mut self.settings {
+            setting.time = time;
         }
     }
 
@@ -198,22 +261,16 @@ impl Kept {
         })
     }
 
-    /// Takes over what a call changed, and nothing else.
-    fn take_over(&mut self, before: &State, after: &State) {
-        self.counts = after.counts;
-        let clients = before.clients.iter().zip(&after.clients);
-        for (kept, (old, new)) in self.clients.iter_mut().zip(clients) {
-            if old != new {
-                kept.take_over(new);
-            }
+    /// Takes over all that the node holds but the clients' flags and lines.
+    fn take_over(&mut self, state: &State) {
+        self.counts = state.counts;
+        for (kept, client) in self.clients.iter_mut().zip(&state.clients) {
+            kept.active = client.active;
         }
-        let parameters = before.parameters.iter().zip(&after.parameters);
-        for (number, (_, new)) in parameters.enumerate().filter(|(_, (old, new))| old != new) {
-            self.settings[number].time = new.time;
-            self.settings[number].error = new.error.map_or(0, SensorError::class);
-            if new.error.is_none() {
-                self.settings[number].length = new.value.len() as u16;
-                self.values[MAX_STORED * number..][..new.value.len()].copy_from_slice(&new.value);
+        for (number, held) in state.parameters.iter().enumerate() {
+            self.settings[number] = Setting::of(held);
+            if held.set {
+                self.store(number, &held.value);
             }
         }
     }

@@ -15,8 +15,9 @@
 //! * [`node`] is the plain node itself;
 //! * [`history`] runs a list of calls, [`text`] reads and prints it,
 //!   [`definitions`] prints it for the proofs;
-//! * [`kept`] is a state that somebody else keeps, [`operation`] runs calls and
-//!   changes of it, for a program that reads them from its standard input;
+//! * [`kept`] is a state that somebody else keeps, to its last byte, [`operation`]
+//!   runs calls and changes of it, for a program that reads them from its standard
+//!   input;
 //! * [`replay`] runs the events of a trace, [`figures`] tells them in numbers;
 //! * [`random`] and [`generate`] make tables, values and histories.
 

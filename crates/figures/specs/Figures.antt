@@ -15,7 +15,7 @@ use Rattle.datainfo.specs.Datainfo.{Datainfo, double, int, bool, enum, string, 
 unfoldable pub isNarrow : ℤ → ℤ → Bool
 isNarrow lo hi = leZ (negsuc 2147483647) lo && leZ hi (pos 2147483647)
 
--- "each int or scaled parameter whose limits lie within .."; "Other parameters: count only" [R-16]
+-- "each int or scaled parameter whose limits lie within .."; "Other parameters: count only" [R-16, R-18]
 unfoldable pub isSummed : Datainfo → Bool
 isSummed (double lo hi) = false
 isSummed (int lo hi) = isNarrow lo hi
@@ -44,7 +44,7 @@ unfoldable pub total : ℤ → List ℤ → ℤ
 total x [] = x
 total x (y ∷ ys) = total (x +ℤ y) ys
 
--- "least 3 greatest 12 sum 15"; "No settings: count 0 and the word `none`." [R-17]
+-- "least 3 greatest 12 sum 15"; "No settings: count 0 and the word `none`." [R-16, R-17]
 unfoldable pub numbersText : List ℤ → List ℕ
 numbersText [] = bytes " none"
 numbersText (x ∷ xs) =

@@ -24,7 +24,7 @@ isNamed m a x = same m (x .moduleName) && same a (accessibleName (x .it))
 unfoldable pub findAccessible : Table → List ℕ → List ℕ → Option (ℕ × Placed Accessible)
 findAccessible t m a = first (isNamed m a) (accessibles t)
 
--- where the place of an accessible in an index starts [I-4]
+-- where the place of an accessible in an index starts [I-3]
 abbrev pub startOf : Placed Accessible → ℕ
 startOf x = startPlace (x .moduleName) (accessibleName (x .it))
 

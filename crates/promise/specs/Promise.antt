@@ -61,7 +61,7 @@ blank time =
       counts = replicate 8 noCounts;
     }
 
--- What a start promises; it writes nothing. "A refused start returns ..": a blank state with time 0. [H-3]
+-- What a start promises; it writes nothing. "A refused start returns ..": a blank state with time 0. [C-3, C-12, H-3]
 pub record Begins (table values : List ℕ) (time : ℕ) (r : Done) : Type 0 where
   pub number : r .number ≡ startNumber table (length values) time
   pub used : r .used ≡ 0

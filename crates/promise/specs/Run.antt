@@ -48,7 +48,7 @@ pub data Called (table : List ℕ) : Kit → Call → Kit → Heard → Type 0 w
       (beside index (withOutbox (Reading p bs t) (length values) (length outbox)))
       (kit (r .state) values′)
       (hears r outbox′)
-  -- it doesn't write the values area [H-4, H-5]
+  -- it doesn't write the values area [C-8, H-5]
   by-unreadable : (s : State) (values outbox index : List ℕ) (p k t : ℕ) (r : Done) (outbox′ : List ℕ)
       → Kept table (beside index (withOutbox (Unreadable p k t) (length values) (length outbox))) s values outbox r values outbox′
       → Called table

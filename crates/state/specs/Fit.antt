@@ -29,12 +29,12 @@ unfoldable pub settingsUnfit : Settings → List ℕ → ℕ → List (Placed Pa
 settingsUnfit s values p [] = false
 settingsUnfit s values p (x ∷ xs) = settingUnfit s values p (x .it) || settingsUnfit s values (suc p) xs
 
--- "a module past the last is active"
+-- "a module past the last is active" [C-18]
 unfoldable pub pastLast : ℕ → ℕ → Bool
 pastLast mask modules = not (eqb (mask / 2 ^ modules) 0)
 
 -- "an unfinished line is over 1,024 bytes ..": of client c the faults of a line, bytes of an overlong one, modules past the last, and whatever a
--- closed client holds, in document 01's order
+-- closed client holds, in document 01's order [C-18]
 unfoldable pub clientUnfit : ℕ → Clients → ℕ → Bool
 clientUnfit modules s c =
     ltb 1024 (getD (s .length) c 0)

@@ -6,6 +6,7 @@ pub mod calls;
 pub mod datainfos;
 pub mod directed;
 pub mod encode;
+pub mod free;
 pub mod histories;
 pub mod indexes;
 mod lending;

@@ -1,13 +1,15 @@
-//! States that somebody else keeps: which are unfit, and what a program that
-//! keeps one prints.
+//! States that somebody else keeps: which are unfit, what a call leaves of their
+//! bytes, and what a program that keeps one prints.
 
 use crate::build::*;
 use crate::program::{printed, printed_bytes};
-use reference::history::{Answer, Call};
+use reference::generate::{free, histories, racks};
+use reference::history::{Answer, Call, History, Player};
 use reference::index::{FREE, INDEX};
 use reference::kept::Kept;
 use reference::node::MAX_TIME;
 use reference::operation::{input, output, Operation, Poke};
+use reference::random::Random;
 
 /// Module `t1` with the parameters 0, an int from 0 to 9, and 1, a string.
 fn two_parameters() -> Vec<u8> {
@@ -235,6 +237,171 @@ fn unfit_closed_clients() {
     assert_unfit(&[Poke::Active(7, 1)]);
     assert_unfit(&[Poke::Open(0, 0)]);
     assert_fit(&[Poke::Lines(7_168, b"\n".to_vec())]);
+}
+
+/// Makes a call that is accepted.
+#[track_caller]
+fn accepted(kept: &mut Kept, call: Call) {
+    assert_eq!(kept.call(&two_parameters(), &[], &call).number, 0);
+}
+
+/// Client 0 inside the line `ping`, and other bytes wherever there is no line.
+fn scribbled() -> Kept {
+    let bytes = (4..8_192).map(|at| (at % 251) as u8).collect();
+    poked(&[Poke::Lines(4, bytes)])
+}
+
+// C-6, C-19
+#[test]
+fn bytes_that_join_a_line_are_written_behind_it() {
+    let mut kept = scribbled();
+    let mut expected = kept.clone();
+    accepted(&mut kept, piece(0, " xy"));
+    expected.clients[0].line[4..7].copy_from_slice(b" xy");
+    expected.clients[0].length = 7;
+    assert_eq!(kept, expected);
+    accepted(&mut kept, piece(0, ""));
+    assert_eq!(kept, expected);
+    accepted(&mut kept, piece(0, &"z".repeat(1_017)));
+    expected.clients[0].line[7..].fill(b'z');
+    expected.clients[0].length = 1_024;
+    assert_eq!(kept, expected);
+    accepted(&mut kept, open(7));
+    accepted(&mut kept, piece(7, "a"));
+    expected.clients[7].open = 1;
+    expected.clients[7].line[0] = b'a';
+    expected.clients[7].length = 1;
+    assert_eq!(kept, expected);
+}
+
+/// The bytes before a line feed are not written, nor is any other.
+// C-6, C-19
+#[test]
+fn a_line_feed_leaves_the_bytes() {
+    for last in ["\n", " xy\n", "\nping", " \r\nx\n"] {
+        let mut kept = scribbled();
+        let mut expected = kept.clone();
+        accepted(&mut kept, piece(0, last));
+        expected.clients[0].length = 0;
+        expected.counts[0].lines = 1;
+        assert_eq!(kept, expected, "{last:?}");
+    }
+}
+
+// L-2, C-19
+#[test]
+fn a_line_that_gets_overlong_leaves_the_bytes() {
+    let mut kept = scribbled();
+    let mut expected = kept.clone();
+    accepted(&mut kept, piece(0, &"z".repeat(1_021)));
+    expected.clients[0].length = 0;
+    expected.clients[0].overlong = 1;
+    assert_eq!(kept, expected);
+    accepted(&mut kept, piece(0, "more"));
+    assert_eq!(kept, expected);
+    accepted(&mut kept, piece(0, "more\n"));
+    expected.clients[0].overlong = 0;
+    expected.counts[0].lines = 1;
+    expected.counts[0].errors = 1;
+    assert_eq!(kept, expected);
+}
+
+// C-4, C-5, C-19
+#[test]
+fn open_and_close_leave_the_bytes() {
+    let mut kept = scribbled();
+    let mut expected = kept.clone();
+    accepted(&mut kept, close(0));
+    expected.clients[0].open = 0;
+    expected.clients[0].length = 0;
+    assert_eq!(kept, expected);
+    accepted(&mut kept, open(0));
+    expected.clients[0].open = 1;
+    assert_eq!(kept, expected);
+}
+
+// C-19
+#[test]
+fn a_flag_has_its_number_until_a_call_sets_it() {
+    let long = "x".repeat(1_025);
+    let mut kept = poked(&[
+        Poke::Open(0, 5),
+        Poke::Overlong(0, 128),
+        Poke::LineLength(0, 0),
+    ]);
+    let mut flags = |call: Call| {
+        accepted(&mut kept, call);
+        (kept.clients[0].open, kept.clients[0].overlong)
+    };
+    assert_eq!(flags(piece(0, "more")), (5, 128));
+    assert_eq!(flags(reading(0, "5")), (5, 128));
+    assert_eq!(flags(unreadable(0, 1)), (5, 128));
+    assert_eq!(flags(open(1)), (5, 128));
+    assert_eq!(flags(close(1)), (5, 128));
+    assert_eq!(flags(piece(0, "\n")), (5, 0));
+    assert_eq!(flags(piece(0, &long)), (5, 1));
+    assert_eq!(flags(piece(0, "\nactivate\n")), (5, 0));
+    assert_eq!(flags(piece(0, "activate\n")), (5, 0));
+    assert_eq!(flags(close(0)), (0, 0));
+    assert_eq!(flags(open(0)), (1, 0));
+}
+
+// C-3, C-12
+#[test]
+fn a_start_leaves_its_time_in_every_place() {
+    let mut kept = scribbled();
+    Poke::StoredLength(63, 257).apply(&mut kept);
+    let mut expected = Kept::new(VALUES);
+    expected.values = kept.values.clone();
+    let late = Call::Start {
+        values_len: VALUES,
+        time: MAX_TIME + 1,
+    };
+    let mut refused = kept.clone();
+    assert_eq!(refused.call(&two_parameters(), &[], &late).number, 10);
+    assert_eq!(refused, expected);
+    accepted(&mut kept, start());
+    expected.settings.iter_mut().for_each(|one| one.time = 5);
+    assert_eq!(kept, expected);
+}
+
+/// Runs a history with a state's bytes beside the plain node, and over a state
+/// that is handed from call to call; what no call looks at is changed now and
+/// then. Gives how many calls with an effect met a flag above 1.
+fn bytes_beside(history: &History, seed: u64) -> usize {
+    let mut random = Random::new(seed);
+    let mut player = Player::new(&history.table);
+    let (mut beside, mut kept) = (Kept::new(20_000), Kept::new(20_000));
+    let (mut index, mut count) = (Vec::new(), 0);
+    for call in &history.calls {
+        let parameters = player.node().map_or(0, |node| node.parameters().len());
+        for poke in free::some(&mut random, &kept, parameters) {
+            poke.apply(&mut beside);
+            poke.apply(&mut kept);
+        }
+        let odd = kept.clients.iter().any(|client| client.open > 1);
+        let answer = player.call(call).expect("a start comes first");
+        if let Call::Lend { index: next } = call {
+            index.clone_from(next);
+            continue;
+        }
+        let node = player.node().expect("a start came first");
+        beside.follow(call, &answer, node);
+        assert_eq!(kept.call(&history.table, &index, call), answer, "{seed}");
+        assert_eq!(kept, beside, "{seed}");
+        count += usize::from(odd && answer.has_effect());
+    }
+    count
+}
+
+// C-19, H-1
+#[test]
+fn what_no_call_looks_at_alters_no_answer() {
+    let beside = |seed| {
+        let random = bytes_beside(&histories::history(seed, 40), seed);
+        random + bytes_beside(&racks::history(seed, 40), seed)
+    };
+    assert!((0..60).map(beside).sum::<usize>() > 1_000);
 }
 
 /// Of the other numbers those up to 8 are judged before it, and 18.

@@ -1,11 +1,13 @@
 //! Operations put together one by one, over a state of their own that shows
 //! what a change takes away.
 
+use crate::generate::free;
 use crate::history::{Call, History};
 use crate::kept::Kept;
 use crate::node::MIN_VALUES;
 use crate::operation::{Operation, Poke, VALUES_AREA};
 use crate::outbox::MIN_OUTBOX;
+use crate::random::Random;
 use crate::table::Table;
 
 /// The n-th call comes at n seconds and is lent areas just long enough.
@@ -93,11 +95,21 @@ impl Course {
         }
     }
 
+    /// Changes what no call looks at, now and then.
+    pub(super) fn scribble(&mut self, random: &mut Random) {
+        for poke in free::some(random, &self.kept, self.parameters()) {
+            self.poke(poke);
+        }
+    }
+
+    /// How many parameters there are; a faulty table has none.
+    fn parameters(&self) -> usize {
+        Table::judge(&self.table).map_or(0, |table| table.parameters().len())
+    }
+
     /// Prints the state, over a good table with its parameters.
     pub(super) fn show(&mut self) {
-        let judged = Table::judge(&self.table);
-        let count = judged.map_or(0, |table| table.parameters().len());
-        self.operations.push(Operation::Show(count));
+        self.operations.push(Operation::Show(self.parameters()));
     }
 
     /// A history that was made elsewhere.

@@ -15,6 +15,7 @@ mod unfit;
 
 use super::{directed, histories, small};
 use crate::operation::Operation;
+use crate::random::Random;
 use course::Course;
 
 /// The calls of a random history.
@@ -26,15 +27,17 @@ pub fn operations(seed: u64, count: u64) -> Vec<Operation> {
     for seed in seed..seed + count {
         course.history(&format!("small {seed}"), &small::history(seed));
         course.history(&format!("random {seed}"), &histories::history(seed, CALLS));
-        pokes::history(&mut course, seed);
+        pokes::history(&mut course, seed, |_| {});
     }
     course.operations()
 }
 
-/// One history in which the state is changed at random between the calls.
+/// One history in which the state is changed at random between the calls, and
+/// what no call looks at too.
 pub fn changes(seed: u64) -> Vec<Operation> {
     let mut course = Course::new();
-    pokes::history(&mut course, seed);
+    let mut random = Random::new(seed).branch();
+    pokes::history(&mut course, seed, |course| course.scribble(&mut random));
     course.operations()
 }
 

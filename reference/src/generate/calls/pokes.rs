@@ -15,8 +15,9 @@ const TEXTS: [&str; 10] = [
     "7", "10", "7 ", "[]", "[1,2]", "\"\"", "\"a b\"", "\"ab\"", "true", "false",
 ];
 
-/// One history. A state that was made unfit is made fit again.
-pub(super) fn history(course: &mut Course, seed: u64) {
+/// One history, in which something else may be done before each change. A state
+/// that was made unfit is made fit again.
+pub(super) fn history(course: &mut Course, seed: u64, mut between: impl FnMut(&mut Course)) {
     let mut random = Random::new(seed);
     course.started(&format!("changed {seed}"), &some_table(&mut random));
     for client in 0..3 {
@@ -24,6 +25,7 @@ pub(super) fn history(course: &mut Course, seed: u64) {
     }
     course.line(1, "activate");
     for _ in 0..CHANGES {
+        between(course);
         let pokes = some_pokes(&mut random);
         let undoing: Vec<Poke> = undoing(course, &pokes);
         for poke in pokes {
