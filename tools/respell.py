@@ -15,7 +15,7 @@ import sys
 
 CRATES = {"json": "json_text", "base64": "base64_text"}
 NAME = r"[^\s(){}\[\];,.:λ→∷×⊎≡«»\"@\\|$!⌜⌝]+"
-DECLARED = re.compile(rf"^\s*(?:abbrev |unfoldable |mutual )*(?:pub )?(?:data |record )?({NAME})(?: (?:\(.*?\)|\{{.*?\}}))* : ")
+DECLARED = re.compile(rf"^\s*(?:abbrev |unfoldable |mutual )*(?:pub )?(?:data |record )?({NAME})(?: (?:\(.*?\)|\{{.*?\}}))* :(?: |$)")
 PART = re.compile(r"[A-Za-z][A-Za-z0-9_']*[₀-₉]*(?:-[A-Za-z0-9_'₀-₉]+)*")
 TOKEN = re.compile(r"(?<![A-Za-z0-9_'′₀-₉·-])[A-Za-z][A-Za-z0-9_'′₀-₉]*(?:[-][A-Za-z0-9_'′₀-₉]+)*")
 USE = re.compile(r"(?m)^\s*(?:ghost )?(?:pub )?use ([^\s;{]+?)\.\{([^}]*)\}")

@@ -93,14 +93,14 @@ module _ (table : List ℕ) (s : Bare) (values outbox : List ℕ) (k t : ℕ) (b
       unfolding effect reading_effect parameter_of
       does n = rw (there table outbox k t q e g.tellable) refl
 
-      pub is-taken :
+      pub is_taken :
           Sized s.settings → (settings : Settings) → settings ≡ with_length s.settings k (r - 256 * k) t
           → (outbox' : List ℕ) (n : ℕ) → Puts outbox 0 (encode_all sent) outbox' n
           → (r : Bare) → SentCounted (record { clients = s.clients; settings = settings; counts = s.counts }) outbox' n r
           → (lines : List ℕ) → Standing table (lined s lines) values
           → Taken table (lined s lines) values outbox (Reading k bs t) (done_with 0 n 0 (lined r lines)) after outbox'
       unfolding with_held with_setting with_stored parameter_of places_after
-      is-taken z settings i outbox' n p u y lines stands =
+      is_taken z settings i outbox' n p u y lines stands =
           let its = it table outbox k t q e g.tellable in
           let good = datainfos_in_table.of_parameters table g.tellable.accepted k its (there table outbox k t q e g.tellable) in
           is_told table outbox k t q e g.tellable (lined s lines) (valued form) small values stands (stored d bs good g.fits) (Reading k bs t)

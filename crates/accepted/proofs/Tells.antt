@@ -191,7 +191,7 @@ module _ (table outbox : List ℕ) (k t : ℕ) (q : ParameterAt) (e : Cursor) (g
   -- ## A parameter that can't be read, by the names as they are read from the table
 
   module _ (s : State) (f : Fault) (m a : List ℕ) (named_module : m ≡ bytes_of table e.name) (named : a ≡ bytes_of table q.name) where
-    pub is-failed :
+    pub is_failed :
         Sized s.settings → (number : ℕ) → number ≡ fault_number (fault_as f) → (settings : Settings) → settings ≡ with_error s.settings k number t
         → (outbox' : List ℕ) (n : ℕ)
         → Puts outbox 0 (encode_all (sent (with_lines (brief_of s.clients) []) f m a named_module named)) outbox' n
@@ -199,7 +199,7 @@ module _ (table outbox : List ℕ) (k t : ℕ) (q : ParameterAt) (e : Cursor) (g
         → (values : List ℕ) (class : ℕ) → Standing table s values → fault_of class ≡ some (fault_as f)
         → Taken table s values outbox (Unreadable k class t) (done_with 0 n 0 (lined r s.clients.lines)) values outbox'
     unfolding effect unreadable_effect with_held with_setting places_after
-    is-failed z number j settings i outbox' n puts r y values class stands known =
+    is_failed z number j settings i outbox' n puts r y values class stands known =
         is_told s (failed (fault_as f)) tt values stands tt (Unreadable k class t) (rw (there, known) refl) refl z settings
         (i ∙ ap (λ (x : ℕ). with_error s.settings k x t) j) values refl outbox' n
         (rw (named_module, named) at puts) r y

@@ -25,7 +25,7 @@ use Rattle.index.specs.Accepted.{Quick}
 use Rattle.index.proofs.Fills.{filled_length}
 use Rattle.table.proofs.Accessibles.{in_some}
 use Rattle.table.proofs.Whole.{never}
-use Rattle.index.proofs.Searches.{first_meant, walked_first, searched_first, walked_few, searched_few, filled-served}
+use Rattle.index.proofs.Searches.{first_meant, walked_first, searched_first, walked_few, searched_few, filled_served}
 use Rattle.index.proofs.Among.{only_found, first_only}
 use Rattle.ascii.proofs.Lists.{both}
 use Rattle.index.proofs.Named.{place, named_is, accessibles_unique}
@@ -52,13 +52,13 @@ module _ {A : Type 0} (one : Accessible → Option A) where
       go none = refl
       go (some y) = refl
 
-  placed-only :
+  placed_only :
       (of : List Accessible → List A) → ((l : List Accessible) → of l ≡ only one l) → (n : ℕ) (ms : List Module)
       → placed_from of n ms ≡ only (placed_one one) (placed_from (λ xs. xs) n ms)
   unfolding placed_from only
-  placed-only of e n [] = refl
-  placed-only of e n (m ∷ ms) =
-      ap₂ ◌++◌ (ap (map (place n m)) (e m.accessibles) ∙ sym (only_placed n m m.accessibles)) (placed-only of e (suc n) ms)
+  placed_only of e n [] = refl
+  placed_only of e n (m ∷ ms) =
+      ap₂ ◌++◌ (ap (map (place n m)) (e m.accessibles) ∙ sym (only_placed n m m.accessibles)) (placed_only of e (suc n) ms)
       ∙ sym (only_append (placed_one one) (map (place n m) m.accessibles) (placed_from (λ xs. xs) (suc n) ms))
 
 parameters_only : (l : List Accessible) → parameters_of l ≡ only parameter_in l
@@ -104,41 +104,41 @@ module _ (m a : List ℕ) where
           ∙ ap (λ (b : Accessible). same m x.module_name && same a (accessible_name b)) (sym z)
 
 -- one that has the names is the one that is found
-pub parameter-meant :
+pub parameter_meant :
     (t : Table) (m a : List ℕ) → names_good t ≡ true → (n : ℕ) (x : Placed Parameter) → get_elem? (parameters t) n ≡ some x
     → is_parameter m a x ≡ true → find_parameter t m a ≡ some (n, x)
 unfolding find_parameter parameters accessibles
-parameter-meant t m a h n x =
-    let e = placed-only parameter_in parameters_of parameters_only 0 t.modules in
+parameter_meant t m a h n x =
+    let e = placed_only parameter_in parameters_of parameters_only 0 t.modules in
     rw e
     (only_found (placed_one parameter_in) (is_named m a) (is_parameter m a) (parameter_alike m a) (accessibles t)
     (accessibles_unique t m a h) n x)
 
-pub command-meant :
+pub command_meant :
     (t : Table) (m a : List ℕ) → names_good t ≡ true → (n : ℕ) (x : Placed Command) → get_elem? (commands t) n ≡ some x
     → is_command m a x ≡ true → find_command t m a ≡ some (n, x)
 unfolding find_command commands accessibles
-command-meant t m a h n x =
-    let e = placed-only command_in commands_of commands_only 0 t.modules in
+command_meant t m a h n x =
+    let e = placed_only command_in commands_of commands_only 0 t.modules in
     rw e
     (only_found (placed_one command_in) (is_named m a) (is_command m a) (command_alike m a) (accessibles t)
     (accessibles_unique t m a h) n x)
 
-pub parameters-are-accessibles :
+pub parameters_are_accessibles :
     (t : Table) (m a : List ℕ) → names_good t ≡ true
     → find_parameter t m a ≡ as_one (placed_one parameter_in) (accessibles t) (find_accessible t m a)
 unfolding find_parameter find_accessible parameters accessibles
-parameters-are-accessibles t m a h =
-    ap (first (is_parameter m a)) (placed-only parameter_in parameters_of parameters_only 0 t.modules)
+parameters_are_accessibles t m a h =
+    ap (first (is_parameter m a)) (placed_only parameter_in parameters_of parameters_only 0 t.modules)
     ∙ first_only (placed_one parameter_in) (is_named m a) (is_parameter m a) (parameter_alike m a) (accessibles t)
     (accessibles_unique t m a h)
 
-pub commands-are-accessibles :
+pub commands_are_accessibles :
     (t : Table) (m a : List ℕ) → names_good t ≡ true
     → find_command t m a ≡ as_one (placed_one command_in) (accessibles t) (find_accessible t m a)
 unfolding find_command find_accessible commands accessibles
-commands-are-accessibles t m a h =
-    ap (first (is_command m a)) (placed-only command_in commands_of commands_only 0 t.modules)
+commands_are_accessibles t m a h =
+    ap (first (is_command m a)) (placed_only command_in commands_of commands_only 0 t.modules)
     ∙ first_only (placed_one command_in) (is_named m a) (is_command m a) (command_alike m a) (accessibles t)
     (accessibles_unique t m a h)
 
@@ -206,30 +206,30 @@ unfolding index_of
 index_size t = filled_length (map start_of (accessibles t))
 
 -- the index of a table serves each of its accessibles
-index-serves :
+index_serves :
     (t : Table) (m a : List ℕ) (k : ℕ × Placed Accessible) → counts_good t ≡ true → names_good t ≡ true → find_accessible t m a ≡ some k
     → Served (is_named m a) (accessibles t) (start_place m a) (index_of t) k
 unfolding find_accessible index_of
-index-serves t m a k h n e =
+index_serves t m a k h n e =
     let x = named_is m a k.1 (first_meant (is_named m a) (accessibles t) k e).passes in
     let start : start_of k.1 ≡ start_place m a = ap₂ start_place x.0 x.1 in
     rw start at
-    (filled-served (is_named m a) start_of (accessibles t) (accessibles_unique t m a n) (omega (arith, accessibles_few t h))
+    (filled_served (is_named m a) start_of (accessibles t) (accessibles_unique t m a n) (omega (arith, accessibles_few t h))
     (λ x. start_low x.module_name (accessible_name x.it)) k e)
 
 -- what is lent may be longer than the index
-sought-index :
+sought_index :
     (t : Table) (m a more : List ℕ) → sought t (index_of t ++ more) m a ≡ searched (is_named m a) (start_place m a) (index_of t) (accessibles t)
-sought-index t m a more =
+sought_index t m a more =
     sought_with t (index_of t ++ more) m a (le-ltb (length (index_of t ++ more)) 128 (omega (arith, length-append (index_of t) more, index_size t)))
     ∙ ap (λ (xs : List ℕ). searched (is_named m a) (start_place m a) xs (accessibles t)) (take_at (index_of t) more 128 (index_size t))
 
-pub present-names-are-quick :
+pub present_names_are_quick :
     (t : Table) (m a more : List ℕ) (k : ℕ × Placed Accessible) → counts_good t ≡ true → names_good t ≡ true
     → find_accessible t m a ≡ some k → Quick t (index_of t ++ more) m a k
-present-names-are-quick t m a more k h n e =
-    let served = index-serves t m a k h n e in
-    let is = sought-index t m a more in
+present_names_are_quick t m a more k h n e =
+    let served = index_serves t m a k h n e in
+    let is = sought_index t m a more in
     let low = accessibles_few t h in
     record {
       found = rw is served.found;

@@ -164,15 +164,15 @@ places_more ps p low h i l = by_equal i (length ps) new (λ n. old (omega (arith
     old : i < length ps → get_or (ps ++ p ∷ []) i 0 < 128
     old k = rw (get_or-append ps (p ∷ []) 0 i k) (low i k)
 
-good-on :
+good_on :
     (qs ps xs : List ℕ) → Good ps xs → Places ps → Places qs → length ps + length qs ≤ 128 → Good (ps ++ qs) (filled_from (length ps) qs xs)
 unfolding filled_from
-good-on [] ps xs g low more few = rw append-nil g
-good-on (q ∷ qs) ps xs g low more few =
+good_on [] ps xs g low more few = rw append-nil g
+good_on (q ∷ qs) ps xs g low more few =
     let h : length ps < 128 = omega arith in
     let l : q < 128 = more 0 (omega arith) in
     let e : length (ps ++ q ∷ []) ≡ suc (length ps) = length-append ps (q ∷ []) ∙ add-one (length ps) in
-    let on = good-on qs (ps ++ q ∷ []) (entered q (length ps) xs) (good_more ps xs g q l h low) (places_more ps q low l) in
+    let on = good_on qs (ps ++ q ∷ []) (entered q (length ps) xs) (good_more ps xs g q l h low) (places_more ps q low l) in
     let r = on (λ i k. more (suc i) (omega arith)) (omega arith) in
     rw (e, append_snoc) at r
 
@@ -194,7 +194,7 @@ good_empty =
 
 pub filled_good : (ps : List ℕ) → Places ps → length ps ≤ 128 → Good ps (filled ps)
 unfolding filled
-filled_good ps low few = good-on ps [] empty good_empty (λ i h. absurd (omega arith)) low (omega arith)
+filled_good ps low few = good_on ps [] empty good_empty (λ i h. absurd (omega arith)) low (omega arith)
 
 from_length : (k : ℕ) (ps xs : List ℕ) → length (filled_from k ps xs) ≡ length xs
 unfolding filled_from entered

@@ -26,12 +26,12 @@ use Rattle.table.proofs.Whole.{never}
 
 module _ {A : Type 0} where
   -- an element of two lists, one after another, is one of the first or of the second
-  append-there :
+  append_there :
       (xs ys : List A) (i : ℕ) (x : A) → get_elem? (xs ++ ys) i ≡ some x
       → (get_elem? xs i ≡ some x) ⊎ ((k : ℕ) × (i ≡ length xs + k) × (get_elem? ys k ≡ some x))
-  append-there [] ys i x e = inr (i, sym (zero-add i), e)
-  append-there (w ∷ xs) ys zero x e = inl e
-  append-there (w ∷ xs) ys (suc i) x e = go (append-there xs ys i x e)
+  append_there [] ys i x e = inr (i, sym (zero-add i), e)
+  append_there (w ∷ xs) ys zero x e = inl e
+  append_there (w ∷ xs) ys (suc i) x e = go (append_there xs ys i x e)
     where
       go :
           (get_elem? xs i ≡ some x) ⊎ ((k : ℕ) × (i ≡ length xs + k) × (get_elem? ys k ≡ some x))
@@ -63,9 +63,9 @@ module _ {A : Type 0} where
 -- ## Names
 
 -- no two places of distinct texts have the same text
-distinct-first :
+distinct_first :
     (y : List ℕ) (l : List (List ℕ)) → not (any (same y) l) && distinct l ≡ true → (j : ℕ) (x : List ℕ) → get_elem? l j ≡ some x → y ≡ x → ⊥
-distinct-first y l d j x e h =
+distinct_first y l d j x e h =
     false≢true
     (sym (not-true (any (same y) l) (both (not (any (same y) l)) (distinct l) d).0)
     ∙ any_there (same y) l j x e (ap (same y) (sym h) ∙ same_self y))
@@ -74,8 +74,8 @@ distinct_one : (l : List (List ℕ)) → distinct l ≡ true → (i j : ℕ) (x 
 unfolding distinct
 distinct_one [] d i j x e f = absurd (never e)
 distinct_one (y ∷ l) d zero zero x e f = refl
-distinct_one (y ∷ l) d zero (suc j) x e f = absurd (distinct-first y l d j x f (in_some e))
-distinct_one (y ∷ l) d (suc i) zero x e f = absurd (distinct-first y l d i x e (in_some f))
+distinct_one (y ∷ l) d zero (suc j) x e f = absurd (distinct_first y l d j x f (in_some e))
+distinct_one (y ∷ l) d (suc i) zero x e f = absurd (distinct_first y l d i x e (in_some f))
 distinct_one (y ∷ l) d (suc i) (suc j) x e f = ap suc (distinct_one l (both (not (any (same y) l)) (distinct l) d).1 i j x e f)
 
 unique_one : (l : List (List ℕ)) → unique l ≡ true → (i j : ℕ) (x : List ℕ) → get_elem? l i ≡ some x → get_elem? l j ≡ some x → i ≡ j
@@ -103,7 +103,7 @@ placed_module_lem :
     → (h : ℕ) × (get_elem? (map module_name ms) h ≡ some x.module_name)
 unfolding placed_from
 placed_module_lem n [] i x e = absurd (never e)
-placed_module_lem n (m ∷ ms) i x e = go (append-there (map (place n m) m.accessibles) (placed_from whole (suc n) ms) i x e) (placed_module_lem (suc n) ms)
+placed_module_lem n (m ∷ ms) i x e = go (append_there (map (place n m) m.accessibles) (placed_from whole (suc n) ms) i x e) (placed_module_lem (suc n) ms)
   where
     go :
         (get_elem? (map (place n m) m.accessibles) i ≡ some x)
@@ -121,11 +121,11 @@ module _ (m a : List ℕ) where
       (sym (same_is m x.module_name g.0), sym (same_is a (accessible_name x.it) g.1))
 
   -- of one module
-  module-one :
+  module_one :
       (n : ℕ) (w : Module) → unique (map accessible_name w.accessibles) ≡ true → (i j : ℕ) (x y : Placed Accessible)
       → get_elem? (map (place n w) w.accessibles) i ≡ some x → get_elem? (map (place n w) w.accessibles) j ≡ some y
       → is_named m a x ≡ true → is_named m a y ≡ true → i ≡ j
-  module-one n w u i j x y e f g h = unique_one (map accessible_name w.accessibles) u i j a (name i x e g) (name j y f h)
+  module_one n w u i j x y e f g h = unique_one (map accessible_name w.accessibles) u i j a (name i x e g) (name j y f h)
     where
       name :
           (i : ℕ) (x : Placed Accessible) → get_elem? (map (place n w) w.accessibles) i ≡ some x → is_named m a x ≡ true
@@ -136,32 +136,32 @@ module _ (m a : List ℕ) where
           ∙ ap some (ap (λ (y : Placed Accessible). accessible_name y.it) z.2 ∙ (named_is x g).1)
 
   -- of one module and of another
-  module-other :
+  module_other :
       (n k : ℕ) (w : Module) (ws : List Module) → unique (map module_name (w ∷ ws)) ≡ true → (i j : ℕ) (x y : Placed Accessible)
       → get_elem? (map (place n w) w.accessibles) i ≡ some x → get_elem? (placed_from whole k ws) j ≡ some y
       → is_named m a x ≡ true → is_named m a y ≡ true → ⊥
-  module-other n k w ws u i j x y e f g h =
+  module_other n k w ws u i j x y e f g h =
       let z = map_there (place n w) w.accessibles i x e in
       let q = placed_module_lem k ws j y f in
       let b : w.name ≡ m = ap (λ (y : Placed Accessible). y.module_name) z.2 ∙ (named_is x g).0 in
       let c : 0 ≡ suc q.0 = unique_one (map module_name (w ∷ ws)) u 0 (suc q.0) m (ap some b) (q.1 ∙ ap some (named_is y h).0) in
       omega arith
 
-  placed-unique :
+  placed_unique :
       (n : ℕ) (ms : List Module) → unique (map module_name ms) ≡ true
       → ((k : ℕ) (w : Module) → get_elem? ms k ≡ some w → unique (map accessible_name w.accessibles) ≡ true)
       → Unique (is_named m a) (placed_from whole n ms)
   unfolding placed_from
-  placed-unique n [] u v = record { one = λ i j x y e f g h. absurd (never e) }
-  placed-unique n (w ∷ ws) u v = go (placed-unique (suc n) ws (unique_tail w.name (map module_name ws) u) (λ k. v (suc k)))
+  placed_unique n [] u v = record { one = λ i j x y e f g h. absurd (never e) }
+  placed_unique n (w ∷ ws) u v = go (placed_unique (suc n) ws (unique_tail w.name (map module_name ws) u) (λ k. v (suc k)))
     where
       go : Unique (is_named m a) (placed_from whole (suc n) ws) → Unique (is_named m a) (map (place n w) w.accessibles ++ placed_from whole (suc n) ws)
       go r =
           record {
             one = λ i j x y e f g h.
                 pick i j x y g h
-                (append-there (map (place n w) w.accessibles) (placed_from whole (suc n) ws) i x e)
-                (append-there (map (place n w) w.accessibles) (placed_from whole (suc n) ws) j y f);
+                (append_there (map (place n w) w.accessibles) (placed_from whole (suc n) ws) i x e)
+                (append_there (map (place n w) w.accessibles) (placed_from whole (suc n) ws) j y f);
           }
         where
           pick :
@@ -171,9 +171,9 @@ module _ (m a : List ℕ) where
               → (get_elem? (map (place n w) w.accessibles) j ≡ some y)
               ⊎ ((k : ℕ) × (j ≡ length (map (place n w) w.accessibles) + k) × (get_elem? (placed_from whole (suc n) ws) k ≡ some y))
               → i ≡ j
-          pick i j x y g h (inl e) (inl f) = module-one n w (v 0 w refl) i j x y e f g h
-          pick i j x y g h (inl e) (inr f) = absurd (module-other n (suc n) w ws u i f.0 x y e f.2 g h)
-          pick i j x y g h (inr e) (inl f) = absurd (module-other n (suc n) w ws u j e.0 y x f e.2 h g)
+          pick i j x y g h (inl e) (inl f) = module_one n w (v 0 w refl) i j x y e f g h
+          pick i j x y g h (inl e) (inr f) = absurd (module_other n (suc n) w ws u i f.0 x y e f.2 g h)
+          pick i j x y g h (inr e) (inl f) = absurd (module_other n (suc n) w ws u j e.0 y x f e.2 h g)
           pick i j x y g h (inr e) (inr f) =
               let k = r.one e.0 f.0 x y e.2 f.2 g h in
               omega (arith, e.1, f.1)
@@ -189,15 +189,15 @@ module_names w h =
     let b = (both (is_text w.description && note_good w.note) (all is_name names && unique names) a).1 in
     (both (all is_name names) (unique names) b).1
 
-modules-names :
+modules_names :
     (ms : List Module) → all module_names_good ms ≡ true → (k : ℕ) (w : Module) → get_elem? ms k ≡ some w
     → unique (map accessible_name w.accessibles) ≡ true
 unfolding all
-modules-names [] h k w e = absurd (never e)
-modules-names (m ∷ ms) h zero w e =
+modules_names [] h k w e = absurd (never e)
+modules_names (m ∷ ms) h zero w e =
     ap (λ (z : Module). unique (map accessible_name z.accessibles)) (sym (in_some e))
     ∙ module_names m (both (module_names_good m) (all module_names_good ms) h).0
-modules-names (m ∷ ms) h (suc k) w e = modules-names ms (both (module_names_good m) (all module_names_good ms) h).1 k w e
+modules_names (m ∷ ms) h (suc k) w e = modules_names ms (both (module_names_good m) (all module_names_good ms) h).1 k w e
 
 pub accessibles_unique : (t : Table) (m a : List ℕ) → names_good t ≡ true → Unique (is_named m a) (accessibles t)
 unfolding names_good good_names accessibles
@@ -207,4 +207,4 @@ accessibles_unique t m a h =
     let x = both (texts && (all is_name names && unique names)) (all module_names_good t.modules) h in
     let y = both texts (all is_name names && unique names) x.0 in
     let z = both (all is_name names) (unique names) y.1 in
-    placed-unique m a 0 t.modules z.1 (modules-names t.modules x.1)
+    placed_unique m a 0 t.modules z.1 (modules_names t.modules x.1)

@@ -168,16 +168,16 @@ module _ {A : Type 0} (p : A → Bool) where
     pub found : r.found ≡ some k
     pub few : r.steps ≤ n
 
-  looked-met :
+  looked_met :
       (l : List A) → Unique p l → (k : ℕ × A) → Meant l k → (ys : List ℕ) (n : ℕ) → n < length ys → get_or ys n 255 ≡ k.0
       → ((i : ℕ) → i < suc n → get_or ys i 255 ≡ 255 → ⊥) → Ends k (suc n) (looked p l ys)
   unfolding looked
-  looked-met l u k m [] n h e w = absurd (omega arith)
-  looked-met l u k m (y ∷ ys) zero h e w =
+  looked_met l u k m [] n h e w = absurd (omega arith)
+  looked_met l u k m (y ∷ ys) zero h e w =
       rw (not_free y (w 0 (omega arith)), e, offered_is l k.0 k.1 m.there m.passes) record { found = refl; few = omega arith }
-  looked-met l u k m (y ∷ ys) (suc n) h e w =
+  looked_met l u k m (y ∷ ys) (suc n) h e w =
       rw (not_free y (w 0 (omega arith)))
-      (go (offered p l y) refl (looked-met l u k m ys n (omega arith) e (λ i j. w (suc i) (omega arith))))
+      (go (offered p l y) refl (looked_met l u k m ys n (omega arith) e (λ i j. w (suc i) (omega arith))))
     where
       go : (o : Option (ℕ × A)) → offered p l y ≡ o → Ends k (suc n) (looked p l ys) → Ends k (suc (suc n)) (or_later o (looked p l ys))
       go none z r = let f = r.few in record { found = r.found; few = omega arith }
@@ -219,7 +219,7 @@ module _ {A : Type 0} (p : A → Bool) where
       within = rw (length_around (start_of k.1) index) met.within
 
       ends : Ends k (suc met.steps) (looked p l (around (start_of k.1) index))
-      ends = looked-met l u k m (around (start_of k.1) index) met.steps within met.there way
+      ends = looked_met l u k m (around (start_of k.1) index) met.steps within met.there way
 
       short : suc met.steps ≤ length l
       short =
@@ -240,7 +240,7 @@ module _ {A : Type 0} (p : A → Bool) where
           }
 
     -- an accessible that is there is served by the index that is filled from the table
-    pub filled-served :
+    pub filled_served :
         (l : List A) → Unique p l → length l ≤ 128 → ((x : A) → start_of x < 128) → (k : ℕ × A) → first p l ≡ some k
         → Served p l (start_of k.1) (filled (map start_of l)) k
-    filled-served l u few low k e = served l u few low k (first_meant l k e)
+    filled_served l u few low k e = served l u few low k (first_meant l k e)

@@ -90,12 +90,12 @@ module _ (table : List ℕ) (s : Bare) (values before : List ℕ) (c t : ℕ) (g
   clients_fit = (neither (settings_unfit s.settings values 0 (parameters w)) _ given.fit).1
 
   -- an error: the state, the values area and what stood in the outbox before stay
-  error-answered :
+  error_answered :
       (p : Parts) (after : List ℕ) (r : Answered) (e : Denial) → r.state ≡ s
       → Puts before 0 (encode (final c (error p.action p.specifier e))) after r.written
       → Answers table s values before r values after (conclude w n c t p (denied e)) []
   unfolding conclude area_with settings_with
-  error-answered p after r e same puts =
+  error_answered p after r e same puts =
       record {
         node = rw same;
         fit = rw same given.fit;
@@ -107,14 +107,14 @@ module _ (table : List ℕ) (s : Bare) (values before : List ℕ) (c t : ℕ) (g
 
   module _ (p : Parts) (mid stored : List ℕ) (o : Plain.Outcome) (after : List ℕ) (r : Answered) where
     -- what was carried out: its records were written before
-    carried-answered :
+    carried_answered :
         (next : Node) (written : ℕ) (set : List Setting) → Carries w n c t before mid values stored o next written set → Keeps mid after s c t r written
         → view table (unlined r.state) stored ≡ next → is_unfit w (unlined r.state) stored ≡ false
         → stored ≡ area_with values set → r.state.settings ≡ settings_with s.settings set
         → r.state.clients ≡ brief_masks s.clients r.state.clients.active
         → Answers table s values before r stored after (conclude w n c t p o) (settings_of o)
     unfolding conclude settings_of
-    carried-answered next written set x k node fit area settings clients =
+    carried_answered next written set x k node fit area settings clients =
         rw x.is
         (record {
           node = node;
@@ -130,13 +130,13 @@ module _ (table : List ℕ) (s : Bare) (values before : List ℕ) (c t : ℕ) (g
     unfolding settings_of
     denied_answered e x k =
         rw (x.is, x.area)
-        (error-answered p after r e k.state (subst (λ (l : List ℕ). Puts l 0 (encode (final c (error p.action p.specifier e))) after r.written) x.quiet k.puts))
+        (error_answered p after r e k.state (subst (λ (l : List ℕ). Puts l 0 (encode (final c (error p.action p.specifier e))) after r.written) x.quiet k.puts))
 
     sent_answered : (written : ℕ) → Sends w n c t before mid values stored o written → Passes mid after s c t r written
         → Answers table s values before r stored after (conclude w n c t p o) (settings_of o)
     unfolding area_with settings_with
     sent_answered written x k =
-        carried-answered n written [] x.carries k.keeps (rw (k.state, x.unstored)) (rw (k.state, x.unstored) given.fit) x.unstored (rw k.state)
+        carried_answered n written [] x.carries k.keeps (rw (k.state, x.unstored)) (rw (k.state, x.unstored) given.fit) x.unstored (rw k.state)
         (rw k.state)
 
     active_answered : Sized (with_lines s.clients [])
@@ -146,7 +146,7 @@ module _ (table : List ℕ) (s : Bare) (values before : List ℕ) (c t : ℕ) (g
     active_answered z mask written x k =
         let b = active_becomes (with_lines s.clients []) z c given.lent.low mask (ap (λ (x : Brief). with_lines x []) k.clients) in
         let fit = still_fit (length w.modules) b (record { is_open = given.is_open; within = x.low }) clients_fit in
-        carried-answered _ written [] x.carries k.keeps
+        carried_answered _ written [] x.carries k.keeps
         (rw x.unstored (parts_view table values r.state refl k.settings k.counts ∙ client_view table (unlined s) values b))
         (rw x.unstored (rw k.settings (nor settings_fit fit)))
         x.unstored
@@ -177,7 +177,7 @@ module _ (table : List ℕ) (s : Bare) (values before : List ℕ) (c t : ℕ) (g
         let settings : r.state.settings ≡ settings_with s.settings set = rw x.long at y.settings ∙ settings_are s.settings f k x.text in
         let is = all_set table (accepted table given.lent.accepted).few set (unlined s) values z given.area settings_fit
         (all_settable h f x.status x.holds) in
-        carried-answered _ written set x.carries y.keeps
+        carried_answered _ written set x.carries y.keeps
         (rw x.area (parts_view table (area_with values set) r.state y.clients settings y.counts ∙ is.node))
         (rw (x.area, settings, y.clients) (nor is.fit clients_fit))
         x.area
@@ -196,13 +196,13 @@ module _ (table : List ℕ) (s : Bare) (values before : List ℕ) (c t : ℕ) (g
   -- ## A whole line
 
   -- a line without content
-  pub bad-answered :
+  pub bad_answered :
       (xs : List ℕ) → content (whole xs) ≡ [] → (after : List ℕ) (r : Answered) → r.state ≡ s
       → Puts before 0 (encode (final c (error [] [] (class (class_of ProtocolError))))) after r.written
       → Answers table s values before r values after (answer_parts w n c t (parts_of (content (whole xs))))
       (parts_set w n c t (parts_of (content (whole xs))))
   unfolding answer_parts parts_set settings_of parts_of before_space after_space take_while drop_while tail request same bytes outcome
-  bad-answered xs e after r same puts = rw e (error-answered (record { action = []; specifier = []; payload = [] }) after r (class (class_of ProtocolError)) same puts)
+  bad_answered xs e after r same puts = rw e (error_answered (record { action = []; specifier = []; payload = [] }) after r (class (class_of ProtocolError)) same puts)
 
   -- a number of a parameter that is there
   holds_low : {k : ℕ} {x : List ℕ} → Holds w k x → k < 64
@@ -239,12 +239,12 @@ module _ (table : List ℕ) (s : Bare) (values before : List ℕ) (c t : ℕ) (g
     carriable asked k = record { short = short; specifier_in = h.specifier_in; payload_in = h.payload_in; inside = k.inside }
 
     -- as the code has its action and its specifier
-    pub parts-concludable :
+    pub parts_concludable :
         (action specifier : List ℕ) → action ≡ part xs a → specifier ≡ part xs p → (mid stored : List ℕ) (asked : Request) (came : Outcome)
         → Comes table (unlined s) values before c t came stored mid (meaning xs (part xs p) (part xs d) asked) → Concludable mid action specifier came
-    parts-concludable action specifier e f mid stored asked came x = rw (e, f) (concludable mid stored _ came x)
+    parts_concludable action specifier e f mid stored asked came x = rw (e, f) (concludable mid stored _ came x)
 
-    pub line-answered :
+    pub line_answered :
         (asked : Request) → Asks xs a p asked → Sized (with_lines s.clients []) → Settled.Sized s.settings → t ≤ latest
         → (mid stored after : List ℕ) (came : Outcome) (r : Answered)
         → Comes table (unlined s) values before c t came stored mid (meaning xs (part xs p) (part xs d) asked)
@@ -252,24 +252,24 @@ module _ (table : List ℕ) (s : Bare) (values before : List ℕ) (c t : ℕ) (g
         → Answers table s values before r stored after (answer_parts w n c t (parts_of (content (whole xs))))
         (parts_set w n c t (parts_of (content (whole xs))))
     unfolding answer_parts parts_set
-    line-answered asked k i z l mid stored after came r x y =
+    line_answered asked k i z l mid stored after came r x y =
         answered (parts_of (content (whole xs))) mid stored (outcome w n c t (request (parts_of (content (whole xs))))) after r i z l came
         (rw (requested xs a p d asked h k) at x)
         (rw (h.action_is, h.specifier_is) at y)
 
     -- with its search
-    pub parts-replied :
+    pub parts_replied :
         (index : List ℕ) (asked : Request) → Asks xs a p asked → (found : Placed) → SoughtFor table index xs asked found
         → (r : Answered) (stored after : List ℕ) → AnswersLine table s values before c t xs r stored after
         → RepliesLine table s values before c t index xs (record { answered = r; steps = found.steps }) stored after
-    parts-replied index asked k found x r stored after y = record { answers = y; steps = line_steps_lem table index xs a p d h asked k found x }
+    parts_replied index asked k found x r stored after y = record { answers = y; steps = line_steps_lem table index xs a p d h asked k found x }
 
   -- a line without content seeks nothing
-  pub bad-replied :
+  pub bad_replied :
       (index xs : List ℕ) (w : P.Parsed) → Parses xs w → w ≡ P.TheVariants.Bad → (after : List ℕ) (written : ℕ)
       → Puts before 0 (encode (final c (error [] [] (class (class_of ProtocolError))))) after written
       → RepliesLine table s values before c t index xs (record { answered = record { state = s; written = written }; steps = 0 }) values after
   unfolding request_steps parts_of before_space after_space take_while drop_while tail request same bytes
-  bad-replied index xs w h z after written puts =
+  bad_replied index xs w h z after written puts =
       let e : content (whole xs) ≡ [] = rw z at h in
-      record { answers = bad-answered xs e after (record { state = s; written = written }) refl puts; steps = rw e }
+      record { answers = bad_answered xs e after (record { state = s; written = written }) refl puts; steps = rw e }

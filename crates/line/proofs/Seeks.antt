@@ -92,15 +92,15 @@ module _ (s index line : List ℕ) where
     pub name_in_lem : (asked : Request) → Inside line asked → (r : Names) → r ≡ names_of asked → r ≡ N.At v m a → Within line a
     name_in_lem asked h r e z = (names_in asked h (sym e ∙ z)).1
 
-    seeks-names :
+    seeks_names :
         is_built (table_of s) v ≡ true → (asked : Request) → names_of asked ≡ N.At v m a → (r : Placed) → Locates s (part line m) (part line a) r.located
         → r.steps ≡ seek_steps (table_of s) index (part line m) (part line a) → SoughtFor s index line asked r
-    seeks-names g Q.Identify e r x y = absurd (not_named e)
-    seeks-names g Q.Describe e r x y = absurd (not_named e)
-    seeks-names g Q.Ping e r x y = absurd (not_named e)
-    seeks-names g (Q.All v) e r x y = absurd (not_named e)
-    seeks-names g (Q.Scoped v k) e r x y = absurd (not_named e)
-    seeks-names g (Q.Named u k b) e r x y =
+    seeks_names g Q.Identify e r x y = absurd (not_named e)
+    seeks_names g Q.Describe e r x y = absurd (not_named e)
+    seeks_names g Q.Ping e r x y = absurd (not_named e)
+    seeks_names g (Q.All v) e r x y = absurd (not_named e)
+    seeks_names g (Q.Scoped v k) e r x y = absurd (not_named e)
+    seeks_names g (Q.Named u k b) e r x y =
         let o : u ≡ v = cc in
         let p : m ≡ k = cc in
         let q : a ≡ b = cc in
@@ -109,8 +109,8 @@ module _ (s index line : List ℕ) where
           located = λ _. rw (p, q) at x;
           steps = λ specifier payload. y ∙ rw (p, q) (sym (verb_steps u f _ (part line k) (part line b)));
         }
-    seeks-names g Q.Count e r x y = absurd (not_named e)
-    seeks-names g Q.Malformed e r x y = absurd (not_named e)
+    seeks_names g Q.Count e r x y = absurd (not_named e)
+    seeks_names g Q.Malformed e r x y = absurd (not_named e)
 
     -- a verb that the edition doesn't have
     seeks_idle : is_built (table_of s) v ≡ false → (asked : Request) → names_of asked ≡ N.At v m a → SoughtFor s index line asked unsought
@@ -130,25 +130,25 @@ module _ (s index line : List ℕ) where
     seeks_idle g Q.Malformed e = absurd (not_named e)
 
     -- as the code has them
-    pub seeks-unbuilt :
+    pub seeks_unbuilt :
         (r : Bool) → r ≡ is_built (table_of s) v → not r ≡ true → (asked : Request) (n : Names) → n ≡ names_of asked → n ≡ N.At v m a
         → SoughtFor s index line asked unsought
-    seeks-unbuilt r b f asked n e z = seeks_idle (sym b ∙ not-true r f) asked (sym e ∙ z)
+    seeks_unbuilt r b f asked n e z = seeks_idle (sym b ∙ not-true r f) asked (sym e ∙ z)
 
-    pub seeks-found :
+    pub seeks_found :
         (b : Bool) → b ≡ is_built (table_of s) v → not b ≡ false
         → (asked : Request) (n : Names) → n ≡ names_of asked → n ≡ N.At v m a → (xs ys : List ℕ) → xs ≡ part line m → ys ≡ part line a
         → (r : Placed) → Locates s xs ys r.located × (r.steps ≡ seek_steps (table_of s) index xs ys) → SoughtFor s index line asked r
-    seeks-found b f g asked n e z xs ys p q r h =
+    seeks_found b f g asked n e z xs ys p q r h =
         let x = rw (p, q) at h.0 in
         let y = rw (p, q) at h.1 in
-        seeks-names (sym f ∙ not-false b g) asked (sym e ∙ z) r x y
+        seeks_names (sym f ∙ not-false b g) asked (sym e ∙ z) r x y
 
   -- what the names of a verb locate
-  pub named-located :
+  pub named_located :
       (asked : Request) (l : L.Located) → LocatedAt s line (names_of asked) l → (v : Verb) (m a : Part) → asked ≡ Q.Named v m a
       → (xs ys : List ℕ) → xs ≡ part line m → ys ≡ part line a → is_built (table_of s) v ≡ true → Locates s xs ys l
-  named-located asked l h v m a e xs ys p q b =
+  named_located asked l h v m a e xs ys p q b =
       let f : is_built (table_of s) v ≡ true → Locates s (part line m) (part line a) l = rw e at h in
       rw (p, q) (f b)
 

@@ -53,11 +53,11 @@ module _ (d : List ℕ) (at : ℕ) (v : List ℕ) (t : ℕ) where
     unfolding counted_text
     counted_2 e p x = two_2 d (bytes "_counted . ") (data_report v t) at h e p x
 
-  pub counted-all :
+  pub counted_all :
       (e f : List ℕ) (p q : ℕ) → Puts d at (bytes "_counted . ") e p → Puts e p (data_report v t) f q
       → Puts d at (counted_text v t) f q
   unfolding counted_text
-  counted-all e f p q x y = puts_both x y
+  counted_all e f p q x y = puts_both x y
 
 pub counted_length : (v : List ℕ) (t : ℕ) → length (counted_text v t) ≡ length (data_report v t) + 11
 unfolding counted_text bytes

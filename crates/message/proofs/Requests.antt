@@ -152,17 +152,17 @@ module _ (xs : List ℕ) (a s : Part) (w : Action) (e : w ≡ action_of (part xs
   unfolding asked
   asks_nothing h = record { is = λ x. ap (λ (v : Action). asked v (parts xs a s x)) (sym h) ∙ asks x; inside = tt; begin = tt }
 
-  pub asks-scoped :
+  pub asks_scoped :
       (v : Switch) (r : Request) → w ≡ Scoped v → AsksScoped xs s v r
       → Asks xs a s r
   unfolding asked
-  asks-scoped v r h k = record { is = λ x. k.is x ∙ ap (λ (v : Action). asked v (parts xs a s x)) (sym h) ∙ asks x; inside = k.inside; begin = k.begin }
+  asks_scoped v r h k = record { is = λ x. k.is x ∙ ap (λ (v : Action). asked v (parts xs a s x)) (sym h) ∙ asks x; inside = k.inside; begin = k.begin }
 
-  pub asks-named :
+  pub asks_named :
       (v : Verb) (r : Request) → w ≡ Named v → AsksNamed xs s v r
       → Asks xs a s r
   unfolding asked
-  asks-named v r h k = record { is = λ x. k.is x ∙ ap (λ (v : Action). asked v (parts xs a s x)) (sym h) ∙ asks x; inside = k.inside; begin = k.begin }
+  asks_named v r h k = record { is = λ x. k.is x ∙ ap (λ (v : Action). asked v (parts xs a s x)) (sym h) ∙ asks x; inside = k.inside; begin = k.begin }
 
 -- ## Modules: all, or a name
 

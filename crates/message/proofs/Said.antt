@@ -77,11 +77,11 @@ module _ (d : List ℕ) (at : ℕ) (v : List ℕ) (t : ℕ) where
       unfolding data_report
       data_3 f q y = three_3 d _ (seconds t) (bytes "}]") at h e p x f q y
 
-  pub data-all :
+  pub data_all :
       (e f g : List ℕ) (p q r : ℕ) → Puts d at (bytes "[" ++ v ++ bytes ",{\"t\":") e p → Puts e p (seconds t) f q → Puts f q (bytes "}]") g r
       → Puts d at (data_report v t) g r
   unfolding data_report
-  data-all e f g p q r x y z = puts_both (puts_both x y) z
+  data_all e f g p q r x y z = puts_both (puts_both x y) z
 
 pub data_length : (v : List ℕ) (t : ℕ) → length (data_report v t) ≡ length v + length (seconds t) + 9
 unfolding data_report bytes
@@ -104,11 +104,11 @@ module _ (d : List ℕ) (at : ℕ) (f : Error.Fault) (t : ℕ) where
       unfolding fault_report fault_front
       fault_3 g q y = three_3 d (fault_front f) (seconds t) (bytes "}]") at h e p x g q y
 
-  pub fault-all :
+  pub fault_all :
       (e g i : List ℕ) (p q r : ℕ) → Puts d at (fault_front f) e p → Puts e p (seconds t) g q → Puts g q (bytes "}]") i r
       → Puts d at (fault_report f t) i r
   unfolding fault_report fault_front
-  fault-all e g i p q r x y z = puts_both (puts_both x y) z
+  fault_all e g i p q r x y z = puts_both (puts_both x y) z
 
 pub fault_length : (f : Error.Fault) (t : ℕ) → length (fault_report f t) ≡ length (fault_front f) + length (seconds t) + 2
 unfolding fault_report fault_front bytes
@@ -146,16 +146,16 @@ module _ (d : List ℕ) (at : ℕ) (m a : List ℕ) (v : Held) (t : ℕ) where
       unfolding report_text
       report_3 f q y = three_3 d _ (bytes " ") (held_report v t) at h e p x f q y
 
-  pub report-all :
+  pub report_all :
       (e f g : List ℕ) (p q r : ℕ) → Puts d at (m ++ bytes ":" ++ a) e p → Puts e p (bytes " ") f q → Puts f q (held_report v t) g r
       → Puts d at (report_text (report_of m a v t)) g r
   unfolding report_text
-  report-all e f g p q r x y z = puts_both (puts_both x y) z
+  report_all e f g p q r x y z = puts_both (puts_both x y) z
 
-pub report-length :
+pub report_length :
     (m a : List ℕ) (v : Held) (t : ℕ) → length (report_text (report_of m a v t)) ≡ length m + length a + 2 + length (held_report v t)
 unfolding report_text bytes
-report-length m a v t = simp length-append (omega arith)
+report_length m a v t = simp length-append (omega arith)
 
 -- ## A pong
 
@@ -169,11 +169,11 @@ module _ (d : List ℕ) (at : ℕ) (w : List ℕ) (t : ℕ) where
     unfolding reply_line
     pong_2 e p x = two_2 d _ (data_report (bytes "null") t) at h e p x
 
-  pub pong-all :
+  pub pong_all :
       (e f : List ℕ) (p q : ℕ) → Puts d at (bytes "pong " ++ w ++ bytes " ") e p → Puts e p (data_report (bytes "null") t) f q
       → Puts d at (reply_line (pong w t)) f q
   unfolding reply_line
-  pong-all e f p q x y = puts_both x y
+  pong_all e f p q x y = puts_both x y
 
 pub pong_length : (w : List ℕ) (t : ℕ) → length (reply_line (pong w t)) ≡ length w + 6 + length (data_report (bytes "null") t)
 unfolding reply_line bytes
@@ -202,11 +202,11 @@ module _ (d : List ℕ) (at : ℕ) (a s : List ℕ) (k : Error.Denial) where
         unfolding reply_line
         error_4 g r z = two_2 d _ (error_report k) at h g r (puts_both (puts_both x y) z)
 
-  pub error-all :
+  pub error_all :
       (e f g i : List ℕ) (p q r j : ℕ) → Puts d at (bytes "error_" ++ a ++ bytes " ") e p → Puts e p s f q → Puts f q (bytes " ") g r
       → Puts g r (error_report k) i j → Puts d at (reply_line (error a s k)) i j
   unfolding reply_line
-  error-all e f g i p q r j x y z w = puts_both (puts_both (puts_both x y) z) w
+  error_all e f g i p q r j x y z w = puts_both (puts_both (puts_both x y) z) w
 
 pub error_length : (a s : List ℕ) (k : Error.Denial) → length (reply_line (error a s k)) ≡ length a + length s + 8 + length (error_report k)
 unfolding reply_line bytes

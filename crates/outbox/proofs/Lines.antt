@@ -161,20 +161,20 @@ class_read BadJSON = refl
 class_read WrongType = refl
 class_read RangeError = refl
 
-fault-begins :
+fault_begins :
     (f : Fault) (t : ℕ)
     → begins (fault_front HardwareError) (fault_report f t) || begins (fault_front CommunicationFailed) (fault_report f t) || begins (fault_front ReadFailed) (fault_report f t) || begins (fault_front OutOfRange) (fault_report f t)
     ≡ true
 unfolding begins after fault_report fault_front fault_name bytes
-fault-begins HardwareError t = refl
-fault-begins CommunicationFailed t = refl
-fault-begins ReadFailed t = refl
-fault-begins OutOfRange t = refl
+fault_begins HardwareError t = refl
+fault_begins CommunicationFailed t = refl
+fault_begins ReadFailed t = refl
+fault_begins OutOfRange t = refl
 
 denial_read : (d : Denial) → read_denial (error_report d) ≡ d
 unfolding error_report read_denial
 denial_read (class c) = class_read c
-denial_read (fault f t) = rw (fault-begins f t, fault_read f t, fault_time_read f t)
+denial_read (fault f t) = rw (fault_begins f t, fault_read f t, fault_time_read f t)
 
 -- ## Replies: the first word, and then what follows it
 

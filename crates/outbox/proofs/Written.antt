@@ -15,7 +15,7 @@ use Rattle.message.specs.Clauses.Said.{fault_as, held_by, report_of}
 use Rattle.message.specs.declared.say.Fault.{Fault}
 use Rattle.message.specs.declared.say.Sensor.{Sensor}
 use Rattle.message.specs.declared.say.Sensor.TheVariants.{Works, Fails}
-use Rattle.message.proofs.Said.{two_1, two_2, error_length, report-length}
+use Rattle.message.proofs.Said.{two_1, two_2, error_length, report_length}
 use Rattle.outbox.specs.Outbox.{Record, final, update, mark, client, body, encode}
 use Rattle.outbox.specs.Clauses.Written.{sealed, Room, LineRoom, RoomFor, describing_start}
 
@@ -51,11 +51,11 @@ module _ (d m : List ℕ) (at c n : ℕ) where
             let u = z.ends in
             omega arith
 
-  pub header-all :
+  pub header_all :
       (e f g i : List ℕ) (p q r j : ℕ) → Puts d at m e p → Puts e p (c ∷ []) f q → Puts f q (n / 256 ∷ []) g r → Puts g r (n % 256 ∷ []) i j
       → Puts d at (m ++ (c ∷ two_bytes n)) i j
   unfolding two_bytes
-  header-all e f g i p q r j x y z w = puts_both x (puts_both y (puts_both z w))
+  header_all e f g i p q r j x y z w = puts_both x (puts_both y (puts_both z w))
 
 -- ## A record with its body, of which n is the length
 
@@ -106,10 +106,10 @@ module _ (d : List ℕ) (at : ℕ) (m : List ℕ) (c : ℕ) (l : List ℕ) (k : 
       unfolding bytes
       line_3 f q y = let t = two_2 e l (bytes "\n") p (sealed_2 d at m c (l ++ bytes "\n") (k + 1) size room e p x) f q y in omega arith
 
-  pub line-all :
+  pub line_all :
       (e f g : List ℕ) (p q r : ℕ) → Puts d at (m ++ (c ∷ two_bytes (k + 1))) e p → Puts e p l f q → Puts f q (bytes "\n") g r
       → Puts d at (sealed m c (l ++ bytes "\n")) g r
-  line-all e f g p q r x y z = sealed_all d at m c (l ++ bytes "\n") (k + 1) size e g p r x (puts_both y z)
+  line_all e f g p q r x y z = sealed_all d at m c (l ++ bytes "\n") (k + 1) size e g p r x (puts_both y z)
 
 -- ## An order
 
@@ -169,11 +169,11 @@ module _ (d : List ℕ) (at c : ℕ) (r : Reply) (k : ℕ) (s : k ≡ length (re
       pub final_3 : (f : List ℕ) (q : ℕ) → Puts e p (reply_line r) f q → q < length f
       final_3 f q y = line_3 d at (bytes "RP") c (reply_line r) k s (line_of d at c r h) e p x f q y
 
-  pub final-all :
+  pub final_all :
       (e f g : List ℕ) (p q i : ℕ) → Puts d at (bytes "RP" ++ (c ∷ two_bytes (k + 1))) e p → Puts e p (reply_line r) f q → Puts f q (bytes "\n") g i
       → Puts d at (encode (final c r)) g i
   unfolding sealed encode mark client body
-  final-all e f g p q i x y z = line-all d at (bytes "RP") c (reply_line r) k s e f g p q i x y z
+  final_all e f g p q i x y z = line_all d at (bytes "RP") c (reply_line r) k s e f g p q i x y z
 
 -- ## An update, by whether the parameter can be read
 
@@ -221,12 +221,12 @@ word_names d at m c w n h =
     let i : length w + length (bytes " ") + length n < 65535 = simp length-append at h.short in
     omega arith
 
-pub report-names :
+pub report_names :
     (d : List ℕ) (at : ℕ) (m : List ℕ) (c : ℕ) (w x a : List ℕ) (v : Held) (t : ℕ) → LineRoom d at m c (w ++ report_text (report_of x a v t))
     → length w + length x + length a ≤ 65536
-report-names d at m c w x a v t h =
+report_names d at m c w x a v t h =
     let i : length w + length (report_text (report_of x a v t)) < 65535 = simp length-append at h.short in
-    let k = report-length x a v t in
+    let k = report_length x a v t in
     omega arith
 
 -- ## A report after its start
@@ -236,17 +236,17 @@ module _ (d : List ℕ) (at c n : ℕ) where
   unfolding describing_start
   start_1 h = two_1 d (bytes "RP" ++ (c ∷ two_bytes (n + 14))) (bytes "describing . ") at h
 
-  pub start-2 :
+  pub start_2 :
       at + length (describing_start c n) ≤ length d → (e : List ℕ) (p : ℕ) → Puts d at (bytes "RP" ++ (c ∷ two_bytes (n + 14))) e p
       → p + length (bytes "describing . ") ≤ length e
   unfolding describing_start
-  start-2 h e p x = two_2 d (bytes "RP" ++ (c ∷ two_bytes (n + 14))) (bytes "describing . ") at h e p x
+  start_2 h e p x = two_2 d (bytes "RP" ++ (c ∷ two_bytes (n + 14))) (bytes "describing . ") at h e p x
 
-  pub start-all :
+  pub start_all :
       (e f : List ℕ) (p q : ℕ) → Puts d at (bytes "RP" ++ (c ∷ two_bytes (n + 14))) e p → Puts e p (bytes "describing . ") f q
       → Puts d at (describing_start c n) f q
   unfolding describing_start
-  start-all e f p q x y = puts_both x y
+  start_all e f p q x y = puts_both x y
 
 describing_size : (r : List ℕ) → length (bytes "describing . " ++ r ++ bytes "\n") ≡ length r + 14
 unfolding bytes

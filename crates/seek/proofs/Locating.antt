@@ -24,7 +24,7 @@ use Rattle.search.specs.Clauses.Left.{placed, left_from}
 use Rattle.search.specs.Clauses.Found.{FindsModule, ParameterFound, CommandFound, ParameterLocated, CommandLocated, NothingLocated, Locates}
 use Rattle.index.specs.Among.{as_one}
 use Rattle.index.specs.Accessibles.{accessibles, is_named, find_accessible, sought, seek_steps, parameter_in, command_in, placed_one}
-use Rattle.index.proofs.Accepted.{answers_stand, parameter-meant, command-meant, parameters-are-accessibles, commands-are-accessibles}
+use Rattle.index.proofs.Accepted.{answers_stand, parameter_meant, command_meant, parameters_are_accessibles, commands_are_accessibles}
 use Rattle.seek.specs.declared.walk.Walk.{Walk}
 use Rattle.seek.specs.declared.walk.Step as S
 use Rattle.seek.specs.declared.look.Sought.{Sought}
@@ -75,8 +75,8 @@ module _ (s m a : List ℕ) (g : table_number s ≡ 0) (home : is_some (find_mod
   nothing e =
       record {
         home = home;
-        parameter = parameters-are-accessibles (table_of s) m a (accepted_names s g) ∙ rw e;
-        command = commands-are-accessibles (table_of s) m a (accepted_names s g) ∙ rw e;
+        parameter = parameters_are_accessibles (table_of s) m a (accepted_names s g) ∙ rw e;
+        command = commands_are_accessibles (table_of s) m a (accepted_names s g) ∙ rw e;
       }
 
   module _ (k : ℕ) (v : Walk) (it : Accessible) (e : find_accessible (table_of s) m a ≡ some (k, placed s v.cursor it)) where
@@ -99,26 +99,26 @@ module _ (s m a : List ℕ) (g : table_number s ≡ 0) (home : is_some (find_mod
               record {
                 held = t.held;
                 is =
-                    parameter-meant (table_of s) m a (accepted_names s g) (v.parameters - 1) _ t.number (rw t.is at named)
+                    parameter_meant (table_of s) m a (accepted_names s g) (v.parameters - 1) _ t.number (rw t.is at named)
                     ∙ ap (λ (x : List ℕ). some (v.parameters - 1, at_home x (parameter_of s q t.held.datainfo))) (sym module_name_lem);
               };
-          command = commands-are-accessibles (table_of s) m a (accepted_names s g) ∙ rw (e, t.is);
+          command = commands_are_accessibles (table_of s) m a (accepted_names s g) ∙ rw (e, t.is);
         }
 
-    command-located :
+    command_located :
         (q : CommandAt) → There s k (O.TheVariants.Command q) v → CommandThere s q v it
         → CommandLocated s m a (v.commands - 1) (v.cursor.modules - 1) q
     unfolding as_one parameter_in accessible_name command_of
-    command-located q w t =
+    command_located q w t =
         let n : v.commands - 1 + 1 ≡ v.commands = omega (arith, t.some_passed) in
         record {
           home = home;
-          parameter = parameters-are-accessibles (table_of s) m a (accepted_names s g) ∙ rw (e, t.is);
+          parameter = parameters_are_accessibles (table_of s) m a (accepted_names s g) ∙ rw (e, t.is);
           command =
               record {
                 held = t.held;
                 is =
-                    command-meant (table_of s) m a (accepted_names s g) (v.commands - 1) _ t.number (rw t.is at named)
+                    command_meant (table_of s) m a (accepted_names s g) (v.commands - 1) _ t.number (rw t.is at named)
                     ∙ ap (λ (x : List ℕ). some (v.commands - 1, at_home x (command_of s q t.held.argument))) (sym module_name_lem);
                 next = v.cursor;
                 way = w.passed.way;
@@ -128,13 +128,13 @@ module _ (s m a : List ℕ) (g : table_number s ≡ 0) (home : is_some (find_mod
               };
         }
 
-  one-located :
+  one_located :
       (one : O.One) (v : Walk) → FoundIs s one v (find_accessible (table_of s) m a) → Locates s m a (located_as (S.TheVariants.At one v))
-  one-located (O.TheVariants.Parameter q) v f = parameter_located f.number v f.there.it f.is q f.there.one
-  one-located (O.TheVariants.Command q) v f = command-located f.number v f.there.it f.is q f.there f.there.one
+  one_located (O.TheVariants.Parameter q) v f = parameter_located f.number v f.there.it f.is q f.there.one
+  one_located (O.TheVariants.Command q) v f = command_located f.number v f.there.it f.is q f.there f.there.one
 
   found_located : (f : S.Step) → Finds s f (find_accessible (table_of s) m a) → Locates s m a (located_as f)
-  found_located (S.TheVariants.At one v) h = one-located one v h
+  found_located (S.TheVariants.At one v) h = one_located one v h
   found_located S.TheVariants.End h = nothing h
 
 -- ## One law for each way

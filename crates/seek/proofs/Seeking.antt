@@ -82,20 +82,20 @@ module _ (s m a : List ℕ) (k : ℕ) (r : S.Step) (h : NumberedIs s k r) where
 -- ## Looking into an index
 
 module _ (s m a xs : List ℕ) (start n q : ℕ) (c : Looking (is_named m a) (accessibles (table_of s)) xs start n q) where
-  pub look-free :
+  pub look_free :
       n < 128 → get_or xs q 0 ≡ 255
       → Answers s (record { found = S.TheVariants.End; steps = n + 1 }) (looked (is_named m a) (accessibles (table_of s)) (around start xs))
-  look-free h e = answer_nothing (looking_free (is_named m a) (accessibles (table_of s)) xs start n q c h e)
+  look_free h e = answer_nothing (looking_free (is_named m a) (accessibles (table_of s)) xs start n q c h e)
 
-  pub look-end :
+  pub look_end :
       128 ≤ n → Answers s (record { found = S.TheVariants.End; steps = n }) (looked (is_named m a) (accessibles (table_of s)) (around start xs))
-  look-end h = answer_nothing (looking_end (is_named m a) (accessibles (table_of s)) xs start n q c h)
+  look_end h = answer_nothing (looking_end (is_named m a) (accessibles (table_of s)) xs start n q c h)
 
   module _ (h : n < 128) (u : get_or xs q 0 ≡ 255 → ⊥) (r : S.Step) (hr : Finds s r (offered (is_named m a) (accessibles (table_of s)) (get_or xs q 0))) where
-    pub look-found :
+    pub look_found :
         (one : O.One) (v : Walk) → r ≡ S.TheVariants.At one v
         → Answers s (record { found = S.TheVariants.At one v; steps = n + 1 }) (looked (is_named m a) (accessibles (table_of s)) (around start xs))
-    look-found one v z =
+    look_found one v z =
         let f : FoundIs s one v (offered (is_named m a) (accessibles (table_of s)) (get_or xs q 0)) = rw z at hr in
         answer_at f.there (looking_found (is_named m a) (accessibles (table_of s)) xs start n q c h u _ f.is)
 
@@ -125,9 +125,9 @@ module _ (s m a : List ℕ) (w : Walk) (c : InVain s m a w) (r : S.Step) (h : St
     here = (rw z at h).there
 
     module _ (p : Part) (hp : p ≡ name_of one) (t : Bool) (ht : t ≡ (same m (bytes_of s v.cursor.name) && same a (bytes_of s p))) where
-      pub walk-found :
+      pub walk_found :
           t ≡ true → Answers s (record { found = S.TheVariants.At one v; steps = v.accessibles }) (walked (is_named m a) (accessibles (table_of s)))
-      walk-found y =
+      walk_found y =
           answer_at here
           (walking_found (is_named m a) (accessibles (table_of s)) w.accessibles c.walking _ here.is
           (passes s m a w.accessibles one v here p hp t ht ∙ y)

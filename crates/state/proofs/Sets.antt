@@ -21,7 +21,7 @@ use Rattle.state.specs.declared.State.{State}
 use Rattle.state.specs.View.{place_of, view, with_stored, with_held, with_setting, area_with, settings_with, next_settings}
 use Rattle.state.specs.Fit.{settings_unfit}
 use Rattle.state.proofs.Settled.{Sized, stored_fit, failed_fit}
-use Rattle.state.proofs.Views.{value_view, fault-view}
+use Rattle.state.proofs.Views.{value_view, fault_view}
 
 -- a setting of a parameter that is there, to a stored form that fits it or to an error, at a time within the limit
 pub record Settable (w : Table) (x : Setting) : Type 0 where
@@ -78,7 +78,7 @@ module _ (table : List ℕ) (few : length (parameters (table_of table)) ≤ 64) 
               time = length-set s.settings.time k t ∙ z.time;
             };
         room = refl;
-        node = fault-view table s z values k low f t fit p there;
+        node = fault_view table s z values k low f t fit p there;
         fit = failed_fit s.settings z values k low f t ps fit p there tm;
       }
 

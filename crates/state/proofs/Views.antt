@@ -40,12 +40,12 @@ module _ (table : List ℕ) (s : State) (z : Sized s.settings) (values : List �
       (fun_ext (stored_view s.settings z values room k h text some_bytes short time (parameters (table_of table)) fit x at table))
 
 -- a parameter can't be read
-pub fault-view :
+pub fault_view :
     (table : List ℕ) (s : State) → Sized s.settings → (values : List ℕ) (k : ℕ) → k < 64 → (f : Fault) (time : ℕ)
     → settings_unfit s.settings values 0 (parameters (table_of table)) ≡ false → (x : Placed Parameter) → get_elem? (parameters (table_of table)) k ≡ some x
     → view table (next_settings s (with_error s.settings k (fault_number f) time)) values ≡ with_value (view table s values) k (holding (failed f) time)
 unfolding view
-fault-view table s z values k h f time fit x at =
+fault_view table s z values k h f time fit x at =
     ap (with_values (view table s values)) (fun_ext (failed_view s.settings z values k h f time (parameters (table_of table)) fit x at table))
 
 -- a parameter that was never set shows its initial value

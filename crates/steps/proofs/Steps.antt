@@ -17,7 +17,7 @@ use Rattle.index.specs.Index.{around}
 use Rattle.index.specs.Search as Index
 use Rattle.index.specs.Search.{looked}
 use Rattle.index.specs.Accessibles.{accessibles, is_named, find_accessible, index_of, sought, seek_steps}
-use Rattle.index.proofs.Accepted.{steps_are_few, present-names-are-quick}
+use Rattle.index.proofs.Accepted.{steps_are_few, present_names_are_quick}
 use Rattle.report.specs.Judge.{number_of, tree_number, table_number}
 use Rattle.report.proofs.Faults.{no_fault, first_fault_none}
 use Rattle.message.specs.Line.{content, parts_of}
@@ -173,7 +173,7 @@ quick_steps table unfit n e m a more k lent seeks found h =
     by_accepted table unfit n e (Quick (table_of table) m a) h λ z.
     let w = table_of table in
     let good = table_good table z in
-    let q = present-names-are-quick w m a more k good.0 good.1 found in
+    let q = present_names_are_quick w m a more k good.0 good.1 found in
     let is : call_steps w n e ≡ seek_steps w (index_of w ++ more) m a =
     event_steps_lem w e.lent.index n e.event ∙ ap (steps_of w e.lent.index) seeks ∙ ap (λ (x : List ℕ). seek_steps w x m a) lent in
     record {

@@ -95,23 +95,23 @@ module _ (w : Table) (n : Node) (c t : ℕ) (before after values : List ℕ) whe
         low = past_last_lem mask (length w.modules) λ j l. h j ∙ k j l;
       }
 
-  pub all-inactive :
+  pub all_inactive :
       (written : ℕ) → Puts before 0 (encode (final c (inactive none))) after written
       → Activates w n c t before after values values (outcome w n c t (deactivate none)) 0 written
   unfolding outcome in_scope deactivates
-  all-inactive written p =
+  all_inactive written p =
       switched (λ i. is_active (n.clients c) i && not true) [] (inactive none) 0 written
       (λ i. no_bit i ∙ sym (and_none (is_active (n.clients c) i)))
       (λ i l. and_none (is_active (n.clients c) i))
       (puts_after [] (final c (inactive none)) before before 0 (puts_none before) after written p)
 
-  pub one-inactive :
+  pub one_inactive :
       (name : List ℕ) (i mask : ℕ) → past_last mask (length w.modules) ≡ false → ((j : ℕ) → is_active (n.clients c) j ≡ bit mask j)
       → (next : ℕ) → ((j : ℕ) → bit next j ≡ bit mask j && not (eqb j i))
       → (written : ℕ) → Puts before 0 (encode (final c (inactive (some name)))) after written
       → Activates w n c t before after values values (deactivates w n c t (λ j. eqb j i) (some name)) next written
   unfolding deactivates
-  one-inactive name i mask low h next k written p =
+  one_inactive name i mask low h next k written p =
       switched (λ j. is_active (n.clients c) j && not (eqb j i)) [] (inactive (some name)) next written
       (λ j. k j ∙ ap (λ (b : Bool). b && not (eqb j i)) (sym (h j)))
       (λ j l. ap (λ (b : Bool). b && not (eqb j i)) (h j ∙ not_past mask (length w.modules) low j l))
@@ -133,22 +133,22 @@ module _ (w : Table) (n : Node) (c t : ℕ) (before after values : List ℕ) whe
         (λ j l. rw (held_low w (n.clients c) (s.clients c) j l, le-ltb j (length w.modules) l))
         (puts_after (updates_of c wanted n.values 0 (parameters w)) (final c (active m)) before mid p x after written y)
 
-    all-active :
+    all_active :
         (next : ℕ) → ((j : ℕ) → bit next j ≡ bit mask j || ltb j (length w.modules))
         → Puts before 0 (encode_all (updates_of c (λ i. true) n.values 0 (parameters w))) mid p
         → Puts mid p (encode (final c (active none))) after written
         → Activates w n c t before after values values (outcome w n c t (activate none)) next written
     unfolding outcome in_scope
-    all-active next k x y =
+    all_active next k x y =
         more_active (λ i. true) none next (λ j. k j ∙ ap (λ (b : Bool). bit mask j || b) (sym (and-true (ltb j (length w.modules))))) x y
 
-    one-active :
+    one_active :
         (name : List ℕ) (i : ℕ) → i < length w.modules
         → (next : ℕ) → ((j : ℕ) → bit next j ≡ bit mask j || eqb j i)
         → Puts before 0 (encode_all (updates_of c (λ j. eqb j i) n.values 0 (parameters w))) mid p
         → Puts mid p (encode (final c (active (some name)))) after written
         → Activates w n c t before after values values (activates w n c t (λ j. eqb j i) (some name)) next written
-    one-active name i low next k x y =
+    one_active name i low next k x y =
         more_active (λ j. eqb j i) (some name) next (λ j. k j ∙ ap (λ (b : Bool). bit mask j || b) (sym (low_only j i (length w.modules) low))) x y
 
 -- ## An activate, at a state that is fit
@@ -164,31 +164,31 @@ module _ (table : List ℕ) (s : State) (z : Sized s.clients) (values out : List
   sound = fit_is_sound table s values z r.lent.accepted r.fit
 
   -- the reply has room after the updates
-  pub active-room :
+  pub active_room :
       (wanted : ℕ → Bool) (m : Option (List ℕ)) → Named m
       → (e : List ℕ) (p : ℕ) → Puts out 0 (encode_all (updates_of c wanted n.values 0 (parameters w))) e p → RoomFor e p (final c (active m))
   unfolding activates
-  active-room wanted m h e p x =
+  active_room wanted m h e p x =
       let low = r.lent.low in
       let k = (comes_activates w (accepted table r.lent.accepted) n sound c (omega arith) 0 (omega arith) wanted m h).written.short in
       room_after (updates_of c wanted n.values 0 (parameters w)) (final c (active m)) out e p x (omega arith) r.lent.room
 
   module _ (t : ℕ) (mid after : List ℕ) (p next written : ℕ) where
-    pub activated-all :
+    pub activated_all :
         (k : ℕ) → k ≡ length w.modules
         → ((j : ℕ) → bit next j ≡ bit (get_or s.clients.active c 0) j || ltb j k)
         → Puts out 0 (encode_all (updates_of c (λ i. true) n.values 0 (parameters w))) mid p
         → Puts mid p (encode (final c (active none))) after written
         → Activates w n c t out after values values (outcome w n c t (activate none)) next written
-    activated-all k f h =
-        all-active w n c t out after values sound (get_or s.clients.active c 0) (open_bits table s values c r.is_open) mid p written next
+    activated_all k f h =
+        all_active w n c t out after values sound (get_or s.clients.active c 0) (open_bits table s values c r.is_open) mid p written next
         (λ j. h j ∙ ap (λ (m : ℕ). bit (get_or s.clients.active c 0) j || ltb j m) f)
 
-    pub activated-one :
+    pub activated_one :
         (name : List ℕ) (i : ℕ) → i < length w.modules
         → ((j : ℕ) → bit next j ≡ bit (get_or s.clients.active c 0) j || eqb j i)
         → Puts out 0 (encode_all (updates_of c (λ j. eqb j i) n.values 0 (parameters w))) mid p
         → Puts mid p (encode (final c (active (some name)))) after written
         → Activates w n c t out after values values (activates w n c t (λ j. eqb j i) (some name)) next written
-    activated-one name i low h =
-        one-active w n c t out after values sound (get_or s.clients.active c 0) (open_bits table s values c r.is_open) mid p written name i low next h
+    activated_one name i low h =
+        one_active w n c t out after values sound (get_or s.clients.active c 0) (open_bits table s values c r.is_open) mid p written name i low next h

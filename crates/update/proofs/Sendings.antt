@@ -16,7 +16,7 @@ use Rattle.ascii.proofs.Decimal.{seconds_low}
 use Rattle.message.specs.Error.{Fault}
 use Rattle.message.specs.Reply.{Held, valued, failed, held_as, DataReport, update_word, update_line}
 use Rattle.message.specs.Clauses.Said.{report_of}
-use Rattle.message.proofs.Said.{held_short, report-length}
+use Rattle.message.proofs.Said.{held_short, report_length}
 use Rattle.outbox.specs.Outbox.{Record, update, body, encode, encode_all}
 use Rattle.outbox.specs.Clauses.Written.{RoomFor}
 use Rattle.plain.specs.Node.{Client, is_active, client_numbers, updates_to}
@@ -74,13 +74,13 @@ module _ (m a : List ℕ) (o : Option Fault) (v : List ℕ) (t : ℕ) where
   update_short : length m + length a + length v ≤ 1024 → t < 2 ^ 64 → length (update_line (report_of m a (held_as o v) t) ++ bytes "\n") ≤ 65535
   unfolding update_line bytes
   update_short h k =
-      simp length-append (omega (arith, seconds_low t k, word_short (held_as o v), held_short o v t, report-length m a (held_as o v) t))
+      simp length-append (omega (arith, seconds_low t k, word_short (held_as o v), held_short o v t, report_length m a (held_as o v) t))
 
-  room-update :
+  room_update :
       (d : List ℕ) (at c : ℕ) → length m + length a + length v ≤ 1024 → t < 2 ^ 64
       → at + length (encode_all (update c (report_of m a (held_as o v) t) ∷ [])) ≤ length d → RoomFor d at (update c (report_of m a (held_as o v) t))
   unfolding body
-  room-update d at c h k l = record { fits = rw (encode_one (update c (report_of m a (held_as o v) t))) at l; short = update_short h k }
+  room_update d at c h k l = record { fits = rw (encode_one (update c (report_of m a (held_as o v) t))) at l; short = update_short h k }
 
 -- ## Updates to one client and the next
 
@@ -109,7 +109,7 @@ module _ (f : ℕ → Client) (i c : ℕ) (b : Bool) (h : b ≡ is_active (f c) 
 
   pub to_room : (d : List ℕ) (at : ℕ) (m a : List ℕ) (o : Option Fault) (v : List ℕ) (t : ℕ) → b ≡ true → length m + length a + length v ≤ 1024 → t < 2 ^ 64
       → at + length (encode_all (updates_to f i (report_of m a (held_as o v) t) (c ∷ []))) ≤ length d → RoomFor d at (update c (report_of m a (held_as o v) t))
-  to_room d at m a o v t e s k l = room-update m a o v t d at c s k (rw (is_update_lem (report_of m a (held_as o v) t) e) at l)
+  to_room d at m a o v t e s k l = room_update m a o v t d at c s k (rw (is_update_lem (report_of m a (held_as o v) t) e) at l)
 
   pub to_active : (r : DataReport) {d e : List ℕ} {at p : ℕ} → b ≡ true → Puts d at (encode (update c r)) e p
       → Puts d at (encode_all (updates_to f i r (c ∷ []))) e p

@@ -5,7 +5,7 @@ use Rattle.index.proofs.commands_are_accessibles.Tie as tie
 use Rattle.index.proofs.Accepted as theorem
 
 returns : tie.Need-returns
-returns c = (refl, theorem.commands-are-accessibles)
+returns c = (refl, theorem.commands_are_accessibles)
 
 pub commands-are-accessibles-spec : {M : Type 1} → statement M
 commands-are-accessibles-spec = tie.close (tie.spec returns)

@@ -4,7 +4,7 @@ use mathlib.Core.Path.{subst}
 use mathlib.Core.List.{[]}
 use Rattle.message.specs.Clauses.Parsed.{Parses}
 use Rattle.line.proofs.Carried.{error_room}
-use Rattle.line.proofs.Answers.{bad-replied}
+use Rattle.line.proofs.Answers.{bad_replied}
 use borrow.Author.Rules.{rules}
 use Rattle.line.proofs.answer_line.Statement.{statement}
 use Rattle.line.proofs.answer_line.Tie as tie
@@ -33,7 +33,7 @@ same_length : tie.Need-same-length
 same_length c = search rules
 
 returns : tie.Need-returns
-returns c = search bad-replied
+returns c = search bad_replied
 
 reply-parts-requires : tie.Need-reply-parts-requires
 reply-parts-requires c κs =

@@ -2,7 +2,7 @@
 use mathlib.Core.List.{[]}
 use Rattle.state.proofs.Becomes.{brief_sized}
 use Rattle.state.proofs.Settled.{settings_sized}
-use Rattle.line.proofs.Answers.{carriable, parts-concludable, line-answered}
+use Rattle.line.proofs.Answers.{carriable, parts_concludable, line_answered}
 use borrow.Author.Rules.{rules}
 use Rattle.line.proofs.answer_parts.Statement.{statement}
 use Rattle.line.proofs.answer_parts.Tie as tie
@@ -17,7 +17,7 @@ bytes-of-requires-2 : tie.Need-bytes-of-requires-2
 bytes-of-requires-2 c κs = search rules
 
 conclude-requires : tie.Need-conclude-requires
-conclude-requires c κs = (search rules, search parts-concludable)
+conclude-requires c κs = (search rules, search parts_concludable)
 
 same_length : tie.Need-same-length
 same_length c = search rules
@@ -31,7 +31,7 @@ returns c =
     let y = brief_sized at.args.state.clients at.well-formed.1.1.1.0.1.1.0 [] in
     let z = settings_sized at.args.state.settings at.well-formed.1.1.1.0.1.1.1.0 in
     let came = c.before.before.before.before.before.before.before.before.before.before.outcome in
-    line-answered at.args.table.now at.args.state at.args.values.now at.args.out.now at.args.client at.args.time at.requires.0
+    line_answered at.args.table.now at.args.state at.args.values.now at.args.out.now at.args.client at.args.time at.requires.0
     at.args.line.now at.requires.1.1.0 _ _ _ at.requires.1.1.1.0 _ at.requires.1.1.1.1.0 y z at.requires.1.0 came.new.1.1.0 _ _ came.result _
     came.ensures
     (rw (c.before.before.before.before.bytes_of.ensures, c.before.before.before.bytes-of2.ensures) at c.before.before.conclude.ensures)

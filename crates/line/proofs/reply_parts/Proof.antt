@@ -1,6 +1,6 @@
 -- `line::reply_parts` meets its contract. Assumes nothing.
 use Rattle.line.proofs.Seeks.{found_located}
-use Rattle.line.proofs.Answers.{parts-replied}
+use Rattle.line.proofs.Answers.{parts_replied}
 use borrow.Author.Rules.{rules}
 use Rattle.line.proofs.reply_parts.Statement.{statement}
 use Rattle.line.proofs.reply_parts.Tie as tie
@@ -23,7 +23,7 @@ same-length-2 c = search rules
 returns : tie.Need-returns
 returns c =
     let given = c.before.before.before.before.before.before.before.before.before.before.before.before.before.before.requires in
-    search (parts-replied, given)
+    search (parts_replied, given)
 
 pub reply-parts-spec : {M : Type 1} → statement M
 reply-parts-spec =

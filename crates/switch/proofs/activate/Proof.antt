@@ -4,7 +4,7 @@ use mathlib.Core.List.{[]}
 use mathlib.Core.Option.{some}
 use Rattle.state.specs.Clauses.Bare.{unlined}
 use Rattle.state.proofs.Becomes.{brief_sized}
-use Rattle.switch.proofs.Switches.{few, active-room, activated-one}
+use Rattle.switch.proofs.Switches.{few, active_room, activated_one}
 use borrow.Author.Rules.{rules}
 use Rattle.switch.proofs.activate.Statement.{statement}
 use Rattle.switch.proofs.activate.Tie as tie
@@ -27,7 +27,7 @@ put-final-switched-name-requires : tie.Need-put-final-switched-name-requires
 put-final-switched-name-requires c κs =
     let start = c.before.before.before.before.before.before.before.before.before.before.before.before in
     let z = brief_sized start.args.state.clients start.well-formed.1.1.1.0.1.1.0 [] in
-    active-room _ (unlined start.args.state) z _ _ _ start.requires.0 (λ j. eqb j _) (some _) start.requires.1.named _ _ c.before.before.before.put-updates-of.ensures
+    active_room _ (unlined start.args.state) z _ _ _ start.requires.0 (λ j. eqb j _) (some _) start.requires.1.named _ _ c.before.before.before.put-updates-of.ensures
 
 same_length : tie.Need-same-length
 same_length c = search rules
@@ -37,7 +37,7 @@ returns c =
     let start = c.before.before.before.before.before.before.before.before.before.before.before.before.before.before.before in
     let z = brief_sized start.args.state.clients start.well-formed.1.1.1.0.1.1.0 [] in
     λ t.
-    activated-one _ (unlined start.args.state) z _ _ _ start.requires.0 t _ _ _ _ _ _ _ start.requires.1.low
+    activated_one _ (unlined start.args.state) z _ _ _ start.requires.0 t _ _ _ _ _ _ _ start.requires.1.low
     c.before.before.before.before.before.before.before.before.with-bit.ensures c.before.before.before.before.before.before.put-updates-of.ensures c.before.before.put-final-switched-name.ensures
 
 pub activate-spec : {M : Type 1} → statement M

@@ -7,7 +7,7 @@ use Rattle.fitness.proofs.Unfits.{few_counted}
 use Rattle.report.proofs.Faults.{accepted_readable}
 use Rattle.state.specs.Clauses.Bare.{unlined}
 use Rattle.state.proofs.Becomes.{brief_sized}
-use Rattle.switch.proofs.Switches.{active-room, activated-all}
+use Rattle.switch.proofs.Switches.{active_room, activated_all}
 use Rattle.switch.proofs.activate_all.Statement.{statement}
 use Rattle.switch.proofs.activate_all.Tie as tie
 
@@ -30,7 +30,7 @@ put-final-switched-requires : tie.Need-put-final-switched-requires
 put-final-switched-requires c κs =
     let start = c.before.before.before.before.before.before.before.before.before.before.before.before in
     let z = brief_sized start.args.state.clients start.well-formed.1.1.1.0.1.1.0 [] in
-    active-room _ (unlined start.args.state) z _ _ _ start.requires (λ i. true) none tt _ _ c.before.before.before.put-updates-of.ensures
+    active_room _ (unlined start.args.state) z _ _ _ start.requires (λ i. true) none tt _ _ c.before.before.before.put-updates-of.ensures
 
 same_length : tie.Need-same-length
 same_length c = search rules
@@ -40,7 +40,7 @@ returns c =
     let start = c.before.before.before.before.before.before.before.before.before.before.before.before.before.before.before in
     let z = brief_sized start.args.state.clients start.well-formed.1.1.1.0.1.1.0 [] in
     λ t.
-    activated-all _ (unlined start.args.state) z _ _ _ start.requires t _ _ _ _ _ _ c.before.before.before.before.before.before.before.before.before.module_count.ensures
+    activated_all _ (unlined start.args.state) z _ _ _ start.requires t _ _ _ _ _ _ c.before.before.before.before.before.before.before.before.before.module_count.ensures
     c.before.before.before.before.before.before.before.before.with-bits.ensures c.before.before.before.before.before.before.put-updates-of.ensures c.before.before.put-final-switched.ensures
 
 pub activate-all-spec : {M : Type 1} → statement M

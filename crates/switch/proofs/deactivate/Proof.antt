@@ -1,6 +1,6 @@
 -- `switch::deactivate` meets its contract. Assumes nothing.
 use mathlib.Core.Option.{some}
-use Rattle.switch.proofs.Switches.{inactive_room, one-inactive}
+use Rattle.switch.proofs.Switches.{inactive_room, one_inactive}
 use borrow.Author.Rules.{rules}
 use Rattle.switch.proofs.deactivate.Statement.{statement}
 use Rattle.switch.proofs.deactivate.Tie as tie
@@ -20,7 +20,7 @@ returns : tie.Need-returns
 returns c =
     let start = c.before.before.before.before.before.before.before in
     λ w n t values low h.
-    one-inactive w n _ t _ _ values start.args.«module».now start.args.i start.args.mask low h _
+    one_inactive w n _ t _ _ values start.args.«module».now start.args.i start.args.mask low h _
     c.before.before.before.before.without-bit.ensures _ c.before.before.put-final-switched-name.ensures
 
 pub deactivate-spec : {M : Type 1} → statement M

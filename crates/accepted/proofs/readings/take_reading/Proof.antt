@@ -1,7 +1,7 @@
 -- `accepted::readings::take_reading` meets its contract. Assumes nothing.
 use borrow.Author.Rules.{rules}
 use Rattle.state.proofs.Settled.{settings_sized}
-use Rattle.accepted.proofs.Takes.{read_fits, read_room, read_end, updates_room, read_few, read_size, is-taken}
+use Rattle.accepted.proofs.Takes.{read_fits, read_room, read_end, updates_room, read_few, read_size, is_taken}
 use Rattle.accepted.proofs.readings.take_reading.Statement.{statement}
 use Rattle.accepted.proofs.readings.take_reading.Tie as tie
 
@@ -59,7 +59,7 @@ returns c =
     let formed = named.before.before.before.before in
     let start = formed.before.before.before.before.before.before.before.before in
     let z = settings_sized start.args.state.settings start.well-formed.1.1.1.0.1.1.1.0 in
-    is-taken _ start.args.state _ _ _ _ _ _ _ start.requires _ _ formed.put-form.ensures _ _ named.before.bytes_of.ensures named.bytes-of2.ensures
+    is_taken _ start.args.state _ _ _ _ _ _ _ start.requires _ _ formed.put-form.ensures _ _ named.before.bytes_of.ensures named.bytes-of2.ensures
     z _ c.before.before.stored.ensures _ _ c.before.before.before.before.before.put-updates-to.ensures _ c.sent-counted.ensures
 
 pub take-reading-spec : {M : Type 1} → statement M

@@ -3,7 +3,7 @@ use borrow.Author.Rules.{rules}
 use mathlib.Core.List.{[]}
 use Rattle.state.specs.Clauses.Bare.{with_lines, lined}
 use Rattle.state.proofs.Settled.{settings_sized}
-use Rattle.accepted.proofs.Tells.{fail_room, fail_few, is-failed}
+use Rattle.accepted.proofs.Tells.{fail_room, fail_few, is_failed}
 use Rattle.accepted.proofs.unreadable.take_unreadable.Statement.{statement}
 use Rattle.accepted.proofs.unreadable.take_unreadable.Tie as tie
 
@@ -47,7 +47,7 @@ returns c =
     let named = c.before.before.before.before.before.before.before.before.before.before in
     let start = named.before.before.before.before.before.before in
     let z = settings_sized start.args.state.settings start.well-formed.1.1.0.1.1.1.0 in
-    λ lines. is-failed _ _ _ _ _ _ start.requires (lined start.args.state lines) start.args.fault _ _
+    λ lines. is_failed _ _ _ _ _ _ start.requires (lined start.args.state lines) start.args.fault _ _
     named.before.bytes_of.ensures named.bytes-of2.ensures z _ c.before.before.before.fault-number.ensures _ c.before.before.failed.ensures
     _ _ c.before.before.before.before.before.before.put-updates-to.ensures _ c.sent-counted.ensures
 

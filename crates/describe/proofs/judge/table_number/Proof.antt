@@ -17,10 +17,10 @@ report-length-requires : tie.Need-report-length-requires
 report-length-requires c κs = search number_readable
 
 returns-2 : tie.Need-returns-2
-returns-2 c = let h : 32000 < c.before.report-length.result = omega arith in search number_6
+returns-2 c = let h : 32000 < c.before.report_length.result = omega arith in search number_6
 
 returns-3 : tie.Need-returns-3
-returns-3 c = let h : c.before.report-length.result ≤ 32000 = omega arith in search number_0
+returns-3 c = let h : c.before.report_length.result ≤ 32000 = omega arith in search number_0
 
 pub table-number-spec : {M : Type 1} → statement M
 table-number-spec =

@@ -11,17 +11,17 @@ report-length-requires c κs = search accepted_readable
 put-describing-start-requires : tie.Need-put-describing-start-requires
 put-describing-start-requires c κs =
     let at = c.before.before.before.before in
-    start_room at.args.table.now at.args.out.now at.args.client at.requires c.before.report-length.result c.before.report-length.ensures
+    start_room at.args.table.now at.args.out.now at.args.client at.requires c.before.report_length.result c.before.report_length.ensures
 
 put-report-requires : tie.Need-put-report-requires
 put-report-requires c κs =
     let at = c.before.before.before.before.before.before.before.before in
-    report_room at.args.table.now at.args.out.now at.args.client at.requires c.before.before.before.before.before.report-length.result c.before.before.before.before.before.report-length.ensures _ _ c.before.before.before.put-describing-start.ensures
+    report_room at.args.table.now at.args.out.now at.args.client at.requires c.before.before.before.before.before.report_length.result c.before.before.before.before.before.report_length.ensures _ _ c.before.before.before.put-describing-start.ensures
 
 put-byte-requires : tie.Need-put-byte-requires
 put-byte-requires c κs =
     let at = c.before.before.before.before.before.before.before.before.before.before.before.before in
-    feed_room at.args.table.now at.args.out.now at.args.client at.requires c.before.before.before.before.before.before.before.before.before.report-length.result c.before.before.before.before.before.before.before.before.before.report-length.ensures _ _ c.before.before.before.before.before.before.before.put-describing-start.ensures _ _ c.before.before.before.put-report.ensures
+    feed_room at.args.table.now at.args.out.now at.args.client at.requires c.before.before.before.before.before.before.before.before.before.report_length.result c.before.before.before.before.before.before.before.before.before.report_length.ensures _ _ c.before.before.before.before.before.before.before.put-describing-start.ensures _ _ c.before.before.before.put-report.ensures
 
 same_length : tie.Need-same-length
 same_length c = search rules
@@ -29,7 +29,7 @@ same_length c = search rules
 returns : tie.Need-returns
 returns c =
     let at = c.before.before.before.before.before.before.before.before.before.before.before.before.before.before.before in
-    described at.args.table.now at.args.out.now at.args.client at.requires c.before.before.before.before.before.before.before.before.before.before.before.before.report-length.result c.before.before.before.before.before.before.before.before.before.before.before.before.report-length.ensures _ _ c.before.before.before.before.before.before.before.before.before.before.put-describing-start.ensures _ _ c.before.before.before.before.before.before.put-report.ensures _ _ c.before.before.put_byte.ensures
+    described at.args.table.now at.args.out.now at.args.client at.requires c.before.before.before.before.before.before.before.before.before.before.before.before.report_length.result c.before.before.before.before.before.before.before.before.before.before.before.before.report_length.ensures _ _ c.before.before.before.before.before.before.before.before.before.before.put-describing-start.ensures _ _ c.before.before.before.before.before.before.put-report.ensures _ _ c.before.before.put_byte.ensures
 
 pub describe-spec : {M : Type 1} → statement M
 describe-spec =

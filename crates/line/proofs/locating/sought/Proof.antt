@@ -1,7 +1,7 @@
 -- `line::locating::sought` meets its contract. Assumes nothing.
 use borrow.Author.Rules.{rules}
 use Rattle.report.proofs.Faults.{accepted_readable}
-use Rattle.line.proofs.Seeks.{module_in, name_in_lem, seeks-found, seeks_none, seeks-unbuilt}
+use Rattle.line.proofs.Seeks.{module_in, name_in_lem, seeks_found, seeks_none, seeks_unbuilt}
 use Rattle.line.proofs.locating.sought.Statement.{statement}
 use Rattle.line.proofs.locating.sought.Tie as tie
 
@@ -21,7 +21,7 @@ is-built-requires : tie.Need-is-built-requires
 is-built-requires c κs = search accepted_readable
 
 returns-2 : tie.Need-returns-2
-returns-2 c = search seeks-unbuilt
+returns-2 c = search seeks_unbuilt
 
 bytes-of-requires : tie.Need-bytes-of-requires
 bytes-of-requires c κs = search module_in
@@ -33,7 +33,7 @@ locate-requires : tie.Need-locate-requires
 locate-requires c κs = search rules
 
 returns-3 : tie.Need-returns-3
-returns-3 c = search seeks-found
+returns-3 c = search seeks_found
 
 pub sought-spec : {M : Type 1} → statement M
 sought-spec =

@@ -4,7 +4,7 @@ use Rattle.ascii.specs.Text.{bytes}
 use Rattle.message.specs.Clauses.Parsed.{Inside}
 use Rattle.plain.specs.Answer.{outcome}
 use Rattle.line.proofs.Carried.{part_short, data_short}
-use Rattle.line.proofs.Seeks.{named-located}
+use Rattle.line.proofs.Seeks.{named_located}
 use borrow.Author.Rules.{rules}
 use Rattle.line.proofs.request.outcome.Statement.{statement}
 use Rattle.line.proofs.request.outcome.Tie as tie
@@ -79,7 +79,7 @@ named-requires c κs =
         at.requires.1.0,
         (
           rw c.before.before.data_of.ensures (data_short _ (part_short at.args.line.now at.args.payload p.payload_in p.short)),
-          search named-located,
+          search named_located,
         ),
       ),
     )

@@ -1,5 +1,5 @@
 -- `message::line::request_of` meets its contract. Assumes nothing.
-use Rattle.message.proofs.Requests.{asks_identify, asks_describe, asks_ping, asks-scoped, asks-named, asks_count, asks_nothing}
+use Rattle.message.proofs.Requests.{asks_identify, asks_describe, asks_ping, asks_scoped, asks_named, asks_count, asks_nothing}
 use borrow.Author.Rules.{rules}
 use Rattle.message.proofs.line.request_of.Statement.{statement}
 use Rattle.message.proofs.line.request_of.Tie as tie
@@ -53,10 +53,10 @@ returns-3 : tie.Need-returns-3
 returns-3 c = search asks_ping
 
 returns-4 : tie.Need-returns-4
-returns-4 c = search asks-scoped
+returns-4 c = search asks_scoped
 
 returns-5 : tie.Need-returns-5
-returns-5 c = search asks-named
+returns-5 c = search asks_named
 
 returns-6 : tie.Need-returns-6
 returns-6 c = search asks_count

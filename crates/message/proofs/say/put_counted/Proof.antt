@@ -1,7 +1,7 @@
 -- `message::say::put_counted` meets its contract. Assumes nothing.
 use borrow.Author.Rules.{rules}
 use Rattle.ascii.specs.Text.{bytes}
-use Rattle.message.proofs.Counted.{counted_1, counted_2, counted-all}
+use Rattle.message.proofs.Counted.{counted_1, counted_2, counted_all}
 use Rattle.message.proofs.say.put_counted.Statement.{statement}
 use Rattle.message.proofs.say.put_counted.Tie as tie
 
@@ -21,7 +21,7 @@ same_length c = search rules
 
 returns : tie.Need-returns
 unfolding bytes
-returns c = search counted-all
+returns c = search counted_all
 
 pub put-counted-spec : {M : Type 1} → statement M
 put-counted-spec = tie.close (tie.spec slice-aggregate-put put-requires put-data-report-requires same_length returns)

@@ -1,6 +1,6 @@
 -- `message::say::put_data_report` meets its contract. Assumes nothing.
 use Rattle.ascii.specs.Text.{bytes}
-use Rattle.message.proofs.Said.{data_1, data_2, data_3, data-all}
+use Rattle.message.proofs.Said.{data_1, data_2, data_3, data_all}
 use borrow.Author.Rules.{rules}
 use Rattle.message.proofs.say.put_data_report.Statement.{statement}
 use Rattle.message.proofs.say.put_data_report.Tie as tie
@@ -31,7 +31,7 @@ same_length c = search rules
 
 returns : tie.Need-returns
 unfolding bytes
-returns c = search data-all
+returns c = search data_all
 
 pub put-data-report-spec : {M : Type 1} → statement M
 put-data-report-spec =

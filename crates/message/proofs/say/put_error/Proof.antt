@@ -1,6 +1,6 @@
 -- `message::say::put_error` meets its contract. Assumes nothing.
 use Rattle.ascii.specs.Text.{bytes}
-use Rattle.message.proofs.Said.{error_1, error_2, error_3, error_4, error-all}
+use Rattle.message.proofs.Said.{error_1, error_2, error_3, error_4, error_all}
 use borrow.Author.Rules.{rules}
 use Rattle.message.proofs.say.put_error.Statement.{statement}
 use Rattle.message.proofs.say.put_error.Tie as tie
@@ -32,7 +32,7 @@ same_length c = search rules
 
 returns : tie.Need-returns
 unfolding bytes
-returns c = search error-all
+returns c = search error_all
 
 pub put-error-spec : {M : Type 1} → statement M
 put-error-spec =

@@ -1,6 +1,6 @@
 -- `message::say::put_fault_report` meets its contract. Assumes nothing.
 use Rattle.ascii.specs.Text.{bytes}
-use Rattle.message.proofs.Said.{fault_1, fault_2, fault_3, fault-all}
+use Rattle.message.proofs.Said.{fault_1, fault_2, fault_3, fault_all}
 use borrow.Author.Rules.{rules}
 use Rattle.message.proofs.say.put_fault_report.Statement.{statement}
 use Rattle.message.proofs.say.put_fault_report.Tie as tie
@@ -25,7 +25,7 @@ same_length c = search rules
 
 returns : tie.Need-returns
 unfolding bytes
-returns c = search fault-all
+returns c = search fault_all
 
 pub put-fault-report-spec : {M : Type 1} → statement M
 put-fault-report-spec =

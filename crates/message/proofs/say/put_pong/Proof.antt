@@ -1,6 +1,6 @@
 -- `message::say::put_pong` meets its contract. Assumes nothing.
 use Rattle.ascii.specs.Text.{bytes}
-use Rattle.message.proofs.Said.{pong_1, pong_2, pong-all}
+use Rattle.message.proofs.Said.{pong_1, pong_2, pong_all}
 use borrow.Author.Rules.{rules}
 use Rattle.message.proofs.say.put_pong.Statement.{statement}
 use Rattle.message.proofs.say.put_pong.Tie as tie
@@ -27,7 +27,7 @@ same_length c = search rules
 
 returns : tie.Need-returns
 unfolding bytes
-returns c = search pong-all
+returns c = search pong_all
 
 pub put-pong-spec : {M : Type 1} → statement M
 put-pong-spec =

@@ -1,6 +1,6 @@
 -- `message::say::put_report` meets its contract. Assumes nothing.
 use Rattle.ascii.specs.Text.{bytes}
-use Rattle.message.proofs.Said.{report_1, report_2, report_3, report-all}
+use Rattle.message.proofs.Said.{report_1, report_2, report_3, report_all}
 use borrow.Author.Rules.{rules}
 use Rattle.message.proofs.say.put_report.Statement.{statement}
 use Rattle.message.proofs.say.put_report.Tie as tie
@@ -25,7 +25,7 @@ same_length c = search rules
 
 returns : tie.Need-returns
 unfolding bytes
-returns c = search report-all
+returns c = search report_all
 
 pub put-report-spec : {M : Type 1} → statement M
 put-report-spec =

@@ -2,7 +2,7 @@
 use native.Mathlib.Omega.{arith}
 use Rattle.ascii.proofs.Decimal.{seconds_low}
 use Rattle.message.specs.Clauses.Said.{sensor_fault, held_by}
-use Rattle.message.proofs.Said.{held_short, report-length}
+use Rattle.message.proofs.Said.{held_short, report_length}
 use borrow.Author.Rules.{rules}
 use Rattle.message.proofs.say.report_length.Statement.{statement}
 use Rattle.message.proofs.say.report_length.Tie as tie
@@ -26,7 +26,7 @@ returns : tie.Need-returns
 returns c =
     let start = c.before.before.before.before in
     let args = start.args in
-    omega (arith, report-length args.«module».now args.accessible.now (held_by args.sensor args.value.now) args.time)
+    omega (arith, report_length args.«module».now args.accessible.now (held_by args.sensor args.value.now) args.time)
 
 pub report-length-spec : {M : Type 1} → statement M
 report-length-spec =

@@ -1,7 +1,7 @@
 -- `outbox::write::put_counted_record` meets its contract. Assumes nothing.
 use native.Mathlib.Omega.{arith}
 use Rattle.ascii.specs.Text.{bytes}
-use Rattle.outbox.proofs.Written.{line_0, line_1, line_2, line_3, line-all}
+use Rattle.outbox.proofs.Written.{line_0, line_1, line_2, line_3, line_all}
 use borrow.Author.Rules.{rules}
 use Rattle.outbox.proofs.write.put_counted_record.Statement.{statement}
 use Rattle.outbox.proofs.write.put_counted_record.Tie as tie
@@ -32,7 +32,7 @@ same_length c = search rules
 
 returns : tie.Need-returns
 unfolding bytes
-returns c = search line-all
+returns c = search line_all
 
 pub put-counted-record-spec : {M : Type 1} → statement M
 put-counted-record-spec =

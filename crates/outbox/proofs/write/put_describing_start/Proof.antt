@@ -1,6 +1,6 @@
 -- `outbox::write::put_describing_start` meets its contract. Assumes nothing.
 use Rattle.ascii.specs.Text.{bytes}
-use Rattle.outbox.proofs.Written.{start_1, start-2, start-all}
+use Rattle.outbox.proofs.Written.{start_1, start_2, start_all}
 use borrow.Author.Rules.{rules}
 use Rattle.outbox.proofs.write.put_describing_start.Statement.{statement}
 use Rattle.outbox.proofs.write.put_describing_start.Tie as tie
@@ -20,14 +20,14 @@ slice-aggregate-put c = search rules
 
 put-requires : tie.Need-put-requires
 unfolding bytes
-put-requires c κs = search start-2
+put-requires c κs = search start_2
 
 same_length : tie.Need-same-length
 same_length c = search rules
 
 returns : tie.Need-returns
 unfolding bytes
-returns c = search start-all
+returns c = search start_all
 
 pub put-describing-start-spec : {M : Type 1} → statement M
 put-describing-start-spec =

@@ -3,7 +3,7 @@ use Rattle.ascii.specs.Text.{bytes}
 use mathlib.Core.Option.{some}
 use mathlib.Core.Path.{refl}
 use Rattle.message.specs.Reply.{identity, reply_line, identification}
-use Rattle.outbox.proofs.Written.{final_0, final_1, final_2, final_3, final-all}
+use Rattle.outbox.proofs.Written.{final_0, final_1, final_2, final_3, final_all}
 use borrow.Author.Rules.{rules}
 use Rattle.outbox.proofs.write.put_final_edition.Statement.{statement}
 use Rattle.outbox.proofs.write.put_final_edition.Tie as tie
@@ -38,7 +38,7 @@ returns : tie.Need-returns
 unfolding reply_line identity bytes
 returns c =
     let line = c.before.before.before.before.before.before in
-    final-all _ _ _ (identification (some _)) _ refl _ _ _ _ _ _ line.before.before.before.before.put-header.ensures line.put.ensures
+    final_all _ _ _ (identification (some _)) _ refl _ _ _ _ _ _ line.before.before.before.before.put-header.ensures line.put.ensures
     c.before.before.put_byte.ensures
 
 pub put-final-edition-spec : {M : Type 1} → statement M

@@ -2,7 +2,7 @@ use native.Mathlib.Omega.{arith}
 use Rattle.outbox.proofs.Written.{error_names}
 -- `outbox::write::put_final_error` meets its contract. Assumes nothing.
 use Rattle.ascii.specs.Text.{bytes}
-use Rattle.outbox.proofs.Written.{final_0, final_1, final_2, final_3, final-all}
+use Rattle.outbox.proofs.Written.{final_0, final_1, final_2, final_3, final_all}
 use borrow.Author.Rules.{rules}
 use Rattle.outbox.proofs.write.put_final_error.Statement.{statement}
 use Rattle.outbox.proofs.write.put_final_error.Tie as tie
@@ -33,7 +33,7 @@ same_length c = search rules
 
 returns : tie.Need-returns
 unfolding bytes
-returns c = search final-all
+returns c = search final_all
 
 pub put-final-error-spec : {M : Type 1} → statement M
 put-final-error-spec =

@@ -3,7 +3,7 @@ use Rattle.ascii.specs.Text.{bytes}
 use mathlib.Core.Option.{none}
 use mathlib.Core.Path.{refl}
 use Rattle.message.specs.Reply.{identity, reply_line, identification}
-use Rattle.outbox.proofs.Written.{final_0, final_1, final_2, final_3, final-all}
+use Rattle.outbox.proofs.Written.{final_0, final_1, final_2, final_3, final_all}
 use borrow.Author.Rules.{rules}
 use Rattle.outbox.proofs.write.put_final_identification.Statement.{statement}
 use Rattle.outbox.proofs.write.put_final_identification.Tie as tie
@@ -37,7 +37,7 @@ returns : tie.Need-returns
 unfolding reply_line identity bytes
 returns c =
     let line = c.before.before.before.before.before.before in
-    final-all _ _ _ (identification none) 36 refl _ _ _ _ _ _ line.before.before.before.before.put-header.ensures line.put-identification.ensures
+    final_all _ _ _ (identification none) 36 refl _ _ _ _ _ _ line.before.before.before.before.put-header.ensures line.put-identification.ensures
     c.before.before.put_byte.ensures
 
 pub put-final-identification-spec : {M : Type 1} → statement M

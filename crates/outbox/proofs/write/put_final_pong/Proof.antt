@@ -1,7 +1,7 @@
 use native.Mathlib.Omega.{arith}
 -- `outbox::write::put_final_pong` meets its contract. Assumes nothing.
 use Rattle.ascii.specs.Text.{bytes}
-use Rattle.outbox.proofs.Written.{final_0, final_1, final_2, final_3, final-all}
+use Rattle.outbox.proofs.Written.{final_0, final_1, final_2, final_3, final_all}
 use borrow.Author.Rules.{rules}
 use Rattle.outbox.proofs.write.put_final_pong.Statement.{statement}
 use Rattle.outbox.proofs.write.put_final_pong.Tie as tie
@@ -32,7 +32,7 @@ same_length c = search rules
 
 returns : tie.Need-returns
 unfolding bytes
-returns c = search final-all
+returns c = search final_all
 
 pub put-final-pong-spec : {M : Type 1} → statement M
 put-final-pong-spec =

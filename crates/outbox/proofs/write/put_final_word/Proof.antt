@@ -2,7 +2,7 @@
 use mathlib.Core.Path.{refl}
 use Rattle.ascii.specs.Text.{bytes}
 use Rattle.message.specs.Reply.{optionally}
-use Rattle.outbox.proofs.Written.{line_0, line_1, line_2, line_3, line-all}
+use Rattle.outbox.proofs.Written.{line_0, line_1, line_2, line_3, line_all}
 use borrow.Author.Rules.{rules}
 use Rattle.outbox.proofs.write.put_final_word.Statement.{statement}
 use Rattle.outbox.proofs.write.put_final_word.Tie as tie
@@ -32,7 +32,7 @@ same_length c = search rules
 
 returns : tie.Need-returns
 unfolding bytes optionally
-returns c = search line-all
+returns c = search line_all
 
 pub put-final-word-spec : {M : Type 1} → statement M
 put-final-word-spec =

@@ -2,7 +2,7 @@ use native.Mathlib.Omega.{arith}
 use Rattle.outbox.proofs.Written.{word_names}
 -- `outbox::write::put_final_word_name` meets its contract. Assumes nothing.
 use Rattle.ascii.specs.Text.{bytes}
-use Rattle.outbox.proofs.Written.{line_0, line_1, line_2, line_3, line-all}
+use Rattle.outbox.proofs.Written.{line_0, line_1, line_2, line_3, line_all}
 use borrow.Author.Rules.{rules}
 use Rattle.outbox.proofs.write.put_final_word_name.Statement.{statement}
 use Rattle.outbox.proofs.write.put_final_word_name.Tie as tie
@@ -33,7 +33,7 @@ same_length c = search rules
 
 returns : tie.Need-returns
 unfolding bytes
-returns c = search line-all
+returns c = search line_all
 
 pub put-final-word-name-spec : {M : Type 1} → statement M
 put-final-word-name-spec =

@@ -1,5 +1,5 @@
 -- `outbox::write::put_header` meets its contract. Assumes nothing.
-use Rattle.outbox.proofs.Written.{header_1, header_2, header_3, header_4, header-all}
+use Rattle.outbox.proofs.Written.{header_1, header_2, header_3, header_4, header_all}
 use borrow.Author.Rules.{rules}
 use Rattle.outbox.proofs.write.put_header.Statement.{statement}
 use Rattle.outbox.proofs.write.put_header.Tie as tie
@@ -26,7 +26,7 @@ same_length : tie.Need-same-length
 same_length c = search rules
 
 returns : tie.Need-returns
-returns c = search header-all
+returns c = search header_all
 
 pub put-header-spec : {M : Type 1} → statement M
 put-header-spec =

@@ -1,14 +1,14 @@
 use native.Mathlib.Omega.{arith}
-use Rattle.outbox.proofs.Written.{report-names}
+use Rattle.outbox.proofs.Written.{report_names}
 -- `outbox::write::put_named_record` meets its contract. Assumes nothing.
 use Rattle.ascii.specs.Text.{bytes}
-use Rattle.outbox.proofs.Written.{line_0, line_1, line_2, line_3, line-all}
+use Rattle.outbox.proofs.Written.{line_0, line_1, line_2, line_3, line_all}
 use borrow.Author.Rules.{rules}
 use Rattle.outbox.proofs.write.put_named_record.Statement.{statement}
 use Rattle.outbox.proofs.write.put_named_record.Tie as tie
 
 named-length-requires : tie.Need-named-length-requires
-named-length-requires c κs = search report-names
+named-length-requires c κs = search report_names
 
 add-put-header : tie.Need-overflow-add-put-header
 add-put-header c = omega (arith, line_0 _ _ _ _ _ _ c.before.named-length.ensures c.before.before.before.before.before.before.before.before.requires)
@@ -35,7 +35,7 @@ same_length c = search rules
 
 returns : tie.Need-returns
 unfolding bytes
-returns c = search line-all
+returns c = search line_all
 
 pub put-named-record-spec : {M : Type 1} → statement M
 put-named-record-spec =

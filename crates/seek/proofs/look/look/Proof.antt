@@ -5,7 +5,7 @@ use Prim.Native.Nat.{◌-◌}
 use Rattle.table.specs.Layout.{table_of}
 use Rattle.index.specs.Accessibles.{accessibles, is_named}
 use Rattle.index.proofs.Loops.{Looking, looking_start}
-use Rattle.seek.proofs.Seeking.{look-free, look-found, look_more, look-end}
+use Rattle.seek.proofs.Seeking.{look_free, look_found, look_more, look_end}
 use Rattle.seek.proofs.look.look.Statement.{statement}
 use Rattle.seek.proofs.look.look.Tie as tie
 
@@ -25,7 +25,7 @@ add-t15 : tie.Need-overflow-add-t15 invariant-loop decreases-loop
 add-t15 c = omega arith
 
 returns : tie.Need-returns invariant-loop decreases-loop
-returns c = search look-free
+returns c = search look_free
 
 cast-offered : tie.Need-overflow-cast-offered invariant-loop decreases-loop
 cast-offered c = omega (arith, c.before.shared-slice-known5.given c.before.before.before.loop.at)
@@ -40,7 +40,7 @@ add-t19 : tie.Need-overflow-add-t19 invariant-loop decreases-loop
 add-t19 c = omega arith
 
 returns-2 : tie.Need-returns-2 invariant-loop decreases-loop
-returns-2 c = search look-found
+returns-2 c = search look_found
 
 enum_told : tie.Need-enum-told invariant-loop decreases-loop
 enum_told c = search rules
@@ -58,7 +58,7 @@ loop-again : tie.Need-loop-preserved invariant-loop decreases-loop
 loop-again c = search look_more
 
 returns-3 : tie.Need-returns-3 invariant-loop decreases-loop
-returns-3 c = search look-end
+returns-3 c = search look_end
 
 pub look_spec : {M : Type 1} → statement M
 look_spec =

@@ -4,7 +4,7 @@ use Prim.Native.Nat.{◌-◌}
 use lib.ListN.{length}
 use Rattle.report.proofs.Faults.{accepted_readable}
 use Rattle.seek.proofs.Walking.{step_less, step_name, step_home}
-use Rattle.seek.proofs.Seeking.{InVain, vain_start, vain_passed, walk_end, walk-found, walk_more}
+use Rattle.seek.proofs.Seeking.{InVain, vain_start, vain_passed, walk_end, walk_found, walk_more}
 use Rattle.seek.proofs.look.walk.Statement.{statement}
 use Rattle.seek.proofs.look.walk.Tie as tie
 
@@ -39,7 +39,7 @@ are-named-requires : tie.Need-are-named-requires invariant-loop decreases-loop
 are-named-requires c κs = (search step_home, search step_name)
 
 returns-2 : tie.Need-returns-2 invariant-loop decreases-loop
-returns-2 c = search walk-found
+returns-2 c = search walk_found
 
 loop-less : tie.Need-loop-smaller invariant-loop decreases-loop
 loop-less c = search step_less
