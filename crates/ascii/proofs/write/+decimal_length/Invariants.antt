@@ -1,0 +1,5 @@
+-- `ascii::write::decimal_length` meets its contract. The measure is the number. Assumes nothing.
+use Rattle.ascii.proofs.write.+decimal_length.Given as goal
+
+abbrev pub decreases-decimal_length : goal.decreases-decimal_length
+decreases-decimal_length l = l.n
