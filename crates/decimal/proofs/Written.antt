@@ -4,18 +4,18 @@ use native.Mathlib.Omega.{arith}
 use mathlib.Core.Bool.{Bool, true, false, cond, not, ◌&&◌, ◌||◌}
 use mathlib.Core.List.{List, [], ◌∷◌, ◌++◌, append_assoc, append-nil}
 use mathlib.Core.Option.{some}
-use mathlib.Core.Path.{◌≡◌, refl, sym, ◌∙◌, ap, ap₂}
+use mathlib.Core.Path.{◌≡◌, refl, ◌∙◌, ap, ap₂}
 use lib.Dec.{ltb, leb, eqb}
 use lib.ListN.{length}
 use lib.IntN.{ℤ, pos, negsuc}
 use borrow.Author.Tests.{ltb-true, ltb-false, leb-true, le-leb}
 use Rattle.ascii.specs.Text.{bytes}
-use Rattle.ascii.specs.Bytes.{◌>>=◌, all, any, take_while, drop_while, head, tail, is_in, is_digit}
+use Rattle.ascii.specs.Bytes.{all, any, drop_while, head, tail, is_in, is_digit}
 use Rattle.ascii.specs.Numbers.{digit, digits_in, decimal, integer}
 use Rattle.ascii.proofs.Lists.{both, all_cons, all_parts, all_weaker, taken, dropped, differs}
 use Rattle.ascii.proofs.Digits.{digit_is_digit, decimal_digits}
 use Rattle.decimal.specs.Token.{digits, minus, int, frac, is_e, exp, number, is_whole}
-use Rattle.decimal.specs.Decimal.{Decimal, from_integer, numeral_from, numeral, significand, exponent, fraction, written_power, exactly, is_within_limits}
+use Rattle.decimal.specs.Decimal.{from_integer, numeral_from, numeral, significand, exponent, fraction, written_power, exactly, is_within_limits}
 
 -- ## Digits
 
