@@ -1,10 +1,10 @@
 -- No reader takes a byte outside 32 to 126. Assumes nothing.
 use Prim.Native.Nat.{ℕ, zero, suc, ◌≤◌}
 use native.Mathlib.Omega.{arith}
-use mathlib.Core.Path.{◌≡◌, refl, sym, ◌∙◌, ap}
-use mathlib.Core.Bool.{Bool, true, false, cond, ◌||◌, false≢true}
+use mathlib.Core.Path.{◌≡◌, refl, ◌∙◌, ap}
+use mathlib.Core.Bool.{Bool, true, false, cond, ◌||◌}
 use mathlib.Core.List.{List, [], ◌∷◌}
-use mathlib.Core.Option.{Option, none, some}
+use mathlib.Core.Option.{Option}
 use lib.ListN.{length}
 use lib.Dec.{eqb, leb}
 use borrow.Author.Tests.{eqb-true, leb-true, le-leb}
@@ -13,7 +13,7 @@ use Rattle.ascii.specs.Bytes.{head, tail, all, drop_while, after, is_in, is_digi
 use Rattle.ascii.proofs.Lists.{both}
 use Rattle.decimal.specs.Token.{digits, minus, int, frac, sign, is_e, exp}
 use Rattle.decimal.specs.Token as Token
-use Rattle.json_text.specs.Json.{Json, null, boolean, number, string, Items, Members}
+use Rattle.json_text.specs.Json.{Json, null, boolean, number, string}
 use Rattle.json_text.specs.Json.{is_hex, is_escape, hex, hex4, escape, char, chars, string_end, skip, up_to, inside, scalar, spaced}
 use Rattle.json_text.specs.Json.{items, array_end, key, members, object_end, bare, value, text}
 use Rattle.json_text.specs.Theorems.{TextsArePrintable}

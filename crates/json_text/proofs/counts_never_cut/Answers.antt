@@ -1,11 +1,7 @@
 -- `json::counts_never_cut` promises the theorem of `Enough`. Assumes nothing.
 use mathlib.Core.Path.{refl}
 use Rattle.json_text.proofs.Enough.{string_enough, items_enough, members_enough}
-use Rattle.json_text.proofs.counts_never_cut.Statement.{statement}
-use Rattle.json_text.proofs.counts_never_cut.Tie as tie
+use Rattle.json_text.proofs.counts_never_cut.Goals as goal
 
-returns : tie.Need-returns
+pub returns : goal.returns
 returns c = (refl, record { strings = string_enough; of_items = items_enough; of_members = members_enough })
-
-pub counts-never-cut-spec : {M : Type 1} → statement M
-counts-never-cut-spec = tie.close (tie.spec returns)
