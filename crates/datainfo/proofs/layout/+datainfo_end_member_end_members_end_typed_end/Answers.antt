@@ -1,0 +1,115 @@
+use Prim.Native.Nat.{ℕ, ◌<◌, ◌+◌, ◌*◌, ◌≤◌}
+use borrow.Author.Rules.{rules}
+use native.Mathlib.Omega.{arith}
+use mathlib.Core.Path.{◌≡◌}
+use lib.ListN.{length, drop}
+use Rattle.ascii.proofs.Bytes.{ended_within}
+use Rattle.datainfo.specs.Layout.{datainfo_in}
+use Rattle.datainfo.specs.Clauses.Members.{after_members, after_count}
+use Rattle.datainfo.proofs.Ends.{member_plain, member_nameless, member_variant, member_field, members_none, members_start, members_end as members-ended, members_bad, members_more, typed_double, typed_int, typed_bool, typed_enum, typed_string, typed_short, typed_array, typed_tuple, typed_struct, typed_scaled, typed_blob, typed_partial, typed_unknown, datainfo_fifth, datainfo_none, datainfo_some}
+use Rattle.datainfo.proofs.layout.+datainfo_end_member_end_members_end_typed_end.Goals as goal
+
+pub datainfo_end-returns-then-levels-eq0 : goal.datainfo_end-returns-then-levels-eq0
+datainfo_end-returns-then-levels-eq0 t c = search datainfo_fifth
+
+pub datainfo_end-returns-then-s-at : goal.datainfo_end-returns-then-s-at
+datainfo_end-returns-then-s-at t c = search datainfo_none
+
+pub datainfo_end-typed_end-requires : goal.datainfo_end-typed_end-requires
+datainfo_end-typed_end-requires t c = (omega arith, omega arith)
+
+pub datainfo_end-returns : goal.datainfo_end-returns
+datainfo_end-returns t c = search datainfo_some
+
+pub member_end-datainfo_end-requires : goal.member_end-datainfo_end-requires
+member_end-datainfo_end-requires t c = (omega arith, omega arith)
+
+pub member_end-returns-then-k-eq7 : goal.member_end-returns-then-k-eq7
+member_end-returns-then-k-eq7 t c = search member_plain
+
+pub member_end-returns-in_default : goal.member_end-returns-in_default
+member_end-returns-in_default t c = search member_nameless
+
+pub member_end-part_end-requires : goal.member_end-part_end-requires
+member_end-part_end-requires t c = search ended_within
+
+pub member_end-returns-then-k-eq4 : goal.member_end-returns-then-k-eq4
+member_end-returns-then-k-eq4 t c = search member_variant
+
+pub member_end-datainfo_end-requires-2 : goal.member_end-datainfo_end-requires-2
+member_end-datainfo_end-requires-2 t c = (omega arith, search ended_within)
+
+pub member_end-returns : goal.member_end-returns
+member_end-returns t c = search member_field
+
+pub members_end-returns-then-s-at : goal.members_end-returns-then-s-at
+members_end-returns-then-s-at t c = search members_none
+
+pub members_end-loop-left-init : goal.members_end-loop-left-init
+members_end-loop-left-init t c = (omega arith, search members_start)
+
+pub members_end-member_end-requires : goal.members_end-member_end-requires
+members_end-member_end-requires t c = (omega arith, omega arith)
+
+pub members_end-returns-in_default : goal.members_end-returns-in_default
+members_end-returns-in_default t c = search members_bad
+
+pub members_end-loop-left-preserved : goal.members_end-loop-left-preserved
+members_end-loop-left-preserved t c = (search ended_within, search members_more)
+
+pub members_end-returns : goal.members_end-returns
+members_end-returns t c = search members-ended
+
+pub typed_end-members_end-requires : goal.typed_end-members_end-requires
+typed_end-members_end-requires t c = (omega arith, omega arith)
+
+pub typed_end-returns-in_default-part_end : goal.typed_end-returns-in_default-part_end
+typed_end-returns-in_default-part_end t c = search typed_short
+
+pub typed_end-datainfo_end-requires : goal.typed_end-datainfo_end-requires
+typed_end-datainfo_end-requires t c = (omega arith, search ended_within)
+
+pub typed_end-members_end-requires-in-7 : goal.typed_end-members_end-requires-in-7
+typed_end-members_end-requires-in-7 t c = (omega arith, omega arith)
+
+pub typed_end-members_end-requires-in-8 : goal.typed_end-members_end-requires-in-8
+typed_end-members_end-requires-in-8 t c = (omega arith, omega arith)
+
+pub typed_end-members_end-requires-in-11 : goal.typed_end-members_end-requires-in-11
+typed_end-members_end-requires-in-11 t c = (omega arith, omega arith)
+
+pub typed_end-returns-in-1 : goal.typed_end-returns-in-1
+typed_end-returns-in-1 t c = search typed_double
+
+pub typed_end-returns-in-2 : goal.typed_end-returns-in-2
+typed_end-returns-in-2 t c = search typed_int
+
+pub typed_end-returns-in-3 : goal.typed_end-returns-in-3
+typed_end-returns-in-3 t c = search typed_bool
+
+pub typed_end-returns-in-4 : goal.typed_end-returns-in-4
+typed_end-returns-in-4 t c = search typed_enum
+
+pub typed_end-returns-in-5 : goal.typed_end-returns-in-5
+typed_end-returns-in-5 t c = search typed_string
+
+pub typed_end-returns-in-At : goal.typed_end-returns-in-At
+typed_end-returns-in-At t c = search typed_array
+
+pub typed_end-returns-in-7 : goal.typed_end-returns-in-7
+typed_end-returns-in-7 t c = search typed_tuple
+
+pub typed_end-returns-in-8 : goal.typed_end-returns-in-8
+typed_end-returns-in-8 t c = search typed_struct
+
+pub typed_end-returns-in-9 : goal.typed_end-returns-in-9
+typed_end-returns-in-9 t c = search typed_scaled
+
+pub typed_end-returns-in-10 : goal.typed_end-returns-in-10
+typed_end-returns-in-10 t c = search typed_blob
+
+pub typed_end-returns-in-11 : goal.typed_end-returns-in-11
+typed_end-returns-in-11 t c = search typed_partial
+
+pub typed_end-returns-in_default : goal.typed_end-returns-in_default
+typed_end-returns-in_default t c = search typed_unknown

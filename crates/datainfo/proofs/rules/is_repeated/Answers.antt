@@ -1,0 +1,21 @@
+use borrow.Author.Rules.{rules}
+use native.Mathlib.Omega.{arith}
+use Prim.Native.Nat.{◌-◌, ◌≤◌}
+use mathlib.Core.Path.{◌≡◌}
+use lib.ListN.{length, drop}
+use Rattle.ascii.specs.Bytes.{any}
+use Rattle.datainfo.specs.Clauses.Obeyed.{same_key, from_each}
+use Rattle.datainfo.proofs.Keys.{repeated_none, repeated_found, repeated_more}
+use Rattle.datainfo.proofs.rules.is_repeated.Goals as goal
+
+pub same_key-requires : goal.same_key-requires
+same_key-requires c = (search rules, c.requires.1 _)
+
+pub returns-then-same_key : goal.returns-then-same_key
+returns-then-same_key c = search repeated_found
+
+pub loop-j-preserved : goal.loop-j-preserved
+loop-j-preserved c = (omega arith, search repeated_more)
+
+pub returns : goal.returns
+returns c = search repeated_none

@@ -1,0 +1,16 @@
+-- `datainfo::rules::note_starts` meets its contract. Assumes nothing.
+use borrow.Author.Rules.{rules}
+use native.Mathlib.Omega.{arith}
+use Prim.Native.Nat.{◌-◌, ◌≤◌}
+use mathlib.Core.Path.{◌≡◌, refl}
+use lib.ListN.{length, drop, length-set}
+use Rattle.datainfo.specs.Layout.{datainfo_in}
+use Rattle.datainfo.specs.Clauses.Obeyed.{starts}
+use Rattle.datainfo.proofs.Keys.{Noting, noting_start, noted_last, noted_more, noted_all}
+use Rattle.datainfo.proofs.rules.note_starts.Given as goal
+
+abbrev pub invariant-loop-m : goal.invariant-loop-m
+invariant-loop-m l = (length l.notes ≡ length l.initial.notes) × Noting l.s l.levels l.k l.n (starts (datainfo_in l.levels) l.k l.n (drop l.at l.s)) l.notes l.i l.m
+
+abbrev pub decreases-loop-m : goal.decreases-loop-m
+decreases-loop-m l = l.n - l.m
