@@ -1,9 +1,5 @@
-use Prim.Native.Nat.{◌-◌, ◌≤◌}
+use Prim.Native.Nat.{◌≤◌}
 use native.Mathlib.Omega.{arith}
-use mathlib.Core.Path.{◌≡◌}
-use lib.ListN.{length, drop}
-use borrow.Author.Rules.{rules}
-use Rattle.base64_text.specs.Base64.{more, blob_size}
 use Rattle.base64_text.proofs.Sizes.{whole_fits, whole_less, sized_none, sized_more, sized_bad, sized_of, last_low}
 use Rattle.base64_text.proofs.blob_size.Goals as goal
 

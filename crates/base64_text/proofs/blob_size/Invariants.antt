@@ -1,11 +1,8 @@
 -- `base64::blob_size` meets its contract: n bytes were counted, and those from i on are to come. Assumes nothing.
 use Prim.Native.Nat.{◌-◌, ◌≤◌}
-use native.Mathlib.Omega.{arith}
 use mathlib.Core.Path.{◌≡◌}
 use lib.ListN.{length, drop}
-use borrow.Author.Rules.{rules}
 use Rattle.base64_text.specs.Base64.{more, blob_size}
-use Rattle.base64_text.proofs.Sizes.{whole_fits, whole_less, sized_none, sized_more, sized_bad, sized_of, last_low}
 use Rattle.base64_text.proofs.blob_size.Given as goal
 
 abbrev pub invariant-loop-i : goal.invariant-loop-i

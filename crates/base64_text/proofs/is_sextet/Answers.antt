@@ -1,5 +1,4 @@
 -- `base64::is_sextet` meets its contract. Assumes nothing.
-use borrow.Author.Rules.{rules}
 use Rattle.base64_text.specs.Base64.{is_sextet}
 use Rattle.base64_text.proofs.is_sextet.Goals as goal
 

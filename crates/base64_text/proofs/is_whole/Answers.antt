@@ -1,6 +1,5 @@
 -- `base64::is_whole` meets its contract: past the end there is no digit. Assumes nothing.
 use Rattle.base64_text.proofs.Sizes.{whole_first, whole_second, whole_third, whole_all}
-use borrow.Author.Rules.{rules}
 use Rattle.base64_text.proofs.is_whole.Goals as goal
 
 pub returns-then-is_sextet-3 : goal.returns-then-is_sextet-3

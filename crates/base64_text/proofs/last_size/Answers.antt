@@ -1,6 +1,5 @@
 -- `base64::last_size` meets its contract. Assumes nothing.
 use Rattle.base64_text.proofs.Sizes.{last_none, last_padded, last_bad}
-use borrow.Author.Rules.{rules}
 use Rattle.base64_text.proofs.last_size.Goals as goal
 
 pub returns-then-left-eq0 : goal.returns-then-left-eq0

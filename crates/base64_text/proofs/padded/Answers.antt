@@ -1,6 +1,5 @@
 -- `base64::padded` meets its contract. Assumes nothing.
 use Rattle.base64_text.proofs.Sizes.{padded_first, padded_second, padded_end, two_pads, two_pads_bad, padded_third, one_pad, one_pad_bad}
-use borrow.Author.Rules.{rules}
 use Rattle.base64_text.proofs.padded.Goals as goal
 
 pub returns-then-not-is_sextet : goal.returns-then-not-is_sextet

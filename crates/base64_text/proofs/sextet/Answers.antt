@@ -3,7 +3,6 @@ use native.Mathlib.Omega.{arith}
 use mathlib.Core.Path.{◌∙◌, sym}
 use Rattle.ascii.proofs.Bytes.{in_high}
 use Rattle.base64_text.proofs.Sizes.{in_low, sextet_upper, sextet_lower, sextet_digit, sextet_plus, sextet_slash, sextet_none}
-use borrow.Author.Rules.{rules}
 use Rattle.base64_text.proofs.sextet.Goals as goal
 
 pub overflow_sub-result : goal.overflow_sub-result
