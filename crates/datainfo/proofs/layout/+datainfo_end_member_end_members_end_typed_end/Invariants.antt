@@ -1,14 +1,10 @@
 -- The cycle of calls {datainfo_end, member_end, members_end, typed_end}. A level of datainfos is four calls deep, so the measures are four
 -- times the levels left, plus 0 for `datainfo_end`, 1 for `member_end`, 2 for `members_end` and 3 for `typed_end`. Assumes nothing.
-use Prim.Native.Nat.{ℕ, ◌<◌, ◌+◌, ◌*◌, ◌≤◌}
-use borrow.Author.Rules.{rules}
-use native.Mathlib.Omega.{arith}
+use Prim.Native.Nat.{◌+◌, ◌*◌, ◌≤◌}
 use mathlib.Core.Path.{◌≡◌}
 use lib.ListN.{length, drop}
-use Rattle.ascii.proofs.Bytes.{ended_within}
 use Rattle.datainfo.specs.Layout.{datainfo_in}
 use Rattle.datainfo.specs.Clauses.Members.{after_members, after_count}
-use Rattle.datainfo.proofs.Ends.{member_plain, member_nameless, member_variant, member_field, members_none, members_start, members_end as members-ended, members_bad, members_more, typed_double, typed_int, typed_bool, typed_enum, typed_string, typed_short, typed_array, typed_tuple, typed_struct, typed_scaled, typed_blob, typed_partial, typed_unknown, datainfo_fifth, datainfo_none, datainfo_some}
 use Rattle.datainfo.proofs.layout.+datainfo_end_member_end_members_end_typed_end.Given as goal
 
 abbrev pub invariant-members_end-loop-left : goal.invariant-members_end-loop-left

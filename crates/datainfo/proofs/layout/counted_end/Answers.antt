@@ -1,5 +1,4 @@
 -- `datainfo::layout::counted_end` meets its contract. Assumes nothing.
-use borrow.Author.Rules.{rules}
 use Rattle.datainfo.proofs.Ends.{counted_none, counted_some}
 use Rattle.datainfo.proofs.layout.counted_end.Goals as goal
 

@@ -1,5 +1,4 @@
 -- `datainfo::layout::field_end` meets its contract. Assumes nothing.
-use borrow.Author.Rules.{rules}
 use Rattle.ascii.proofs.Bytes.{ended_within}
 use Rattle.datainfo.proofs.Structs.{field_nameless, field_past}
 use Rattle.datainfo.proofs.layout.field_end.Goals as goal

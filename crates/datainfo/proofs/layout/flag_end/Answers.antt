@@ -1,5 +1,4 @@
 -- `datainfo::layout::flag_end` meets its contract. Assumes nothing.
-use borrow.Author.Rules.{rules}
 use Rattle.datainfo.proofs.Ends.{flag_absent, flag_cut, flag_other, flag_read}
 use Rattle.datainfo.proofs.layout.flag_end.Goals as goal
 

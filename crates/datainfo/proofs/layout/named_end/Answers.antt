@@ -1,5 +1,4 @@
 -- `datainfo::layout::named_end` meets its contract. Assumes nothing.
-use borrow.Author.Rules.{rules}
 use Rattle.ascii.proofs.Bytes.{ended_within}
 use Rattle.datainfo.proofs.Ends.{named_flagless, named_past}
 use Rattle.datainfo.proofs.layout.named_end.Goals as goal

@@ -1,5 +1,4 @@
 -- `datainfo::layout::part_end` meets its contract. Assumes nothing.
-use borrow.Author.Rules.{rules}
 use Rattle.datainfo.proofs.Ends.{part_good, part_bad}
 use Rattle.datainfo.proofs.layout.part_end.Goals as goal
 

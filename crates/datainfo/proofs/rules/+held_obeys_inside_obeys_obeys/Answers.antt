@@ -1,11 +1,5 @@
-use Prim.Native.Nat.{ℕ, ◌<◌, ◌+◌, ◌*◌, ◌≤◌}
-use borrow.Author.Rules.{rules}
 use native.Mathlib.Omega.{arith}
-use mathlib.Core.Path.{◌≡◌}
-use lib.ListN.{length, drop}
 use Rattle.ascii.proofs.Bytes.{ended_within}
-use Rattle.datainfo.specs.Layout.{datainfo_in}
-use Rattle.datainfo.specs.Clauses.Obeyed.{held_obeys, held_obeys_at}
 use Rattle.datainfo.proofs.Inside.{held_none, held_start, held_end, held_nameless, held_bad, held_cut, held_more, inside_cut, inside_array, inside_tuple, inside_struct, inside_partial, inside_none, obeys_fifth, obeys_none, obeys_bad, obeys_good}
 use Rattle.datainfo.proofs.rules.+held_obeys_inside_obeys_obeys.Goals as goal
 

@@ -1,14 +1,10 @@
 -- The cycle of calls {held_obeys, inside_obeys, obeys}. A level of datainfos is three calls deep, so the measures are three times the levels
 -- left, plus 0 for `obeys`, 1 for `held_obeys` and 2 for `inside_obeys`. Assumes nothing.
-use Prim.Native.Nat.{ℕ, ◌<◌, ◌+◌, ◌*◌, ◌≤◌}
-use borrow.Author.Rules.{rules}
-use native.Mathlib.Omega.{arith}
+use Prim.Native.Nat.{◌+◌, ◌*◌, ◌≤◌}
 use mathlib.Core.Path.{◌≡◌}
 use lib.ListN.{length, drop}
-use Rattle.ascii.proofs.Bytes.{ended_within}
 use Rattle.datainfo.specs.Layout.{datainfo_in}
 use Rattle.datainfo.specs.Clauses.Obeyed.{held_obeys, held_obeys_at}
-use Rattle.datainfo.proofs.Inside.{held_none, held_start, held_end, held_nameless, held_bad, held_cut, held_more, inside_cut, inside_array, inside_tuple, inside_struct, inside_partial, inside_none, obeys_fifth, obeys_none, obeys_bad, obeys_good}
 use Rattle.datainfo.proofs.rules.+held_obeys_inside_obeys_obeys.Given as goal
 
 abbrev pub invariant-held_obeys-loop-left : goal.invariant-held_obeys-loop-left

@@ -1,5 +1,4 @@
 -- `datainfo::rules::before_held` meets its contract. Assumes nothing.
-use borrow.Author.Rules.{rules}
 use Rattle.datainfo.proofs.Inside.{before_named, before_plain}
 use Rattle.datainfo.proofs.rules.before_held.Goals as goal
 

@@ -1,5 +1,4 @@
 -- `datainfo::rules::count_kept` meets its contract. Assumes nothing.
-use borrow.Author.Rules.{rules}
 use Rattle.datainfo.proofs.Own.{count_none, count_some}
 use Rattle.datainfo.proofs.rules.count_kept.Goals as goal
 

@@ -1,5 +1,4 @@
 -- `datainfo::rules::double_kept` meets its contract. Assumes nothing.
-use borrow.Author.Rules.{rules}
 use Rattle.datainfo.proofs.Own.{limit_within, double_short, double_cut, double_low, double_high, double_read}
 use Rattle.datainfo.proofs.rules.double_kept.Goals as goal
 

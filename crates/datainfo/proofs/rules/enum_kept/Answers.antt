@@ -1,5 +1,4 @@
 -- `datainfo::rules::enum_kept` meets its contract. Assumes nothing.
-use borrow.Author.Rules.{rules}
 use Rattle.datainfo.proofs.Own.{enum_uncounted, enum_numbers}
 use Rattle.datainfo.proofs.rules.enum_kept.Goals as goal
 

@@ -1,5 +1,4 @@
 -- `datainfo::rules::int_kept` meets its contract. Assumes nothing.
-use borrow.Author.Rules.{rules}
 use native.Mathlib.Omega.{arith}
 use Rattle.datainfo.proofs.Own.{signed_within, int_short, int_cut, int_read}
 use Rattle.datainfo.proofs.rules.int_kept.Goals as goal

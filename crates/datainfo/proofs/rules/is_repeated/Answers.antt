@@ -1,10 +1,5 @@
 use borrow.Author.Rules.{rules}
 use native.Mathlib.Omega.{arith}
-use Prim.Native.Nat.{◌-◌, ◌≤◌}
-use mathlib.Core.Path.{◌≡◌}
-use lib.ListN.{length, drop}
-use Rattle.ascii.specs.Bytes.{any}
-use Rattle.datainfo.specs.Clauses.Obeyed.{same_key, from_each}
 use Rattle.datainfo.proofs.Keys.{repeated_none, repeated_found, repeated_more}
 use Rattle.datainfo.proofs.rules.is_repeated.Goals as goal
 

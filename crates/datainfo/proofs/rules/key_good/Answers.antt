@@ -1,5 +1,4 @@
 -- `datainfo::rules::key_good` meets its contract. Assumes nothing.
-use borrow.Author.Rules.{rules}
 use Rattle.datainfo.proofs.Keys.{key_name, key_any}
 use Rattle.datainfo.proofs.rules.key_good.Goals as goal
 

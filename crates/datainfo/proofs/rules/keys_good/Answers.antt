@@ -1,5 +1,4 @@
 -- `datainfo::rules::keys_good` meets its contract. Assumes nothing.
-use borrow.Author.Rules.{rules}
 use native.Mathlib.Omega.{arith}
 use Rattle.datainfo.proofs.Keys.{positions_zero, keys_none, keys_noted}
 use Rattle.datainfo.proofs.rules.keys_good.Goals as goal

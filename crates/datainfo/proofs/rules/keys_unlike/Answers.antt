@@ -1,9 +1,5 @@
-use borrow.Author.Rules.{rules}
 use native.Mathlib.Omega.{arith}
-use Prim.Native.Nat.{◌+◌, ◌-◌, ◌≤◌}
-use mathlib.Core.Path.{◌≡◌}
-use lib.ListN.{length, drop}
-use Rattle.datainfo.specs.Clauses.Obeyed.{keys_good, from_each}
+use Prim.Native.Nat.{◌+◌}
 use Rattle.datainfo.proofs.Keys.{positions_later, keys_bad, keys_repeated, keys_more, keys_end}
 use Rattle.datainfo.proofs.rules.keys_unlike.Goals as goal
 

@@ -1,11 +1,8 @@
 -- `datainfo::rules::keys_unlike` meets its contract. Assumes nothing.
-use borrow.Author.Rules.{rules}
-use native.Mathlib.Omega.{arith}
-use Prim.Native.Nat.{◌+◌, ◌-◌, ◌≤◌}
+use Prim.Native.Nat.{◌-◌, ◌≤◌}
 use mathlib.Core.Path.{◌≡◌}
 use lib.ListN.{length, drop}
 use Rattle.datainfo.specs.Clauses.Obeyed.{keys_good, from_each}
-use Rattle.datainfo.proofs.Keys.{positions_later, keys_bad, keys_repeated, keys_more, keys_end}
 use Rattle.datainfo.proofs.rules.keys_unlike.Given as goal
 
 abbrev pub invariant-loop-j : goal.invariant-loop-j

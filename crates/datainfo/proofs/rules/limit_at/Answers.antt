@@ -1,5 +1,4 @@
 -- `datainfo::rules::limit_at` meets its contract. Assumes nothing.
-use borrow.Author.Rules.{rules}
 use Rattle.datainfo.proofs.Own.{signed_within, limit_short, limit_cut, limit_read}
 use Rattle.datainfo.proofs.rules.limit_at.Goals as goal
 

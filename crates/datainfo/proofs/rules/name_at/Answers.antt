@@ -1,5 +1,4 @@
 -- `datainfo::rules::name_at` meets its contract. Assumes nothing.
-use borrow.Author.Rules.{rules}
 use Rattle.datainfo.proofs.Keys.{name_none, name_cut, name_whole}
 use Rattle.datainfo.proofs.rules.name_at.Goals as goal
 

@@ -1,5 +1,4 @@
 -- `datainfo::rules::named_at` meets its contract. Assumes nothing.
-use borrow.Author.Rules.{rules}
 use Rattle.ascii.proofs.Bytes.{ended_within}
 use Rattle.datainfo.proofs.Keys.{in_flagless, in_past}
 use Rattle.datainfo.proofs.rules.named_at.Goals as goal

@@ -1,5 +1,4 @@
 -- `datainfo::rules::names_good` meets its contract. Assumes nothing.
-use borrow.Author.Rules.{rules}
 use Rattle.datainfo.proofs.Inside.{said_names}
 use Rattle.datainfo.proofs.rules.names_good.Goals as goal
 

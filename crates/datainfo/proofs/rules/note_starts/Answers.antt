@@ -1,11 +1,8 @@
 use borrow.Author.Rules.{rules}
 use native.Mathlib.Omega.{arith}
-use Prim.Native.Nat.{◌-◌, ◌≤◌}
-use mathlib.Core.Path.{◌≡◌, refl}
-use lib.ListN.{length, drop, length-set}
-use Rattle.datainfo.specs.Layout.{datainfo_in}
-use Rattle.datainfo.specs.Clauses.Obeyed.{starts}
-use Rattle.datainfo.proofs.Keys.{Noting, noting_start, noted_last, noted_more, noted_all}
+use mathlib.Core.Path.{refl}
+use lib.ListN.{length-set}
+use Rattle.datainfo.proofs.Keys.{noting_start, noted_last, noted_more, noted_all}
 use Rattle.datainfo.proofs.rules.note_starts.Goals as goal
 
 pub loop-m-init : goal.loop-m-init

@@ -1,12 +1,10 @@
 -- `datainfo::rules::note_starts` meets its contract. Assumes nothing.
-use borrow.Author.Rules.{rules}
-use native.Mathlib.Omega.{arith}
-use Prim.Native.Nat.{◌-◌, ◌≤◌}
-use mathlib.Core.Path.{◌≡◌, refl}
-use lib.ListN.{length, drop, length-set}
+use Prim.Native.Nat.{◌-◌}
+use mathlib.Core.Path.{◌≡◌}
+use lib.ListN.{length, drop}
 use Rattle.datainfo.specs.Layout.{datainfo_in}
 use Rattle.datainfo.specs.Clauses.Obeyed.{starts}
-use Rattle.datainfo.proofs.Keys.{Noting, noting_start, noted_last, noted_more, noted_all}
+use Rattle.datainfo.proofs.Keys.{Noting}
 use Rattle.datainfo.proofs.rules.note_starts.Given as goal
 
 abbrev pub invariant-loop-m : goal.invariant-loop-m

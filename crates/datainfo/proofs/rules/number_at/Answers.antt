@@ -1,5 +1,4 @@
 -- `datainfo::rules::number_at` meets its contract. Assumes nothing.
-use borrow.Author.Rules.{rules}
 use native.Mathlib.Omega.{arith}
 use Rattle.ascii.proofs.Bytes.{ended_within}
 use Rattle.datainfo.proofs.Keys.{number_nameless, number_short, number_read}

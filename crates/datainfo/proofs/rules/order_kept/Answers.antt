@@ -1,5 +1,4 @@
 -- `datainfo::rules::order_kept` meets its contract. Assumes nothing.
-use borrow.Author.Rules.{rules}
 use native.Mathlib.Omega.{arith}
 use Rattle.datainfo.proofs.Own.{unsigned_within, order_short, order_cut, order_read}
 use Rattle.datainfo.proofs.rules.order_kept.Goals as goal

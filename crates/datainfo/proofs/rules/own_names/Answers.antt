@@ -1,5 +1,4 @@
 -- `datainfo::rules::own_names` meets its contract. Assumes nothing.
-use borrow.Author.Rules.{rules}
 use Rattle.datainfo.proofs.Own.{own_enum_names, own_struct_names, own_partial_names, own_nameless}
 use Rattle.datainfo.proofs.rules.own_names.Goals as goal
 

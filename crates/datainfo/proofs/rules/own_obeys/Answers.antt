@@ -1,5 +1,4 @@
 -- `datainfo::rules::own_obeys` meets its contract. Assumes nothing.
-use borrow.Author.Rules.{rules}
 use Rattle.datainfo.proofs.Own.{own_asked}
 use Rattle.datainfo.proofs.rules.own_obeys.Goals as goal
 

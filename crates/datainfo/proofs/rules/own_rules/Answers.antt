@@ -1,5 +1,4 @@
 -- `datainfo::rules::own_rules` meets its contract. Assumes nothing.
-use borrow.Author.Rules.{rules}
 use Rattle.datainfo.proofs.Own.{own_double, own_int, own_enum, own_string, own_array, own_tuple, own_struct, own_scaled, own_blob, own_partial, own_other}
 use Rattle.datainfo.proofs.rules.own_rules.Goals as goal
 

@@ -1,5 +1,4 @@
 -- `datainfo::rules::rules_kept` meets its contract. Assumes nothing.
-use borrow.Author.Rules.{rules}
 use Rattle.datainfo.proofs.Inside.{said_rules}
 use Rattle.datainfo.proofs.rules.rules_kept.Goals as goal
 

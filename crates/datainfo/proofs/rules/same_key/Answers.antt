@@ -1,5 +1,4 @@
 -- `datainfo::rules::same_key` meets its contract. Assumes nothing.
-use borrow.Author.Rules.{rules}
 use Rattle.datainfo.proofs.Keys.{key_names, key_numbers}
 use Rattle.datainfo.proofs.rules.same_key.Goals as goal
 

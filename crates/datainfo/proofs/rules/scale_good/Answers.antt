@@ -1,5 +1,4 @@
 -- `datainfo::rules::scale_good` meets its contract. Assumes nothing.
-use borrow.Author.Rules.{rules}
 use Rattle.datainfo.proofs.Own.{scale_far, scale_sign}
 use Rattle.datainfo.proofs.rules.scale_good.Goals as goal
 

@@ -1,5 +1,4 @@
 -- `datainfo::rules::scaled_kept` meets its contract. Assumes nothing.
-use borrow.Author.Rules.{rules}
 use Rattle.datainfo.proofs.Own.{limit_within, scaled_short, scaled_bad, scaled_good}
 use Rattle.datainfo.proofs.rules.scaled_kept.Goals as goal
 
