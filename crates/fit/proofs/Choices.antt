@@ -3,9 +3,9 @@ use Prim.Native.Nat.{ℕ, ◌-◌, ◌≤◌, ◌<◌}
 use native.Mathlib.Omega.{arith}
 use mathlib.Core.Path.{◌≡◌, refl, sym, ap, ◌∙◌}
 use mathlib.Core.Bool.{Bool, true, false}
-use mathlib.Core.List.{List, [], ◌∷◌}
-use mathlib.Core.Option.{Option, none, some}
-use lib.ListN.{length, drop}
+use mathlib.Core.List.{List, []}
+use mathlib.Core.Option.{some}
+use lib.ListN.{drop}
 use lib.IntN.{ℤ}
 use Rattle.ascii.specs.declared.Next.{Next}
 use Rattle.ascii.specs.declared.Next.TheVariants.{At, Bad}
@@ -13,17 +13,16 @@ use Rattle.ascii.specs.declared.Signed as S
 use Rattle.ascii.specs.declared.Signed.{Signed}
 use Rattle.ascii.specs.declared.Unsigned as U
 use Rattle.ascii.specs.declared.Unsigned.{Unsigned}
-use Rattle.ascii.specs.Bytes.{is_some, same}
+use Rattle.ascii.specs.Bytes.{same}
 use Rattle.ascii.specs.Numbers.{unsigned, signed}
 use Rattle.ascii.specs.Clauses.Read.{ReadsUnsigned, ReadsSigned}
 use Rattle.ascii.specs.Clauses.Reader.{ByteAt, Ends, rest}
 use Rattle.decimal.specs.Token as Token
-use Rattle.json_text.specs.Json as Json
 use Rattle.json_text.specs.Json.{Json, null, boolean, bare}
-use Rattle.datainfo.specs.Datainfo.{Datainfo, Variant, enum}
+use Rattle.datainfo.specs.Datainfo.{Variant, enum}
 use Rattle.datainfo.specs.Clauses.Obeyed.{name_of}
 use Rattle.datainfo.specs.Layout.{counted, variants, enum_at}
-use Rattle.fit.specs.Fit.{in_range, expect, expect_or, as_number, as_string, member_number, fit}
+use Rattle.fit.specs.Fit.{in_range, expect, expect_or, as_string, member_number, fit}
 use Rattle.fit.specs.Clauses.Verdict.{Judges}
 use Rattle.fit.specs.Clauses.Walk.{Quoted, NumberOf}
 use Rattle.fit.specs.declared.Verdict.{Verdict}

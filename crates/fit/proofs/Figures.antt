@@ -30,7 +30,6 @@ use Rattle.decimal.specs.declared.compare.TokenValue.{TokenValue}
 use Rattle.decimal.specs.Clauses.Exact.{decimal, ValueOf, lies_between}
 use Rattle.decimal.proofs.Values.{lies}
 use Rattle.json_text.specs.Json.{Json, null, boolean, bare, up_to}
-use Rattle.json_text.specs.Json as Json
 use Rattle.json_text.proofs.ReadAgain.{of_some, number_takes}
 use Rattle.datainfo.specs.Datainfo.{Datainfo, Variant, double, int, enum, bool, scaled}
 use Rattle.datainfo.specs.Layout.{limit, double_at, int_at, counted, variants, enum_at, string_at, scaled_at, blob_at}
@@ -42,7 +41,7 @@ use Rattle.fit.specs.Clauses.Verdict.{meaning, Judges, numeric, plain}
 use Rattle.fit.specs.declared.Verdict.{Verdict}
 use Rattle.fit.specs.declared.Verdict.TheVariants.{Fits, RangeError, WrongType}
 use Rattle.fit.proofs.Judged.{judges_none, judges_is, judges_of, same_read, same_left}
-use Rattle.fit.proofs.Shapes.{just, nothing, steps, either, shape, tells_yes, tells_no, as_number}
+use Rattle.fit.proofs.Shapes.{just, nothing, steps, either, shape, tells_yes, tells_no, as_number_lem}
 
 -- a signed number is handed on as its bits, and read back
 abbrev back : Width → ℤ → ℤ
@@ -294,7 +293,7 @@ number_room v p n l e z w = let h = number_short _ _ (rw z at l).0 in omega (ari
 module _ (v : List ℕ) (p : ℕ) (n : Next) (l : Ends v n (Token.number (drop p v))) (depth : ℕ) where
   -- where no token ends, no number stands
   pub no_number : n ≡ Bad → {j : Json} {y : List ℕ} → bare depth (drop p v) ≡ some (j, y) → as_number j ≡ none
-  no_number z f = tells_no (as_number (shape depth (drop p v) f)) none_there
+  no_number z f = tells_no (as_number_lem (shape depth (drop p v) f)) none_there
     where
       none_there : is_some (Token.number (drop p v)) ≡ true → ⊥
       none_there h = let g : is_some (Token.number (drop p v)) ≡ false = rw (rw z at l) in let y : ◌≡◌ {A = ℕ} 0 1 = cc in omega arith
@@ -306,7 +305,7 @@ module _ (v : List ℕ) (p : ℕ) (n : Next) (l : Ends v n (Token.number (drop p
   module _ (o : Option (Datainfo × List ℕ)) (e : ℕ) (z : n ≡ At e) where
     pub number_token : p ≤ length v → (r : Verdict) → Judges o (some (Json.number (take (e - p) (drop p v)), [])) r → Judges o (bare depth (drop p v)) r
     unfolding up_to
-    number_token w r h = record { is = λ g f. tells_yes (as_number (shape depth (drop p v) f)) (rw (rw z at l).0) λ a i q. rw (number_from_lem _ i, q.1, ← (same_end_lem q.0), size) (h.is g refl) }
+    number_token w r h = record { is = λ g f. tells_yes (as_number_lem (shape depth (drop p v) f)) (rw (rw z at l).0) λ a i q. rw (number_from_lem _ i, q.1, ← (same_end_lem q.0), size) (h.is g refl) }
       where
         same_end_lem : {y : List ℕ} → Token.number (drop p v) ≡ some y → drop e v ≡ y
         same_end_lem f = just (sym (rw z at l).0 ∙ f)

@@ -1,5 +1,5 @@
 -- Laws of values that hold no values. Assumes nothing.
-use Prim.Native.Nat.{ℕ, ◌-◌}
+use Prim.Native.Nat.{ℕ}
 use mathlib.Core.Logic.{◌⊎◌, inl, inr, ⊎_elim}
 use mathlib.Core.Path.{◌≡◌, refl, sym, ap, ◌∙◌}
 use mathlib.Core.Bool.{Bool, true, false}
@@ -14,7 +14,6 @@ use Rattle.ascii.specs.Numbers.{unsigned}
 use Rattle.ascii.specs.Clauses.Reader.{ByteAt}
 use Rattle.ascii.specs.Clauses.Read.{ReadsUnsigned}
 use Rattle.json_text.specs.Json.{Json, bare}
-use Rattle.json_text.specs.Json as Json
 use Rattle.json_text.specs.Characters.{characters}
 use Rattle.base64_text.specs.Base64.{blob_size}
 use Rattle.base64_text.specs.Clauses.Answer as Answer

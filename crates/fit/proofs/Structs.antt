@@ -19,7 +19,7 @@ use Rattle.ascii.specs.Clauses.Read.{ReadsUnsigned}
 use Rattle.ascii.proofs.Bytes.{tail_drop}
 use Rattle.ascii.proofs.Lists.{both}
 use Rattle.json_text.specs.Json.{object, Members, bare, value, object_end}
-use Rattle.datainfo.specs.Datainfo.{Datainfo, Fields, no_fields, field, Parts, field_names}
+use Rattle.datainfo.specs.Datainfo.{Datainfo, Fields, no_fields, Parts, field_names}
 use Rattle.datainfo.specs.Layout.{entry, joined, fields, datainfo_in}
 use Rattle.datainfo.specs.Clauses.Members.{members_at}
 use Rattle.datainfo.specs.Clauses.Obeyed.{name_in}
