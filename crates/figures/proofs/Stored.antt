@@ -21,7 +21,7 @@ use Rattle.json_text.specs.Json.{Json, null, boolean, text, compact}
 use Rattle.datainfo.specs.Datainfo.{Datainfo, double, int, bool, enum, string, array, tuple, struct, scaled, blob, partial}
 use Rattle.fit.specs.Fit.{Verdict, fits, wrongType, badJSON, severity, in_range, expect, as_number, whole_fit, between_integers, fit, numbered, form_of}
 use Rattle.fit.specs.Fit.{as_partial, at_top, in_order, stored, stored_form, value_verdict, verdict_of, verdict, is_stored}
-use Rattle.form.proofs.Verdicts.{worse_both, in_range, cond_fits, fit_is}
+use Rattle.form.proofs.Verdicts.{worse_both, in_range_lem, cond_fits, fit_is}
 use Rattle.figures.specs.Figures.{is_narrow, is_summed}
 use Rattle.figures.specs.Clauses.Tally.{below_zero, Small}
 
@@ -95,7 +95,7 @@ module _ (lo hi : ℤ) (t : List ℕ) (w : is_narrow lo hi ≡ true) (e : whole_
   unfolding whole_fit between_integers between is_narrow numeral
   token_small =
       let c = cond_fits (is_whole t) (in_range (is_within_limits t && between_integers lo hi (exactly t))) e in
-      let r = both (is_within_limits t) (between_integers lo hi (exactly t)) (in_range _ c.1) in
+      let r = both (is_within_limits t) (between_integers lo hi (exactly t)) (in_range_lem _ c.1) in
       let x = whole_exactly t c.0 in
       let l = both (at_most (from_integer lo) (exactly t)) (at_most (exactly t) (from_integer hi)) r.1 in
       let low : le_z lo (numeral t) ≡ true = sym (integers_order lo (numeral t)) ∙ ap (at_most (from_integer lo)) (sym x) ∙ l.0 in

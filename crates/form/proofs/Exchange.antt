@@ -1,10 +1,10 @@
 -- Names exchanged for numbers (M-101): once is enough, what fits still fits, and what can be read still can. Assumes nothing.
-use Prim.Native.Nat.{ℕ, zero, suc, ◌≤◌}
+use Prim.Native.Nat.{ℕ, ◌≤◌}
 use native.Mathlib.Omega.{arith}
 use mathlib.Core.Bool.{Bool, true, false, cond, not, ◌&&◌, ◌||◌}
 use mathlib.Core.List.{List, [], ◌∷◌, map}
 use mathlib.Core.Option.{Option, none, some}
-use mathlib.Core.Path.{◌≡◌, refl, sym, ap, ap₂, ◌∙◌}
+use mathlib.Core.Path.{◌≡◌, refl, ap, ap₂, ◌∙◌}
 use lib.IntN.{ℤ, pos, negsuc}
 use lib.ListN.{length}
 use lib.Signed.{le_z}
@@ -13,16 +13,15 @@ use Rattle.ascii.specs.Bytes.{is_some, all, any, same}
 use Rattle.ascii.specs.Names.{lowercase, distinct, unique, is_name}
 use Rattle.ascii.specs.Numbers.{integer}
 use Rattle.ascii.proofs.Lists.{both, or-true, neither, same_self, same_is}
-use Rattle.decimal.specs.Decimal.{Decimal, from_integer, in_power, at_most, between}
+use Rattle.decimal.specs.Decimal.{from_integer, in_power, at_most, between}
 use Rattle.decimal.proofs.Written.{integer_token, integer_whole, integer_exactly, integer_limits}
-use Rattle.json_text.specs.Json as Json
-use Rattle.json_text.specs.Json.{Json, null, boolean, Items, no_items, item, Members, no_members, member}
-use Rattle.json_text.specs.Readable.{Readable, ReadableItems, ReadableMembers}
+use Rattle.json_text.specs.Json.{Json, null, boolean, Items, no_items, item, Members}
+use Rattle.json_text.specs.Readable.{Readable, ReadableItems}
 use Rattle.datainfo.specs.Datainfo.{Variant, Datainfo, double, int, bool, enum, string, array, tuple, struct, scaled, blob, partial, Elements, no_elements, element, Fields, no_fields, field, field_names}
 use Rattle.datainfo.specs.Rules.{is_between, good_names, names_good, elements_names_good, fields_names_good}
-use Rattle.fit.specs.Fit.{Verdict, fits, rangeError, wrongType, worse, in_range, expect, expect_or, as_number, as_string, as_array, as_object}
+use Rattle.fit.specs.Fit.{Verdict, fits, wrongType, worse, in_range, expect, expect_or, as_number, as_string, as_array, as_object}
 use Rattle.fit.specs.Fit.{whole_fit, between_integers, is_variant, member_number, item_count, worst_item, keys, each_once, value_at, fit, elements_fit, fields_fit}
-use Rattle.fit.specs.Fit.{within, on_items, on_members, map_items, map_members, exchanged, numbered, numbered_elements, numbered_at}
+use Rattle.fit.specs.Fit.{within, on_members, map_items, map_members, exchanged, numbered, numbered_elements, numbered_at}
 use Rattle.form.specs.Numbers.{if_any, all_items, numbers_only, elements_numbers_only, fields_numbers_only}
 use Rattle.form.proofs.Verdicts.{worse_both, both_worse, cond_fits}
 use Rattle.form.proofs.Trees.{items_twice, items_readable, items_fit, map_twice, map_count, map_readable, on_on, on_same, members_readable, members_fit_lem, map_keys, map_again, map_members_lem, map_value}

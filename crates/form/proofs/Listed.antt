@@ -2,7 +2,7 @@
 use Prim.Native.Nat.{ℕ, ◌+◌, ◌-◌, ◌≤◌, ◌<◌}
 use native.Mathlib.Omega.{arith}
 use mathlib.Core.Path.{◌≡◌, refl, sym, ap, ◌∙◌}
-use mathlib.Core.Bool.{Bool, true, false, cond, false≢true, ◌||◌}
+use mathlib.Core.Bool.{Bool, true, false, false≢true, ◌||◌}
 use mathlib.Core.List.{List, [], ◌∷◌, ◌++◌}
 use mathlib.Core.Option.{Option, none, some}
 use lib.ListN.{length, drop, drop_of_length-le}
@@ -19,9 +19,7 @@ use Rattle.ascii.specs.Clauses.Read.{ReadsUnsigned}
 use Rattle.ascii.specs.Clauses.Reader.{Left, Ends}
 use Rattle.ascii.proofs.Bytes.{tail_drop}
 use Rattle.ascii.proofs.Lists.{same_is}
-use Rattle.json_text.specs.Json as Json
-use Rattle.json_text.specs.Json.{Json, null, boolean, Members, no_members, member, skip, bare, value, text, object_end, quoted, compact, compact_members}
-use Rattle.datainfo.specs.Datainfo as Datainfo
+use Rattle.json_text.specs.Json.{Json, null, boolean, Members, no_members, member, skip, bare, value, object_end, quoted, compact, compact_members}
 use Rattle.datainfo.specs.Datainfo.{Datainfo, Fields, no_fields, field, Parts, field_names, field_of}
 use Rattle.datainfo.specs.Layout.{joined, fields, typed, datainfo_in}
 use Rattle.datainfo.specs.Clauses.Obeyed.{name_in}
@@ -32,19 +30,18 @@ use Rattle.emit.specs.Clauses.Emitted.{Emits, comma}
 use Rattle.emit.proofs.Pieces.{both}
 use Rattle.emit.proofs.Pieces.{nothing as nothing_written}
 use Rattle.fit.specs.Fit.{fits, expect, as_object, keys, each_once, value_at, fit, fields_fit, within, map_members, numbered, numbered_at, as_partial, ordered, form_of, stored_form}
-use Rattle.fit.specs.Fit as Fit
-use Rattle.fit.specs.Clauses.Walk.{Found, Finds}
+use Rattle.fit.specs.Clauses.Walk.{Finds}
 use Rattle.fit.proofs.Shapes.{nothing, just, steps, shape, as_object_lem, group_object}
 use Rattle.fit.proofs.Items.{unspaced}
 use Rattle.fit.proofs.Objects.{struct_short, struct_first}
-use Rattle.form.specs.Clauses.Formed.{FieldFound, FieldIn, Forms, FormsField, FormsFields, FormsOrdered, FormsText}
+use Rattle.form.specs.Clauses.Formed.{FieldIn, Forms, FormsField, FormsFields, FormsOrdered, FormsText}
 use Rattle.form.proofs.Verdicts.{cond_fits}
 use Rattle.form.proofs.Trees.{map_value}
 use Rattle.form.proofs.Exchange.{at_null}
 use Rattle.form.proofs.Ordered.{Among, among_self, once_among}
 use Rattle.form.proofs.Stored.{stored_other, stored_part}
 use Rattle.form.proofs.Rows.{has}
-use Rattle.form.proofs.Members.{listed, listed_first, listed_step, listed_end, object_begins, none_counted, FitsField, field_fits, numbered_field, members_fit}
+use Rattle.form.proofs.Members.{listed, listed_first, listed_step, listed_end, object_begins, none_counted, field_fits, numbered_field, members_fit}
 use Rattle.form.proofs.Typed.{is_typed, text_value}
 
 -- ## One member, by its name

@@ -1,23 +1,22 @@
 -- Laws of the code that writes the members of an object, one for each way through a function. Assumes nothing.
-use Prim.Native.Nat.{ℕ, zero, suc, ◌+◌, ◌-◌, ◌≤◌, ◌<◌}
+use Prim.Native.Nat.{ℕ, ◌+◌, ◌-◌, ◌≤◌, ◌<◌}
 use native.Mathlib.Nat.{zero-add}
 use native.Mathlib.Omega.{arith}
 use mathlib.Core.Path.{◌≡◌, refl, sym, ap, ap₂, ◌∙◌}
 use mathlib.Core.Bool.{Bool, true, false, cond, ◌&&◌, ◌||◌}
 use mathlib.Core.List.{List, [], ◌∷◌, ◌++◌, append_assoc, append-nil}
-use mathlib.Core.Option.{Option, none, some}
+use mathlib.Core.Option.{Option, some}
 use lib.Dec.{eqb}
 use lib.ListN.{length, drop, drop_of_length-le}
-use borrow.Author.Tests.{eqb-true, eq-eqb}
+use borrow.Author.Tests.{eqb-true}
 use Rattle.ascii.specs.declared.Next.{Next}
 use Rattle.ascii.specs.declared.Next.TheVariants.{At, Bad}
 use Rattle.ascii.specs.Text.{bytes}
-use Rattle.ascii.specs.Bytes.{◌>>=◌, all, any, count, same, head, tail}
-use Rattle.ascii.specs.Clauses.Reader.{Left, Ends, rest}
+use Rattle.ascii.specs.Bytes.{all, any, count, same, head}
+use Rattle.ascii.specs.Clauses.Reader.{Ends}
 use Rattle.ascii.proofs.Bytes.{tail_drop}
 use Rattle.ascii.proofs.Lists.{neither, same_self, same_is, same_other}
 use Rattle.ascii.proofs.Lists as Lists
-use Rattle.json_text.specs.Json as Json
 use Rattle.json_text.specs.Json.{Json, null, boolean, Members, no_members, member, skip, key, object_end, bare, value, quoted, compact, compact_members, more_members}
 use Rattle.datainfo.specs.Datainfo.{Datainfo, Fields, no_fields, field, Parts, field_names, field_of}
 use Rattle.datainfo.specs.Layout.{datainfo_in}
@@ -25,11 +24,11 @@ use Rattle.datainfo.specs.Clauses.Members.{members_at}
 use Rattle.emit.specs.Clauses.Emitted.{Emits, comma}
 use Rattle.emit.proofs.Pieces.{both}
 use Rattle.emit.proofs.Pieces.{nothing as nothing_written}
-use Rattle.fit.specs.Fit.{Verdict, fits, wrongType, worse, expect, as_object, keys, each_once, value_at, fit, fields_fit, within, map_members, numbered, numbered_at}
+use Rattle.fit.specs.Fit.{Verdict, fits, wrongType, expect, as_object, keys, each_once, value_at, fit, fields_fit, within, map_members, numbered, numbered_at}
 use Rattle.fit.specs.Clauses.Walk.{first, after_member, member_value, Reads}
 use Rattle.fit.proofs.Shapes.{nothing, just, shape, as_object_lem, object_group, group_object}
-use Rattle.fit.proofs.Items.{MembersAt, members_first, members_next, members_none, members_over, members_some, ends_some, unspaced}
-use Rattle.form.specs.Clauses.Formed.{FieldFound, FieldIn, Forms, FormsMember, FormsMembers, FormsStruct}
+use Rattle.fit.proofs.Items.{MembersAt, members_first, members_next, members_none, members_over, ends_some, unspaced}
+use Rattle.form.specs.Clauses.Formed.{FieldIn, Forms, FormsMember, FormsMembers, FormsStruct}
 use Rattle.form.proofs.Verdicts.{worse_both, cond_fits}
 use Rattle.form.proofs.Rows.{has}
 

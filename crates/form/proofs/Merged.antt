@@ -1,32 +1,27 @@
 -- Laws of the code that fills in what a change leaves out (M-113). Assumes nothing.
-use Prim.Native.Nat.{ℕ, zero, suc, ◌+◌, ◌-◌, ◌≤◌, ◌<◌}
+use Prim.Native.Nat.{ℕ, ◌+◌, ◌-◌, ◌≤◌, ◌<◌}
 use native.Mathlib.Nat.{zero-add}
 use native.Mathlib.Omega.{arith}
-use mathlib.Core.Path.{◌≡◌, refl, sym, ap, ap₂, ◌∙◌}
-use mathlib.Core.Bool.{Bool, true, false, cond, not, ◌&&◌, ◌||◌, false≢true}
+use mathlib.Core.Path.{◌≡◌, refl, sym, ap, ◌∙◌}
+use mathlib.Core.Bool.{Bool, true, false, cond, not, ◌&&◌, ◌||◌}
 use mathlib.Core.List.{List, [], ◌∷◌, ◌++◌, append_assoc, append-nil}
 use mathlib.Core.Option.{Option, none, some}
 use lib.Dec.{eqb}
 use lib.ListN.{length, take, drop, length-append, length-drop}
 use lib.Seq.{take_at}
-use borrow.Author.Tests.{eqb-true, eqb-false, eq-eqb, ne_eqb}
+use borrow.Author.Tests.{eqb-true, eqb-false, ne_eqb}
 use Rattle.ascii.specs.declared.Next.{Next}
 use Rattle.ascii.specs.declared.Next.TheVariants.{At, Bad}
 use Rattle.ascii.specs.declared.Unsigned as U
 use Rattle.ascii.specs.declared.Unsigned.{Unsigned}
 use Rattle.ascii.specs.Text.{bytes}
-use Rattle.ascii.specs.Bytes.{◌>>=◌, is_some, all, any, count, same, head, tail, drop_while, is_space}
+use Rattle.ascii.specs.Bytes.{is_some, any, count, same, head}
 use Rattle.ascii.specs.Numbers.{unsigned}
 use Rattle.ascii.specs.Clauses.Read.{ReadsUnsigned}
-use Rattle.ascii.specs.Clauses.Reader.{ByteAt, Left, Ends}
+use Rattle.ascii.specs.Clauses.Reader.{ByteAt, Ends}
 use Rattle.ascii.proofs.Lists as Lists
-use Rattle.json_text.specs.Json as Json
-use Rattle.json_text.specs.Json.{Json, null, boolean, Members, no_members, member, skip, key, members, bare, value, spaced, object_end, text, quoted, compact, compact_members, more_members}
-use Rattle.json_text.specs.Readable.{Readable, ReadableMembers}
-use Rattle.json_text.proofs.ReadAgain.{Stop, stop_comma, stop_brace, stays}
-use Rattle.json_text.proofs.ReadBack.{readable_trees, key_again, value_again, members_end, members_text_lem}
-use Rattle.json_text.proofs.Enough.{members_enough}
-use Rattle.datainfo.specs.Datainfo.{Datainfo, partial, Fields, no_fields, field, Parts, field_names, field_of}
+use Rattle.json_text.specs.Json.{Json, Members, no_members, member, skip, value, object_end, text, quoted, compact, compact_members}
+use Rattle.datainfo.specs.Datainfo.{Datainfo, Fields, no_fields, Parts, field_names}
 use Rattle.datainfo.specs.Layout.{joined, fields, datainfo_in}
 use Rattle.datainfo.specs.Clauses.Obeyed.{name_in}
 use Rattle.datainfo.specs.Clauses.Members.{after_field, members_at}
@@ -34,14 +29,14 @@ use Rattle.datainfo.proofs.Structs.{fields_none, fields_some, past_field, name_r
 use Rattle.emit.specs.Clauses.Emitted.{Emits, comma}
 use Rattle.emit.proofs.Pieces.{both}
 use Rattle.emit.proofs.Pieces.{nothing as nothing_written}
-use Rattle.fit.specs.Fit.{fits, keys, each_once, value_at, fit, fields_fit, map_members, numbered, numbered_at, ordered, keep_members, join_members, is_left_out}
+use Rattle.fit.specs.Fit.{fits, keys, each_once, value_at, fields_fit, numbered, ordered, keep_members, is_left_out}
 use Rattle.fit.specs.Clauses.Walk.{OfObject, OfStruct, first}
 use Rattle.fit.proofs.Shapes.{nothing, just}
 use Rattle.fit.proofs.Objects.{struct_short, struct_first}
 use Rattle.form.specs.Clauses.Formed.{FormsField}
 use Rattle.form.specs.Clauses.Merged.{TellsLeftOut, StaysFirst, KeepsOne, KeepsAll, is_none, merged_bytes, Merges}
 use Rattle.form.proofs.Ordered.{Among, among_self, once_among}
-use Rattle.form.proofs.Members.{listed, listed_first, listed_step, listed_end, none_counted, FitsField, field_fits}
+use Rattle.form.proofs.Members.{listed, listed_first, listed_step, listed_end, field_fits}
 use Rattle.form.proofs.Listed.{exchanged, among_any, stored_at}
 
 -- ## What is left out

@@ -1,19 +1,19 @@
 -- Members in table order (M-113): the laws of `ordered`. Assumes nothing.
-use Prim.Native.Nat.{ℕ, zero, suc, ◌+◌, ◌≤◌}
+use Prim.Native.Nat.{ℕ, ◌+◌}
 use native.Mathlib.Nat.{zero-add}
 use native.Mathlib.Omega.{arith}
 use mathlib.Core.Bool.{Bool, true, false, cond, not, ◌&&◌, ◌||◌}
 use mathlib.Core.List.{List, [], ◌∷◌}
-use mathlib.Core.Path.{◌≡◌, refl, sym, ap, ap₂, ◌∙◌}
+use mathlib.Core.Path.{◌≡◌, refl, sym, ap, ap₂}
 use lib.Dec.{eqb}
-use borrow.Author.Tests.{eqb-true, eq-eqb, not-true}
+use borrow.Author.Tests.{not-true}
 use Rattle.ascii.specs.Bytes.{all, any, count, same}
 use Rattle.ascii.specs.Names.{distinct}
 use Rattle.ascii.proofs.Lists.{both, or-true, neither, all_parts, same_self, same_is, same_other}
 use Rattle.json_text.specs.Json.{Json, null, Members, no_members, member}
-use Rattle.json_text.specs.Readable.{IsRaw, Readable, ReadableMembers}
-use Rattle.datainfo.specs.Datainfo.{Datainfo, Fields, no_fields, field, field_names}
-use Rattle.fit.specs.Fit.{Verdict, worse, keys, each_once, value_at, fit, fields_fit, map_members, ordered}
+use Rattle.json_text.specs.Readable.{IsRaw, ReadableMembers}
+use Rattle.datainfo.specs.Datainfo.{Fields, no_fields, field, field_names}
+use Rattle.fit.specs.Fit.{worse, keys, each_once, value_at, fit, fields_fit, map_members, ordered}
 use Rattle.form.specs.Numbers.{numbers_only, fields_numbers_only}
 use Rattle.form.proofs.Trees.{map_value, value_readable}
 

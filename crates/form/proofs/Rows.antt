@@ -1,10 +1,10 @@
 -- Laws of the code that writes the items of an array or a tuple, one for each way through a function. Assumes nothing.
-use Prim.Native.Nat.{ℕ, zero, suc, ◌+◌, ◌-◌, ◌≤◌, ◌<◌}
+use Prim.Native.Nat.{ℕ, ◌+◌, ◌-◌, ◌≤◌, ◌<◌}
 use native.Mathlib.Omega.{arith}
 use mathlib.Core.Path.{◌≡◌, refl, sym, ap, ◌∙◌}
-use mathlib.Core.Bool.{Bool, true, false, cond}
+use mathlib.Core.Bool.{Bool, true, false}
 use mathlib.Core.List.{List, [], ◌∷◌, ◌++◌, append_assoc, append-nil}
-use mathlib.Core.Option.{Option, none, some}
+use mathlib.Core.Option.{Option, some}
 use lib.ListN.{length, drop, drop_of_length-le}
 use borrow.Author.Tests.{eq-eqb}
 use Rattle.ascii.specs.declared.Next.{Next}
@@ -17,9 +17,8 @@ use Rattle.ascii.specs.Numbers.{unsigned}
 use Rattle.ascii.specs.Clauses.Read.{ReadsUnsigned}
 use Rattle.ascii.specs.Clauses.Reader.{Left, Ends, rest}
 use Rattle.ascii.proofs.Bytes.{tail_drop}
-use Rattle.json_text.specs.Json as Json
-use Rattle.json_text.specs.Json.{Json, null, boolean, Items, no_items, item, Members, skip, items, array_end, bare, value, compact, compact_items, more_items}
-use Rattle.datainfo.specs.Datainfo.{Datainfo, array, tuple, Elements, no_elements, element}
+use Rattle.json_text.specs.Json.{Json, null, boolean, Items, no_items, item, skip, items, array_end, bare, value, compact, compact_items, more_items}
+use Rattle.datainfo.specs.Datainfo.{Datainfo, tuple, Elements, no_elements, element}
 use Rattle.datainfo.specs.Layout.{array_at, elements, tuple_at, datainfo_in}
 use Rattle.datainfo.specs.Rules.{is_between}
 use Rattle.emit.specs.Clauses.Emitted.{Emits, comma}
@@ -29,7 +28,7 @@ use Rattle.fit.specs.Fit.{Verdict, fits, wrongType, worse, in_range, expect, as_
 use Rattle.fit.specs.Clauses.Walk.{first, after_item}
 use Rattle.fit.proofs.Judged.{same_read, same_left}
 use Rattle.fit.proofs.Shapes.{nothing, just, either, steps, Row, empty, full, shape, Tells, yes, no, as_array_lem}
-use Rattle.fit.proofs.Items.{ItemsAt, items_first, items_next, items_none, items_some, items_turns, unspaced}
+use Rattle.fit.proofs.Items.{ItemsAt, items_first, items_next, items_none, items_turns, unspaced}
 use Rattle.form.specs.Clauses.Formed.{Forms, FormsItem, FormsItems, FormsElements}
 use Rattle.form.proofs.Verdicts.{worse_both}
 use Rattle.fit.proofs.Nested.{limits_part, array_some, elements_some, elements_none, tuple_some}

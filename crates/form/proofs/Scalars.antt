@@ -22,14 +22,13 @@ use Rattle.ascii.specs.Bytes.{is_some, head, tail, after}
 use Rattle.ascii.specs.Numbers.{integer}
 use Rattle.ascii.specs.Clauses.Reader.{ByteAt, Ends, rest}
 use Rattle.decimal.specs.Token as Token
-use Rattle.json_text.specs.Json as Json
-use Rattle.json_text.specs.Json.{Json, null, boolean, up_to, inside, string_end, giving, scalar, bare, quoted, compact}
+use Rattle.json_text.specs.Json.{Json, null, boolean, up_to, inside, string_end, scalar, bare, quoted, compact}
 use Rattle.json_text.proofs.ReadAgain.{Of, failed, gave, of_some, takes_keeps, number_takes, up_to_is, chars_quoted, inside_is}
 use Rattle.json_text.proofs.ReadBack.{of_giving}
 use Rattle.datainfo.specs.Datainfo.{Variant}
 use Rattle.datainfo.specs.Layout.{enum_at}
 use Rattle.emit.specs.Clauses.Emitted.{Emits}
-use Rattle.fit.specs.Fit.{Verdict, fits, rangeError, in_range, expect_or, expect, as_string, as_number, as_array, as_object, whole_fit, is_variant, member_number, fit, within, exchanged, numbered}
+use Rattle.fit.specs.Fit.{Verdict, fits, rangeError, in_range, expect_or, expect, as_number, as_array, as_object, whole_fit, is_variant, member_number, fit, within, exchanged, numbered}
 use Rattle.fit.specs.Clauses.Walk.{Quoted, NumberOf}
 use Rattle.fit.proofs.Figures.{enum_some}
 use Rattle.fit.proofs.Shapes as Shapes

@@ -5,11 +5,11 @@ use mathlib.Core.Bool.{Bool, true, false, cond}
 use mathlib.Core.List.{List, [], ◌∷◌}
 use mathlib.Core.Option.{Option, none, some}
 use mathlib.Core.Path.{◌≡◌, refl}
-use lib.Dec.{leb, ltb, eqb}
-use lib.IntN.{ℤ, pos, negsuc}
+use lib.Dec.{ltb, eqb}
+use lib.IntN.{pos, negsuc}
 use lib.ListN.{length}
 use borrow.Author.Tests.{ltb-true}
-use Rattle.ascii.specs.Bytes.{◌>>=◌, part}
+use Rattle.ascii.specs.Bytes.{part}
 use Rattle.ascii.specs.Numbers.{big_endian, twos_complement, unsigned, signed, integer}
 use Rattle.ascii.proofs.Decimal.{integer_low}
 use Rattle.json_text.proofs.ReadAgain.{Of, failed, gave, of_cond, of_bind, of_some}

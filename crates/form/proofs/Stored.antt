@@ -1,5 +1,5 @@
 -- What is stored is in stored form and fits: in table order, what is read back, and the texts. Assumes nothing.
-use Prim.Native.Nat.{ℕ, zero, suc, ◌+◌, ◌≤◌, ◌<◌}
+use Prim.Native.Nat.{ℕ, ◌+◌, ◌≤◌, ◌<◌}
 use native.Mathlib.Omega.{arith}
 use mathlib.Core.Bool.{Bool, true, false, cond, ◌&&◌, false≢true}
 use mathlib.Core.List.{List, [], ◌∷◌}
@@ -8,15 +8,13 @@ use mathlib.Core.Path.{◌≡◌, refl, sym, ap, ap₂, ◌∙◌}
 use lib.Dec.{leb}
 use lib.ListN.{length}
 use borrow.Author.Tests.{leb-true}
-use Rattle.ascii.specs.Bytes.{is_some, all, any, same, head, drop_while, is_in}
+use Rattle.ascii.specs.Bytes.{is_some, all, same, head, drop_while, is_in}
 use Rattle.ascii.specs.Names.{is_name}
 use Rattle.ascii.proofs.Lists.{both, same_self, same_is}
 use Rattle.decimal.specs.Token.{digits, minus, int, number}
-use Rattle.json_text.specs.Json as Json
 use Rattle.json_text.specs.Json.{Json, null, Members, no_members, member, spaced, bare, scalar, text, compact}
 use Rattle.json_text.specs.Readable.{Readable, ReadableMembers}
 use Rattle.json_text.proofs.ReadBack.{readable_trees}
-use Rattle.datainfo.specs.Datainfo as Datainfo
 use Rattle.datainfo.specs.Datainfo.{Datainfo, partial, struct, Fields, Parts, field_names}
 use Rattle.datainfo.specs.Rules.{good_names, names_good, fields_names_good}
 use Rattle.fit.specs.Fit as Fit
@@ -24,9 +22,9 @@ use Rattle.fit.specs.Fit.{Verdict, fits, wrongType, badJSON, worse, in_range, ex
 use Rattle.fit.specs.Fit.{within, on_members, map_members, numbered, numbered_at, as_partial, at_top, ordered, in_order}
 use Rattle.fit.specs.Fit.{keep_members, join_members, is_left_out, or_none, members_of, completed, completed_of, change_verdict, change_form}
 use Rattle.fit.specs.Fit.{value_verdict, verdict_of, verdict, form_of, stored_form, is_fit, is_stored}
-use Rattle.form.specs.Numbers.{if_any, numbers_only, fields_numbers_only}
+use Rattle.form.specs.Numbers.{if_any, numbers_only}
 use Rattle.form.specs.Theorems.{InTable, ReadableShown, StoredForms}
-use Rattle.form.proofs.Verdicts.{worse_both, both_worse, in_range, cond_fits, fit_is, is_fit_lem}
+use Rattle.form.proofs.Verdicts.{worse_both, both_worse, in_range_lem, cond_fits, fit_is, is_fit_lem}
 use Rattle.form.proofs.Trees.{on_on, on_same, members_readable, map_keys, map_again, map_members_lem}
 use Rattle.form.proofs.Short.{Short, read_short}
 use Rattle.form.proofs.Exchange.{FitsByNumbers, numbered_twice, at_twice, numbered_readable, at_readable, fits_numbered, good_distinct, at_null}
@@ -142,7 +140,7 @@ module _ (d : Datainfo) (v : Json) (e : value_verdict d v ≡ fits) where
   parts = worse_both (fit d v) (in_range (leb (length (compact (Fit.stored d v))) 256)) e
 
   form_short : length (compact (Fit.stored d v)) ≤ 256
-  form_short = leb-true (length (compact (Fit.stored d v))) 256 (in_range _ parts.1)
+  form_short = leb-true (length (compact (Fit.stored d v))) 256 (in_range_lem _ parts.1)
 
   module _ (i : InTable d) where
     form_numbered : FitsByNumbers d (Fit.stored d v)

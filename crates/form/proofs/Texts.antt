@@ -1,10 +1,10 @@
 -- Laws of the code that judges a text and writes its stored form. Assumes nothing.
-use Prim.Native.Nat.{ℕ, ◌+◌, ◌-◌, ◌≤◌, ◌<◌}
+use Prim.Native.Nat.{ℕ, ◌+◌, ◌≤◌}
 use native.Mathlib.Nat.{zero-add}
 use native.Mathlib.Omega.{arith}
 use mathlib.Core.Path.{◌≡◌, refl, sym, ap, ◌∙◌}
-use mathlib.Core.Bool.{Bool, true, false, cond, ◌&&◌}
-use mathlib.Core.List.{List, [], ◌∷◌, ◌++◌}
+use mathlib.Core.Bool.{Bool, true, false}
+use mathlib.Core.List.{List}
 use mathlib.Core.Option.{Option, none, some}
 use lib.ListN.{length, take, drop}
 use lib.Seq.{sets, sets-eq, take_at}
@@ -13,17 +13,16 @@ use borrow.Author.Tests.{le-leb, lt-leb, leb-true, leb-false}
 use Rattle.ascii.specs.Bytes.{is_some, same}
 use Rattle.ascii.specs.Clauses.Reader.{Left}
 use Rattle.ascii.specs.Clauses.Writer.{Puts}
-use Rattle.json_text.specs.Json.{Json, skip, bare, value, text}
+use Rattle.json_text.specs.Json.{Json, skip, bare, text}
 use Rattle.datainfo.specs.Datainfo.{Datainfo}
 use Rattle.datainfo.specs.Layout.{datainfo_in, ReadableAt}
-use Rattle.emit.specs.Clauses.Emitted.{capped, Emits}
+use Rattle.emit.specs.Clauses.Emitted.{capped}
 use Rattle.fit.specs.Fit as Fit
 use Rattle.fit.specs.Fit.{fits, rangeError, wrongType, badJSON, severity, worse, in_range, fit, form_of, stored_form, value_verdict, verdict_of, verdict, is_fit, is_stored}
 use Rattle.fit.specs.Clauses.Verdict.{meaning, Judges, JudgesText, TellsStored}
 use Rattle.fit.specs.declared.Verdict.{Verdict}
 use Rattle.fit.specs.declared.Verdict.TheVariants.{BadJson}
 use Rattle.fit.proofs.Judged.{worse_fits, same_read}
-use Rattle.fit.proofs.Shapes.{nothing, just}
 use Rattle.fit.proofs.Items.{unspaced}
 use Rattle.form.specs.Clauses.Formed.{FormsText, FormIsLong, FitsAt, PutsForm, TellsOwn}
 use Rattle.form.proofs.Verdicts.{fit_is}

@@ -1,15 +1,13 @@
 -- Laws of what is made of an array's items or of an object's members. Assumes nothing.
 use Prim.Native.Nat.{ℕ, zero, suc}
 use mathlib.Core.Bool.{Bool, true, false, cond}
-use mathlib.Core.List.{List, [], ◌∷◌}
-use mathlib.Core.Option.{Option, none, some}
-use mathlib.Core.Path.{◌≡◌, refl, sym, ap, ap₂, ◌∙◌}
+use mathlib.Core.List.{List, ◌∷◌}
+use mathlib.Core.Path.{◌≡◌, refl, sym, ap, ap₂}
 use Rattle.ascii.specs.Bytes.{same}
 use Rattle.ascii.proofs.Lists.{same_is}
-use Rattle.json_text.specs.Json as Json
 use Rattle.json_text.specs.Json.{Json, null, boolean, Items, no_items, item, Members, no_members, member}
-use Rattle.json_text.specs.Readable.{IsRaw, Readable, ReadableItems, ReadableMembers}
-use Rattle.fit.specs.Fit.{Verdict, fits, wrongType, expect, as_array, as_object, item_count, worst_item, keys, value_at, within, on_items, on_members, map_items, map_members}
+use Rattle.json_text.specs.Readable.{Readable, ReadableItems, ReadableMembers}
+use Rattle.fit.specs.Fit.{Verdict, fits, expect, as_array, as_object, item_count, keys, value_at, within, on_items, on_members, map_items, map_members}
 use Rattle.form.specs.Numbers.{if_any}
 
 -- ## Arrays

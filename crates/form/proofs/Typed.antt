@@ -1,27 +1,24 @@
 -- Laws of a datainfo by its type byte, one for each way through the function that writes a value by it. Assumes nothing.
-use Prim.Native.Nat.{ℕ, zero, suc, ◌-◌, ◌≤◌}
+use Prim.Native.Nat.{ℕ, zero, suc, ◌-◌}
 use native.Mathlib.Nat.{zero-add}
 use native.Mathlib.Numerals.{sub-one}
 use native.Mathlib.Omega.{arith}
 use mathlib.Core.Path.{◌≡◌, refl, sym, ap, ◌∙◌}
 use mathlib.Core.Bool.{Bool, true, false, cond}
-use mathlib.Core.List.{List, []}
+use mathlib.Core.List.{List}
 use mathlib.Core.Option.{Option, none, some}
 use lib.ListN.{length, drop}
 use lib.Dec.{eqb}
-use borrow.Author.Tests.{eqb-true, eq-eqb, ne_eqb}
 use Rattle.ascii.specs.declared.Unsigned as U
 use Rattle.ascii.specs.declared.Unsigned.{Unsigned}
 use Rattle.ascii.specs.Numbers.{unsigned, signed}
 use Rattle.ascii.specs.Clauses.Read.{ReadsUnsigned}
-use Rattle.json_text.specs.Json as Json
-use Rattle.json_text.specs.Json.{Json, null, boolean, skip, scalar, bare, value, text, compact}
+use Rattle.json_text.specs.Json.{Json, null, boolean, scalar, bare, value, text}
 use Rattle.datainfo.specs.Datainfo.{Datainfo, double, int, bool, string, scaled, blob}
 use Rattle.datainfo.specs.Layout.{limit, double_at, int_at, string_at, enum_at, array_at, tuple_at, scaled_at, blob_at, typed, datainfo_in}
 use Rattle.datainfo.specs.Clauses.Members.{members_at}
 use Rattle.datainfo.proofs.Structs.{struct_members, partial_members}
-use Rattle.emit.specs.Clauses.Emitted.{Emits}
-use Rattle.fit.specs.Fit.{Verdict, fits, expect, as_number, as_boolean, as_string, as_array, as_object, double_fit, whole_fit, between_integers, string_fit, blob_fit, fit, numbered, stored_form}
+use Rattle.fit.specs.Fit.{Verdict, fits, expect, as_boolean, as_string, as_array, as_object, double_fit, whole_fit, between_integers, string_fit, blob_fit, fit, numbered}
 use Rattle.fit.proofs.Shapes.{nothing, just, steps, either}
 use Rattle.form.specs.Clauses.Formed.{Copies, Forms, FormsStruct, FormsText, FormIsLong}
 use Rattle.form.proofs.Scalars.{Single, number_single, bare_scalar}

@@ -1,5 +1,5 @@
 -- Laws of what a change comes to: the bytes that are made of it are read as the value with what it leaves out filled in. Assumes nothing.
-use Prim.Native.Nat.{ℕ, zero, suc, ◌+◌, ◌-◌, ◌≤◌, ◌<◌}
+use Prim.Native.Nat.{ℕ, zero, suc, ◌+◌, ◌-◌, ◌≤◌}
 use native.Mathlib.Nat.{zero-add}
 use native.Mathlib.Omega.{arith}
 use mathlib.Core.Path.{◌≡◌, refl, sym, ap, ap₂, ◌∙◌}
@@ -7,8 +7,8 @@ use mathlib.Core.Bool.{Bool, true, false, cond, ◌&&◌, false≢true}
 use mathlib.Core.List.{List, [], ◌∷◌, ◌++◌}
 use mathlib.Core.Option.{Option, none, some}
 use lib.Dec.{eqb}
-use lib.ListN.{length, take, drop, length-append, length-drop}
-use borrow.Author.Tests.{eqb-true, eqb-false, eq-eqb, ne_eqb}
+use lib.ListN.{length, drop, length-append, length-drop}
+use borrow.Author.Tests.{eqb-true, eqb-false, ne_eqb}
 use Rattle.ascii.specs.declared.Unsigned as U
 use Rattle.ascii.specs.declared.Unsigned.{Unsigned}
 use Rattle.ascii.specs.Text.{bytes}
@@ -16,30 +16,28 @@ use Rattle.ascii.specs.Bytes.{◌>>=◌, is_some, head, tail, drop_while, is_spa
 use Rattle.decimal.specs.Token as Token
 use Rattle.ascii.specs.Numbers.{unsigned}
 use Rattle.ascii.specs.Clauses.Read.{ReadsUnsigned}
-use Rattle.ascii.specs.Clauses.Reader.{ByteAt, Left}
+use Rattle.ascii.specs.Clauses.Reader.{Left}
 use Rattle.ascii.proofs.Bytes.{tail_drop}
 use Rattle.ascii.proofs.Lists.{both}
 use Rattle.json_text.specs.Json as Json
 use Rattle.json_text.specs.Json.{Json, null, boolean, Members, no_members, member, skip, members, bare, value, spaced, object_end, text, quoted, compact, compact_members, more_members}
-use Rattle.json_text.specs.Readable.{Readable, ReadableMembers}
+use Rattle.json_text.specs.Readable.{ReadableMembers}
 use Rattle.json_text.proofs.ReadAgain.{stop_comma, stays}
 use Rattle.json_text.proofs.ReadBack.{readable_trees, key_again, value_again, members_end, members_text_lem}
 use Rattle.json_text.proofs.Enough.{members_enough}
-use Rattle.datainfo.specs.Datainfo.{Datainfo, partial, Fields, Parts, field_names}
-use Rattle.datainfo.specs.Layout.{typed, partial_at, datainfo_in}
+use Rattle.datainfo.specs.Datainfo.{Datainfo, partial, Parts, field_names}
+use Rattle.datainfo.specs.Layout.{typed, datainfo_in}
 use Rattle.datainfo.specs.Clauses.Members.{members_at}
 use Rattle.datainfo.proofs.Structs.{partial_members}
 use Rattle.emit.specs.Clauses.Emitted.{Emits, comma}
-use Rattle.fit.specs.Fit as Fit
-use Rattle.fit.specs.Fit.{Verdict, fits, expect, as_object, keys, each_once, fit, fields_fit, within, on_members, map_members, numbered_at, ordered, keep_members, join_members, is_left_out}
-use Rattle.fit.specs.Fit.{as_partial, at_top, or_none, members_of, completed, completed_of, is_fit, verdict, is_stored}
+use Rattle.fit.specs.Fit.{fits, expect, as_object, keys, each_once, fit, fields_fit, within, ordered, keep_members, join_members, is_left_out}
+use Rattle.fit.specs.Fit.{as_partial, at_top, or_none, members_of, completed, completed_of, is_stored}
 use Rattle.fit.proofs.Judged.{same_read}
-use Rattle.fit.proofs.Shapes.{nothing, just, steps, shape, tells_yes, tells_no, as_object_lem, group_object}
+use Rattle.fit.proofs.Shapes.{nothing, just, steps, shape, tells_yes, tells_no, as_object_lem}
 use Rattle.form.specs.Clauses.Merged.{is_none, merged_bytes, Merges, ShownBy, stored, ShownAt, Completes}
 use Rattle.form.specs.Clauses.Merged as Merged
 use Rattle.form.proofs.Verdicts.{cond_fits}
-use Rattle.form.proofs.Stored.{stored_part, fits_value, fits_text, stored_fits, own_value_lem, own_compact, kept_readable}
-use Rattle.form.proofs.Members.{members_fit}
+use Rattle.form.proofs.Stored.{stored_part, fits_value, stored_fits, own_value_lem, own_compact, kept_readable}
 use Rattle.form.proofs.Typed.{is_typed}
 use Rattle.form.proofs.Texts.{front}
 use Rattle.form.proofs.Listed.{exchanged, object_is, other_type}

@@ -1,5 +1,5 @@
 -- Values that have numbers and no names where their datainfo has an enum. Assumes nothing.
-use Rattle.std.specs.Prelude.{ℕ, Bool, true, ◌&&◌, List}
+use Rattle.std.specs.Prelude.{Bool, true, ◌&&◌}
 use Rattle.std.proofs.Math.Option.{Option, none, some}
 use Rattle.ascii.specs.Bytes.{is_some}
 use Rattle.json_text.specs.Json.{Json, Items, no_items, item, Members}

@@ -8,7 +8,6 @@ use Rattle.ascii.specs.Text.{bytes}
 use Rattle.ascii.specs.Bytes.{any, same}
 use Rattle.ascii.specs.Clauses.Writer.{Puts}
 use Rattle.ascii.specs.Numbers.{integer}
-use Rattle.json_text.specs.Json as Json
 use Rattle.json_text.specs.Json.{Json, Items, Members, key, value, text, quoted, compact, compact_items, compact_members}
 use Rattle.datainfo.specs.Datainfo.{Datainfo, enum, tuple, struct, Variant, Elements, Fields, Parts, field_names, field_of}
 use Rattle.datainfo.specs.Layout.{datainfo_in, ReadableAt}

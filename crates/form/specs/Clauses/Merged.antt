@@ -1,12 +1,12 @@
 -- What the code that fills in what a change leaves out (M-113) is given, and what it does. Assumes nothing.
-use Rattle.std.specs.Prelude.{ℕ, ◌+◌, ◌≤◌, ◌≡◌, Bool, true, false, cond, List, [], ◌++◌, eqb, length, take, drop}
-use Rattle.std.proofs.Math.Option.{Option, none, some}
+use Rattle.std.specs.Prelude.{ℕ, ◌≤◌, ◌≡◌, Bool, true, false, cond, List, [], ◌++◌, eqb, length, take}
+use Rattle.std.proofs.Math.Option.{Option, some}
 use Rattle.ascii.specs.Text.{bytes}
 use Rattle.ascii.specs.Bytes.{any, same, head}
 use Rattle.json_text.specs.Json as Json
 use Rattle.json_text.specs.Json.{Json, Members, skip, value, object_end, text, quoted, compact, compact_members}
 use Rattle.datainfo.specs.Datainfo.{Datainfo, Parts, field_names, field_of}
-use Rattle.datainfo.specs.Layout.{datainfo_in, ReadableAt}
+use Rattle.datainfo.specs.Layout.{ReadableAt}
 use Rattle.emit.specs.Clauses.Emitted.{Emits, comma}
 use Rattle.fit.specs.Fit.{fits, keys, each_once, value_at, fit, fields_fit, map_members, numbered, numbered_at, ordered}
 use Rattle.fit.specs.Fit.{keep_members, is_left_out, completed_of, is_stored}

@@ -1,0 +1,28 @@
+use borrow.Author.Rules.{rules}
+use native.Mathlib.Omega.{arith}
+use mathlib.Core.Path.{refl}
+use Rattle.ascii.proofs.Bytes.{ended_within}
+use Rattle.datainfo.proofs.Own.{unsigned_within}
+use Rattle.form.proofs.Listed.{table_short, table_first, table_over, table_bad, table_more}
+use Rattle.form.proofs.write.put_fields.Goals as goal
+
+pub unsigned-requires : goal.unsigned-requires
+unsigned-requires c = (omega arith, omega arith)
+
+pub returns-in_default : goal.returns-in_default
+returns-in_default c = search table_short
+
+pub loop-left-init : goal.loop-left-init
+loop-left-init c = (search unsigned_within, refl, omega arith, table_first _ _ _ _ _ c.unsigned.ensures _ _ c.in-Read.is _ _ (omega arith))
+
+pub returns-in_default-field_end : goal.returns-in_default-field_end
+returns-in_default-field_end c = search table_bad
+
+pub put_field-a-requires : goal.put_field-a-requires
+put_field-a-requires c = (omega arith, omega arith)
+
+pub loop-left-preserved : goal.loop-left-preserved
+loop-left-preserved c = (search ended_within, search rules, omega arith, search table_more)
+
+pub returns : goal.returns
+returns c = search table_over
