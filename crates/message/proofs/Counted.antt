@@ -2,17 +2,17 @@
 use Prim.Native.Nat.{ℕ, ◌+◌, ◌≤◌, ◌<◌, ◌^◌}
 use native.Mathlib.Omega.{arith}
 use mathlib.Core.Path.{◌≡◌}
-use mathlib.Core.List.{List, [], ◌∷◌, ◌++◌}
+use mathlib.Core.List.{List, [], ◌∷◌}
 use lib.ListN.{length, length-append}
 use Rattle.ascii.specs.Text.{bytes}
-use Rattle.ascii.specs.Numbers.{decimal, seconds}
+use Rattle.ascii.specs.Numbers.{decimal}
 use Rattle.ascii.specs.Clauses.Writer.{Puts}
 use Rattle.ascii.proofs.Puts.{puts_length, puts_both}
 use Rattle.ascii.proofs.Decimal.{decimal_short}
 use Rattle.counter.specs.declared.Counts.{Counts}
 use Rattle.message.specs.Reply.{data_report, counts_text}
 use Rattle.message.specs.Clauses.Said.{counted_text}
-use Rattle.message.proofs.Said.{two_1, two_2, data_length}
+use Rattle.message.proofs.Said.{two_1, two_2}
 
 -- ## A byte and a number
 

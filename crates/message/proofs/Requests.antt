@@ -15,13 +15,12 @@ use Rattle.ascii.specs.Names.{is_name}
 use Rattle.message.specs.Line.{Parts, before_space, after_space, parts_of, content, whole}
 use Rattle.message.specs.Request as R
 use Rattle.message.specs.Request.{module_part, accessible_part, scoped, named, or_null, request}
-use Rattle.message.specs.Clauses.Parsed.{part, Within, UpTo, before, from_stop, after, Cuts, Parted, action_of, meaning, AsksScoped, AsksNamed, Asks, the_parts as parts, switch_request, verb_request}
+use Rattle.message.specs.Clauses.Parsed.{part, Within, UpTo, before, from_stop, after, Cuts, Parted, action_of, meaning, AsksScoped, AsksNamed, Asks, parts, switch_request, verb_request}
 use Rattle.message.specs.declared.line.Part.{Part}
 use Rattle.message.specs.declared.line.Cut.{Cut}
 use Rattle.message.specs.declared.line.Switch.{Switch}
 use Rattle.message.specs.declared.line.Switch.TheVariants.{On, Off}
 use Rattle.message.specs.declared.line.Verb.{Verb}
-use Rattle.message.specs.declared.line.Verb.TheVariants as Verb
 use Rattle.message.specs.declared.line.Action.{Action}
 use Rattle.message.specs.declared.line.Action.TheVariants.{Identify, Describe, Ping, Scoped, Named, Count, Unknown}
 use Rattle.message.specs.declared.line.Request.{Request}

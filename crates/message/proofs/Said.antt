@@ -18,7 +18,6 @@ use Rattle.message.specs.Clauses.Said.{class_of, fault_as, denial_of, held_by, r
 use Rattle.message.specs.declared.say.Class.{Class}
 use Rattle.message.specs.declared.say.Fault.{Fault}
 use Rattle.message.specs.declared.say.Denial.{Denial}
-use Rattle.message.specs.declared.say.Denial.TheVariants as Denial
 use Rattle.message.specs.declared.say.Sensor.{Sensor}
 use Rattle.message.specs.declared.say.Sensor.TheVariants.{Works, Fails}
 

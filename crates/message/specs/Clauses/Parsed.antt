@@ -13,7 +13,6 @@ use Rattle.message.specs.declared.line.Parsed.TheVariants.{Line, Bad}
 use Rattle.message.specs.declared.line.Switch.{Switch}
 use Rattle.message.specs.declared.line.Switch.TheVariants.{On, Off}
 use Rattle.message.specs.declared.line.Verb.{Verb}
-use Rattle.message.specs.declared.line.Verb.TheVariants as Verb
 use Rattle.message.specs.declared.line.Action.{Action}
 use Rattle.message.specs.declared.line.Action.TheVariants.{Identify, Describe, Ping, Scoped, Named, Count, Unknown}
 use Rattle.message.specs.declared.line.Request.{Request}

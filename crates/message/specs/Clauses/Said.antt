@@ -11,7 +11,6 @@ use Rattle.message.specs.declared.say.Class.TheVariants.{BadJSON, WrongType, Ran
 use Rattle.message.specs.declared.say.Fault.{Fault}
 use Rattle.message.specs.declared.say.Fault.TheVariants.{HardwareError, CommunicationFailed, ReadFailed, OutOfRange}
 use Rattle.message.specs.declared.say.Denial.{Denial}
-use Rattle.message.specs.declared.say.Denial.TheVariants as Denial
 use Rattle.message.specs.declared.say.Sensor.{Sensor}
 use Rattle.message.specs.declared.say.Sensor.TheVariants.{Works, Fails}
 
