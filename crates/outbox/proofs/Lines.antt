@@ -1,13 +1,13 @@
 -- Replies and reports are read back from their lines. Assumes nothing.
 use Prim.Native.Nat.{ℕ}
-use mathlib.Core.Bool.{Bool, true, false, cond, not, ◌&&◌, ◌||◌}
+use mathlib.Core.Bool.{true, false, cond, not, ◌&&◌, ◌||◌}
 use mathlib.Core.List.{List, [], ◌∷◌, ◌++◌, append_assoc}
 use mathlib.Core.Option.{Option, none, some}
 use mathlib.Core.Path.{◌≡◌, refl, ◌∙◌, ap}
 use lib.Dec.{leb}
 use lib.ListN.{length, drop}
 use Rattle.ascii.specs.Text.{bytes}
-use Rattle.ascii.specs.Bytes.{all, same, head, after, is_some, is_in, is_digit, is_letter}
+use Rattle.ascii.specs.Bytes.{all, same, head, after, is_in, is_digit, is_letter}
 use Rattle.ascii.specs.Names.{is_name, is_name_byte}
 use Rattle.ascii.specs.Numbers.{decimal, seconds}
 use Rattle.ascii.proofs.Digits.{decimal_digits}

@@ -7,7 +7,7 @@ use lib.Dec.{ltb, eqb}
 use native.Mathlib.Omega.{arith}
 use borrow.Author.Tests.{ltb-false, ne_eqb}
 use Rattle.ascii.specs.Text.{bytes}
-use Rattle.ascii.specs.Bytes.{all, is_in, is_digit}
+use Rattle.ascii.specs.Bytes.{all, is_digit}
 use Rattle.ascii.specs.Numbers.{digit, digits_in, decimal, seconds}
 use Rattle.ascii.proofs.Digits.{digit_is_digit, decimal_digits}
 use Rattle.ascii.proofs.Lists.{all_one, all_append, is_other, Lacks, lacks}

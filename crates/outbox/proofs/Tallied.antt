@@ -1,5 +1,5 @@
 -- Laws of records that are counted where they stand. Assumes nothing.
-use Prim.Native.Nat.{ℕ, ◌+◌, ◌-◌, ◌*◌, ◌/◌, ◌%◌, ◌≤◌, ◌<◌}
+use Prim.Native.Nat.{ℕ, ◌+◌, ◌-◌, ◌/◌, ◌%◌, ◌≤◌, ◌<◌}
 use native.Mathlib.Nat.{div-add-mod', zero-add, add-zero, add_assoc}
 use native.Mathlib.Omega.{arith}
 use borrow.Author.Tests.{eq-eqb, ne_eqb}
@@ -8,7 +8,7 @@ use mathlib.Core.List.{List, [], ◌∷◌, ◌++◌, append_assoc}
 use mathlib.Core.Option.{none}
 use mathlib.Core.Path.{◌≡◌, refl, sym, ap, ap₂, ◌∙◌}
 use lib.Dec.{eqb}
-use lib.ListN.{length, take, drop, length-append, length-drop, length-take}
+use lib.ListN.{length, take, drop, length-append, length-drop}
 use lib.Seq.{sets-eq, take-append_seam, drop-append_seam, drop-drop}
 use Rattle.ascii.specs.Text.{bytes}
 use Rattle.ascii.specs.Bytes.{same, head, all, after, is_some}
@@ -17,7 +17,7 @@ use Rattle.ascii.specs.Clauses.Writer.{Puts}
 use Rattle.ascii.specs.Clauses.Reader.{ByteAt}
 use Rattle.ascii.proofs.Lists.{all_parts}
 use Rattle.counter.specs.declared.Counts.{Counts}
-use Rattle.message.specs.Reply.{Reply, counted, counts_text, reply_line, update_line, begins, is_error}
+use Rattle.message.specs.Reply.{counted, counts_text, reply_line, begins, is_error}
 use Rattle.message.specs.Clauses.Said.{counted_text}
 use Rattle.outbox.specs.Outbox.{Record, final, update, order_change, order_command, mark, client, body, encode, encode_all}
 use Rattle.outbox.specs.Sent.{error_to, update_to, errors_sent, updates_sent}

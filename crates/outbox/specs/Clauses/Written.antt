@@ -6,7 +6,6 @@ use Rattle.ascii.specs.Numbers.{two_bytes}
 use Rattle.message.specs.Reply.{DataReport, Reply, active, inactive, reply, changed, done, checked}
 use Rattle.outbox.specs.Outbox.{Record, body, encode}
 use Rattle.outbox.specs.declared.write.Told.{Told}
-use Rattle.outbox.specs.declared.write.Told.TheVariants as Told
 use Rattle.outbox.specs.declared.write.Switched.{Switched}
 use Rattle.outbox.specs.declared.write.Switched.TheVariants.{Active, Inactive}
 
