@@ -15,8 +15,8 @@ use Rattle.ascii.specs.Bytes.{same}
 use Rattle.ascii.specs.Numbers.{big_endian, big_endian_from}
 use Rattle.trace.specs.declared.Kind.{Kind}
 use Rattle.trace.specs.declared.Kind.TheVariants.{Opening, Closing, Piece, Reading, Unreadable}
-use Rattle.trace.specs.Trace.{kind_of, length_good, Entry, Judged, more, whole, size_in, judge_sized, judge_kind, judge}
-use Rattle.trace.specs.Reader.{Progress, capped, advance, take_bytes}
+use Rattle.trace.specs.Trace.{kind_of, length_good, Entry, more, whole, size_in, judge_sized, judge_kind, judge}
+use Rattle.trace.specs.Reader.{capped, advance, take_bytes}
 use Rattle.trace.specs.Theorems.{between, mark_of, written, RecordsAreRead}
 use Rattle.trace.proofs.Readings.{one_more_lem, front_part}
 
