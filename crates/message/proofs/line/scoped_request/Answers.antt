@@ -1,5 +1,4 @@
 -- `message::line::scoped_request` meets its contract. Assumes nothing.
-use borrow.Author.Tests.{not-true, not-false}
 use Rattle.message.proofs.Requests.{asks_all, bad_module, asks_module}
 use Rattle.message.proofs.line.scoped_request.Goals as goal
 
@@ -7,7 +6,7 @@ pub returns-then-from-specifier : goal.returns-then-from-specifier
 returns-then-from-specifier c = search asks_all
 
 pub returns-then-not-is_name_part : goal.returns-then-not-is_name_part
-returns-then-not-is_name_part c = search (bad_module, not-true)
+returns-then-not-is_name_part c = search bad_module
 
 pub returns : goal.returns
-returns c = search (asks_module, not-false)
+returns c = search asks_module
