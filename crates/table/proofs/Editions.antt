@@ -1,10 +1,10 @@
 -- Laws of a table's edition: how its text begins, and where it stands. Assumes nothing.
-use Prim.Native.Nat.{ℕ, suc, ◌≤◌, ◌<◌}
+use Prim.Native.Nat.{ℕ, ◌≤◌, ◌<◌}
 use native.Mathlib.Omega.{arith}
 use mathlib.Core.Path.{◌≡◌, refl, sym, ◌∙◌}
 use mathlib.Core.Bool.{Bool, true, false, cond, not, ◌&&◌}
 use mathlib.Core.List.{List, [], ◌∷◌}
-use mathlib.Core.Option.{Option, none, some}
+use mathlib.Core.Option.{none, some}
 use lib.ListN.{length, take}
 use lib.Seq.{length-take-le}
 use lib.Dec.{eqb}
@@ -14,7 +14,7 @@ use Rattle.ascii.specs.Bytes.{is_some, same, after}
 use Rattle.ascii.specs.Names.{is_text}
 use Rattle.table.specs.Layout.{begins, Readable, table_of}
 use Rattle.table.specs.Rules.{edition_good}
-use Rattle.table.specs.Clauses.At.{bytes_of, Inside, text_if, HeadRead, Given}
+use Rattle.table.specs.Clauses.At.{bytes_of, text_if, HeadRead, Given}
 use Rattle.table.specs.declared.layout.Part.{Part}
 use Rattle.table.specs.declared.layout.HeadAt.{HeadAt}
 use Rattle.table.specs.declared.layout.Head as Head

@@ -15,7 +15,7 @@ use Rattle.ascii.specs.Bytes.{◌>>=◌, is_some, after}
 use Rattle.ascii.specs.Clauses.Reader.{Ends, rest}
 use Rattle.ascii.proofs.Follows.{rest_map}
 use Rattle.table.specs.Table as Table
-use Rattle.table.specs.Layout.{begins, accessibles_at, marked_at, note_at, edition_at, module_at, modules_at, head_at, whole_table, read_table}
+use Rattle.table.specs.Layout.{begins, accessibles_at, marked_at, note_at, module_at, modules_at, head_at, whole_table, read_table}
 use Rattle.table.specs.declared.layout.Part.{Part}
 use Rattle.table.specs.declared.layout.Bytes as B
 use Rattle.table.specs.declared.layout.Texts as T
@@ -24,7 +24,7 @@ use Rattle.table.specs.declared.layout.ModuleAt.{ModuleAt}
 use Rattle.table.specs.declared.layout.Heading as H
 use Rattle.table.specs.declared.layout.HeadAt.{HeadAt}
 use Rattle.table.specs.declared.layout.Head as Head
-use Rattle.table.specs.Clauses.At.{bytes_of, Inside, Sized, texts_at, TextsAt, accessible_begins, accessible_at, accessibles_from, MarkedRead, MarkedIs, text_if, heading_at, module_of, ModuleIs, HeadingIs, modules_from, head_of, HeadIs, HeadRead}
+use Rattle.table.specs.Clauses.At.{Inside, Sized, texts_at, TextsAt, accessible_begins, accessible_at, accessibles_from, MarkedRead, MarkedIs, heading_at, module_of, ModuleIs, HeadingIs, modules_from, head_of, HeadIs, HeadRead}
 use Rattle.table.proofs.Records.{text_bad, text_is, text_inside}
 use Rattle.table.proofs.Accessibles.{goes_on, texts_then, rest_none, Got, got}
 use Rattle.table.proofs.Enough.{before, accessibles_stop, accessibles_more, accessible_less, modules_stop, modules_more, module_less}
