@@ -15,7 +15,6 @@ use Rattle.ascii.specs.Clauses.Reader.{rest}
 use Rattle.table.specs.Table as Table
 use Rattle.table.specs.Layout.{begins, accessibles_at, modules_at, Readable, table_of}
 use Rattle.table.specs.Search.{Placed, placed_from, parameters_of, commands_of, parameters, commands}
-use Rattle.table.specs.declared.layout.Part.{Part}
 use Rattle.table.specs.declared.layout.ParameterAt.{ParameterAt}
 use Rattle.table.specs.declared.layout.CommandAt.{CommandAt}
 use Rattle.table.specs.declared.layout.Accessible as A

@@ -28,8 +28,8 @@ same-length-2 c = search rules
 returns : tie.Need-returns
 returns c =
     let at = c.before.before.before.before.before.before.before.before.before.before.before.before.before.before.before.before.before in
-    let y = brief_sized at.args.state.clients at.well-formed.1.1.1.0.1.1.0 [] in
-    let z = settings_sized at.args.state.settings at.well-formed.1.1.1.0.1.1.1.0 in
+    let y = brief_sized at.args.state.clients at.well_formed.1.1.1.0.1.1.0 [] in
+    let z = settings_sized at.args.state.settings at.well_formed.1.1.1.0.1.1.1.0 in
     let came = c.before.before.before.before.before.before.before.before.before.before.outcome in
     line_answered at.args.table.now at.args.state at.args.values.now at.args.out.now at.args.client at.args.time at.requires.0
     at.args.line.now at.requires.1.1.0 _ _ _ at.requires.1.1.1.0 _ at.requires.1.1.1.1.0 y z at.requires.1.0 came.new.1.1.0 _ _ came.result _

@@ -26,7 +26,7 @@ put-updates-of-requires c κs = c.before.before.before.before.before.before.befo
 put-final-switched-name-requires : tie.Need-put-final-switched-name-requires
 put-final-switched-name-requires c κs =
     let start = c.before.before.before.before.before.before.before.before.before.before.before.before in
-    let z = brief_sized start.args.state.clients start.well-formed.1.1.1.0.1.1.0 [] in
+    let z = brief_sized start.args.state.clients start.well_formed.1.1.1.0.1.1.0 [] in
     active_room _ (unlined start.args.state) z _ _ _ start.requires.0 (λ j. eqb j _) (some _) start.requires.1.named _ _ c.before.before.before.put-updates-of.ensures
 
 same_length : tie.Need-same-length
@@ -35,7 +35,7 @@ same_length c = search rules
 returns : tie.Need-returns
 returns c =
     let start = c.before.before.before.before.before.before.before.before.before.before.before.before.before.before.before in
-    let z = brief_sized start.args.state.clients start.well-formed.1.1.1.0.1.1.0 [] in
+    let z = brief_sized start.args.state.clients start.well_formed.1.1.1.0.1.1.0 [] in
     λ t.
     activated_one _ (unlined start.args.state) z _ _ _ start.requires.0 t _ _ _ _ _ _ _ start.requires.1.low
     c.before.before.before.before.before.before.before.before.with-bit.ensures c.before.before.before.before.before.before.put-updates-of.ensures c.before.before.put-final-switched-name.ensures

@@ -29,7 +29,7 @@ put-updates-of-requires c κs = c.before.before.before.before.before.before.befo
 put-final-switched-requires : tie.Need-put-final-switched-requires
 put-final-switched-requires c κs =
     let start = c.before.before.before.before.before.before.before.before.before.before.before.before in
-    let z = brief_sized start.args.state.clients start.well-formed.1.1.1.0.1.1.0 [] in
+    let z = brief_sized start.args.state.clients start.well_formed.1.1.1.0.1.1.0 [] in
     active_room _ (unlined start.args.state) z _ _ _ start.requires (λ i. true) none tt _ _ c.before.before.before.put-updates-of.ensures
 
 same_length : tie.Need-same-length
@@ -38,7 +38,7 @@ same_length c = search rules
 returns : tie.Need-returns
 returns c =
     let start = c.before.before.before.before.before.before.before.before.before.before.before.before.before.before.before in
-    let z = brief_sized start.args.state.clients start.well-formed.1.1.1.0.1.1.0 [] in
+    let z = brief_sized start.args.state.clients start.well_formed.1.1.1.0.1.1.0 [] in
     λ t.
     activated_all _ (unlined start.args.state) z _ _ _ start.requires t _ _ _ _ _ _ c.before.before.before.before.before.before.before.before.before.module_count.ensures
     c.before.before.before.before.before.before.before.before.with-bits.ensures c.before.before.before.before.before.before.put-updates-of.ensures c.before.before.put-final-switched.ensures

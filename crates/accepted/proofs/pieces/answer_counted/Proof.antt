@@ -14,7 +14,7 @@ sent-counted-requires c κs =
     let held = c.before.before.before.before.before.before in
     let start = held.before.before.before.before.before.before.before.before.before in
     let lines = start.args.lines.now in
-    let z = brief_sized start.args.state.clients start.well-formed.1.1.1.0.1.1.0 lines in
+    let z = brief_sized start.args.state.clients start.well_formed.1.1.1.0.1.1.0 lines in
     replied_few _ (lined start.args.state lines) _ _ _ start.args.time start.requires.0 start.args.bytes.now z start.requires.1.0
     start.requires.1.1.1 _ held.answer-held.ensures
 
@@ -29,7 +29,7 @@ returns c =
     let held = c.before.before.before.before.before.before.before in
     let start = held.before.before.before.before.before.before.before.before.before in
     let lines = start.args.lines.now in
-    let z = brief_sized start.args.state.clients start.well-formed.1.1.1.0.1.1.0 lines in
+    let z = brief_sized start.args.state.clients start.well_formed.1.1.1.0.1.1.0 lines in
     replied_counted _ (lined start.args.state lines) _ _ _ start.args.time start.requires.0 start.args.bytes.now z start.requires.1.0
     start.requires.1.1.1 _ held.answer-held.ensures _ c.sent-counted.ensures
 

@@ -29,7 +29,7 @@ answer-line-requires : tie.Need-answer-line-requires
 answer-line-requires c κs =
     let start = c.before.before.before.before.before.before.before.before.before.before.before.before.before.before.before.before in
     let lines = start.args.lines.now in
-    let z = brief_sized start.args.state.clients start.well-formed.1.1.1.0.1.1.0 lines in (
+    let z = brief_sized start.args.state.clients start.well_formed.1.1.1.0.1.1.0 lines in (
       bare_ready _ (lined start.args.state lines) _ _ _ start.args.time start.requires.0 start.args.bytes.now z start.requires.1.1 _
           c.before.before.before.before.ended.ensures _ c.before.before.before.line_counted_lem.ensures,
       (start.requires.1.0, prefix_short _ _ c.before.before.before.before.before.before.before.before.whole-line.ensures.0),
@@ -47,7 +47,7 @@ returns c =
     let line = counted.before.before.before.before.before in
     let start = line.before.before.before.before.before.before.before.before in
     let lines = start.args.lines.now in
-    let z = brief_sized start.args.state.clients start.well-formed.1.1.1.0.1.1.0 lines in
+    let z = brief_sized start.args.state.clients start.well_formed.1.1.1.0.1.1.0 lines in
     held_replied _ (lined start.args.state lines) _ _ _ start.args.time start.requires.0 start.args.bytes.now z start.requires.1.1 _
     counted.before.ended.ensures _ counted.line_counted_lem.ensures _ line.whole-line.ensures.1 _ c.before.before.before.before.answer-line.ensures
 

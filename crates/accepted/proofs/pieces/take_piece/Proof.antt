@@ -22,7 +22,7 @@ returns c =
     let fed = c.before.before.before.before.before in
     let start = fed.before.before.before.before.before.before.before in
     let lines = start.args.lines.now in
-    let z = brief_sized start.args.state.clients start.well-formed.1.1.1.0.1.1.0 lines in
+    let z = brief_sized start.args.state.clients start.well_formed.1.1.1.0.1.1.0 lines in
     piece_joins _ (lined start.args.state lines) _ _ _ _ start.args.bytes.now start.requires.0 fed.feed-at.ensures z start.requires.1.1
     c.before.before.before.before.if1.true _ _ c.before.before.join.ensures
 

@@ -58,7 +58,7 @@ returns c =
     let named = c.before.before.before.before.before.before.before.before.before.before in
     let formed = named.before.before.before.before in
     let start = formed.before.before.before.before.before.before.before.before in
-    let z = settings_sized start.args.state.settings start.well-formed.1.1.1.0.1.1.1.0 in
+    let z = settings_sized start.args.state.settings start.well_formed.1.1.1.0.1.1.1.0 in
     is_taken _ start.args.state _ _ _ _ _ _ _ start.requires _ _ formed.put-form.ensures _ _ named.before.bytes_of.ensures named.bytes-of2.ensures
     z _ c.before.before.stored.ensures _ _ c.before.before.before.before.before.put-updates-to.ensures _ c.sent-counted.ensures
 

@@ -46,7 +46,7 @@ returns : tie.Need-returns
 returns c =
     let named = c.before.before.before.before.before.before.before.before.before.before in
     let start = named.before.before.before.before.before.before in
-    let z = settings_sized start.args.state.settings start.well-formed.1.1.0.1.1.1.0 in
+    let z = settings_sized start.args.state.settings start.well_formed.1.1.0.1.1.1.0 in
     λ lines. is_failed _ _ _ _ _ _ start.requires (lined start.args.state lines) start.args.fault _ _
     named.before.bytes_of.ensures named.bytes-of2.ensures z _ c.before.before.before.fault-number.ensures _ c.before.before.failed.ensures
     _ _ c.before.before.before.before.before.before.put-updates-to.ensures _ c.sent-counted.ensures

@@ -42,7 +42,7 @@ quiet-requires-4 c κs = search rules
 returns-4 : tie.Need-returns-4
 returns-4 c =
     let start = c.before.before.before.before.before.before.before.before.before.before.before.before.before in
-    let z = clients_sized start.args.state.clients start.well-formed.1.1.0.1.1.0 in
+    let z = clients_sized start.args.state.clients start.well_formed.1.1.0.1.1.0 in
     search (close_good, z)
 
 pub jihfasul-close-spec : {M : Type 1} → statement M

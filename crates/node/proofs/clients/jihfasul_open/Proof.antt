@@ -47,7 +47,7 @@ returns-4 c =
     let asked = c.before.before.before.before.before.before in
     let lent = asked.before.before.before.before in
     let start = lent.before.before.before.before in
-    let z = clients_sized start.args.state.clients start.well-formed.1.1.0.1.1.0 in
+    let z = clients_sized start.args.state.clients start.well_formed.1.1.0.1.1.0 in
     let low : start.args.client ≤ 7 = omega arith in
     open_good _ start.args.state _ _ _ start.args.time lent.lent-number.ensures c.before.before.before.before.before.before.before.before.before.if1.false low asked.is_open.ensures
     c.before.before.before.before.before.if3.false z c.before.before.opened.ensures c.before.cleared.ensures c.quiet4.ensures

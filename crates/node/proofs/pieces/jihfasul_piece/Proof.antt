@@ -12,12 +12,12 @@ bare-of-requires c κs = search rules
 slice-aggregate-bare-number : tie.Need-slice-aggregate-bare-number
 slice-aggregate-bare-number c =
     let start = c.before.before.before.before.before.before.before.before.before.before in
-    sym (lines_sized start.args.state.clients start.well-formed.1.1.1.0.1.1.0)
+    sym (lines_sized start.args.state.clients start.well_formed.1.1.1.0.1.1.0)
 
 bare-number-requires : tie.Need-bare-number-requires
 bare-number-requires c κs =
     let start = c.before.before.before.before.before.before.before.before.before.before in
-    lines_sized start.args.state.clients start.well-formed.1.1.1.0.1.1.0
+    lines_sized start.args.state.clients start.well_formed.1.1.1.0.1.1.0
 
 with-lines-requires : tie.Need-with-lines-requires
 with-lines-requires c κs = search rules
@@ -62,7 +62,7 @@ slice-aggregate-take-piece : tie.Need-slice-aggregate-take-piece
 slice-aggregate-take-piece c =
     let bare = c.before.before.before.before.before.before.before.before.before.before in
     let start = bare.before.before.before.before.before.before.before.before in
-    sym (lines_sized start.args.state.clients start.well-formed.1.1.1.0.1.1.0)
+    sym (lines_sized start.args.state.clients start.well_formed.1.1.1.0.1.1.0)
 
 cast-take-piece : tie.Need-overflow-cast-take-piece
 cast-take-piece c = search rules
@@ -75,7 +75,7 @@ take-piece-requires c κs =
     let lent = ok.before.bare-number.ensures in (
       piece_ready _ start.args.state _ _ _ _ start.args.time start.args.bytes.now bare.bare_of.ensures lent ok.if1.false (search rules)
           c.before.before.before.before.is_open.ensures (search rules),
-      (piece_timely _ _ _ _ _ _ lent ok.if1.false, lines_sized start.args.state.clients start.well-formed.1.1.1.0.1.1.0),
+      (piece_timely _ _ _ _ _ _ lent ok.if1.false, lines_sized start.args.state.clients start.well_formed.1.1.1.0.1.1.0),
     )
 
 done-by-requires : tie.Need-done-by-requires
@@ -93,7 +93,7 @@ returns-4 c =
     let ok = took.before.before.before.before.before.before.before in
     let bare = ok.before.before.before.before in
     let start = bare.before.before.before.before.before.before.before.before in
-    let z = clients_sized start.args.state.clients start.well-formed.1.1.1.0.1.1.0 in
+    let z = clients_sized start.args.state.clients start.well_formed.1.1.1.0.1.1.0 in
     let given = take-piece-requires took.before took.take-piece.lifetimes in
     let unshort = piece_unshort _ _ _ _ _ _ ok.before.bare-number.ensures ok.if1.false in
     piece_good _ start.args.state _ _ _ _ _ start.args.bytes.now bare.bare_of.ensures given.0 unshort given.1.0 z

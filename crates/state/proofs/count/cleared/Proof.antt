@@ -12,7 +12,7 @@ array-set-from-counts : tie.Need-array-set-from-counts
 array-set-from-counts c = search rules
 
 returns : tie.Need-returns
-returns c = let start = c.before.before.before in record { size = counts_sized start.args.s start.well-formed.0; is = refl }
+returns c = let start = c.before.before.before in record { size = counts_sized start.args.s start.well_formed.0; is = refl }
 
 pub cleared-spec : {M : Type 1} → statement M
 cleared-spec = tie.close (tie.spec mul-counts array-set-from-counts returns)

@@ -20,7 +20,7 @@ array-set-from-counts : tie.Need-array-set-from-counts
 array-set-from-counts c = search rules
 
 returns : tie.Need-returns
-returns c = let start = c.before.before.before.before.before in record { size = bare_sized start.args.s start.well-formed.0; is = rw c.counted.ensures }
+returns c = let start = c.before.before.before.before.before in record { size = bare_sized start.args.s start.well_formed.0; is = rw c.counted.ensures }
 
 pub line-counted-spec : {M : Type 1} → statement M
 line-counted-spec = tie.close (tie.spec mul-one array-copy-out-one counted-requires mul-counts array-set-from-counts returns)

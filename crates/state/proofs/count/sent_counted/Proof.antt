@@ -52,7 +52,7 @@ loop-again c = (omega arith, search sent_step)
 returns : tie.Need-returns invariant-loop decreases-loop
 returns c =
     let start = c.before.before.before.before.before.before in
-    record { size = bare_sized start.args.s start.well-formed.0; is = λ rs h. ap (bare_counts start.args.s) (sent_ends _ _ _ _ _ c.before.loop.invariant.1 c.before.loop.invariant.0 (omega arith) rs h) }
+    record { size = bare_sized start.args.s start.well_formed.0; is = λ rs h. ap (bare_counts start.args.s) (sent_ends _ _ _ _ _ c.before.loop.invariant.1 c.before.loop.invariant.0 (omega arith) rs h) }
 
 pub sent-counted-spec : {M : Type 1} → statement M
 sent-counted-spec =

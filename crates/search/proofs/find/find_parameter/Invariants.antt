@@ -1,0 +1,11 @@
+-- `search::find::find_parameter` meets its contract. Assumes nothing.
+use Prim.Native.Nat.{◌-◌}
+use lib.ListN.{length}
+use Rattle.search.proofs.Finds.{SoughtParameter}
+use Rattle.search.proofs.find.find_parameter.Given as goal
+
+abbrev pub invariant-loop-q : goal.invariant-loop-q
+invariant-loop-q l = SoughtParameter l.s l.module l.name l.k l.c
+
+abbrev pub decreases-loop-q : goal.decreases-loop-q
+decreases-loop-q l = length l.s - l.c.at
