@@ -1,0 +1,7 @@
+-- The promise of `parameters_are_accessibles`. Assumes nothing.
+use mathlib.Core.Path.{refl}
+use Rattle.index.proofs.Accepted as theorem
+use Rattle.index.proofs.parameters_are_accessibles.Goals as goal
+
+pub returns : goal.returns
+returns c = (refl, theorem.parameters_are_accessibles)
