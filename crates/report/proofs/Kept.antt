@@ -1,14 +1,14 @@
 -- Flags that are not told enforce nothing: values are judged and stored alike without them. Assumes nothing.
 use Prim.Native.Nat.{ℕ}
-use mathlib.Core.Bool.{Bool, true, false, cond, not, ◌&&◌}
-use mathlib.Core.List.{List, [], ◌∷◌}
+use mathlib.Core.Bool.{Bool, true, false, cond}
+use mathlib.Core.List.{List, ◌∷◌}
 use mathlib.Core.Option.{Option, none, some}
 use mathlib.Core.Path.{◌≡◌, refl, ap, ap₂, ◌∙◌, fun_ext}
 use lib.Dec.{leb}
 use lib.ListN.{length}
-use Rattle.ascii.specs.Bytes.{any, same}
-use Rattle.json_text.specs.Json.{Json, Items, no_items, item, Members, no_members, member, text, compact}
-use Rattle.datainfo.specs.Datainfo.{Datainfo, double, int, bool, enum, string, array, tuple, struct, scaled, blob, partial, Elements, no_elements, element, Fields, no_fields, field, Parts, field_names}
+use Rattle.ascii.specs.Bytes.{same}
+use Rattle.json_text.specs.Json.{Json, Items, no_items, item, Members, member, text, compact}
+use Rattle.datainfo.specs.Datainfo.{Datainfo, double, int, bool, enum, string, array, tuple, struct, scaled, blob, partial, Elements, no_elements, element, Fields, no_fields, field, field_names}
 use Rattle.datainfo.specs.Rules.{is_between}
 use Rattle.fit.specs.Fit as Fit
 use Rattle.fit.specs.Fit.{Verdict, wrongType, worse, in_range, expect, as_array, as_object, item_count, worst_item, keys, each_once, value_at, fit, elements_fit, fields_fit}

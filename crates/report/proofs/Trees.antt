@@ -8,7 +8,6 @@ use mathlib.Core.Path.{◌≡◌, refl, ap, ap₂}
 use lib.IntN.{ℤ}
 use Rattle.ascii.specs.Text.{bytes}
 use Rattle.ascii.specs.Bytes.{same}
-use Rattle.json_text.specs.Json as Json
 use Rattle.json_text.specs.Json.{Json, null, Items, no_items, item, Members, no_members, member}
 use Rattle.datainfo.specs.Datainfo.{Variant, Datainfo, double, int, bool, enum, string, array, tuple, struct, scaled, blob, partial, Elements, no_elements, element, Fields, no_fields, field}
 use Rattle.fit.specs.Fit.{as_number, as_boolean, as_string, as_array, as_object}
