@@ -22,7 +22,7 @@ use Rattle.fit.specs.Fit.{as_partial, at_top, ordered, in_order, stored, verdict
 use Rattle.table.specs.Table.{Parameter, Table}
 use Rattle.table.specs.Search.{Placed, parameters, find_parameter}
 use Rattle.table.proofs.Search.{parameter_there, parameter_named}
-use Rattle.plain.specs.Node.{Value, Setting, set_values}
+use Rattle.plain.specs.Node.{Value, Setting, put, setting_value, set_values}
 use Rattle.plain.specs.Answer.{busy, admitting, status_of}
 
 -- ## Which status it is
@@ -215,4 +215,4 @@ module _ (d : Datainfo) (h : names_good d ≡ true) where
 
 pub set_more : (f : ℕ → Value) (xs ys : List Setting) → set_values f (xs ++ ys) ≡ set_values (set_values f xs) ys
 set_more f [] ys = refl
-set_more f (x ∷ xs) ys = set_more _ xs ys
+set_more f (x ∷ xs) ys = set_more (put f x.parameter (setting_value x)) xs ys

@@ -3,7 +3,7 @@ use Prim.Native.Nat.{ℕ}
 use mathlib.Core.Bool.{Bool, true, false≢true}
 use mathlib.Core.List.{List, [], ◌∷◌}
 use mathlib.Core.Path.{◌≡◌, refl}
-use Rattle.message.specs.Line.{whole}
+use Rattle.message.specs.Line.{whole, with_byte}
 use Rattle.plain.specs.Node.{Client, closed, connected, is_open, line_of, is_active, receive, emptied, activated}
 
 -- whoever has a module active is open
@@ -18,13 +18,13 @@ pub receive_open : (x : Client) (bs : List ℕ) → is_open (receive x bs) ≡ i
 unfolding receive is_open
 receive_open x [] = refl
 receive_open closed (b ∷ bs) = refl
-receive_open (connected l a) (b ∷ bs) = receive_open (connected _ a) bs
+receive_open (connected l a) (b ∷ bs) = receive_open (connected (with_byte l b) a) bs
 
 pub receive_active : (x : Client) (bs : List ℕ) (i : ℕ) → is_active (receive x bs) i ≡ is_active x i
 unfolding receive is_active
 receive_active x [] i = refl
 receive_active closed (b ∷ bs) i = refl
-receive_active (connected l a) (b ∷ bs) i = receive_active (connected _ a) bs i
+receive_active (connected l a) (b ∷ bs) i = receive_active (connected (with_byte l b) a) bs i
 
 -- one byte, and then the others
 pub receive_more : (x : Client) (b : ℕ) (bs : List ℕ) → receive x (b ∷ bs) ≡ receive (receive x (b ∷ [])) bs
@@ -39,7 +39,7 @@ pub emptied_received : (x : Client) (bs : List ℕ) → emptied (receive x bs) �
 unfolding receive emptied
 emptied_received x [] = refl
 emptied_received closed (b ∷ bs) = refl
-emptied_received (connected l a) (b ∷ bs) = emptied_received (connected _ a) bs
+emptied_received (connected l a) (b ∷ bs) = emptied_received (connected (with_byte l b) a) bs
 
 pub emptied_open : (x : Client) → is_open (emptied x) ≡ is_open x
 unfolding emptied is_open

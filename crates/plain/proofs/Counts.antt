@@ -1,27 +1,27 @@
 -- Laws of what is counted (M-108). Assumes nothing.
-use Prim.Native.Nat.{ℕ, ◌+◌, ◌≤◌, min}
-use native.Mathlib.Nat.{add-zero, add_assoc}
+use Prim.Native.Nat.{ℕ, ◌+◌, ◌≤◌}
+use native.Mathlib.Nat.{add_assoc}
 use native.Mathlib.Omega.{arith}
 use borrow.Author.Tests.{ne_eqb, not-true}
-use mathlib.Core.Bool.{Bool, true, false, cond, not, ◌&&◌}
+use mathlib.Core.Bool.{Bool, true, false, cond, not}
 use mathlib.Core.List.{List, [], ◌∷◌, ◌++◌}
 use mathlib.Core.Option.{Option, none, some}
-use mathlib.Core.Path.{◌≡◌, refl, sym, ap, ap₂, ◌∙◌}
+use mathlib.Core.Path.{◌≡◌, refl, sym, ap, ◌∙◌}
 use lib.Dec.{eqb}
 use Rattle.ascii.specs.Bytes.{all}
 use Rattle.ascii.proofs.Lists.{all_parts}
 use Rattle.counter.specs.declared.Counts.{Counts}
-use Rattle.counter.specs.Counts.{highest, stopping, lines_counted, all_counted}
+use Rattle.counter.specs.Counts.{stopping, lines_counted, all_counted}
 use Rattle.message.specs.Line.{Parts}
 use Rattle.message.specs.Request.{Request, request}
-use Rattle.message.specs.Reply.{DataReport, Reply, is_error}
+use Rattle.message.specs.Reply.{DataReport, Reply}
 use Rattle.outbox.specs.Outbox.{Record, final, update, order_change, order_command}
 use Rattle.outbox.specs.Sent.{error_to, update_to, errors_sent, updates_sent}
 use Rattle.table.specs.Table.{Parameter, Table}
 use Rattle.table.specs.Search.{Placed, parameters}
-use Rattle.plain.specs.Node.{Client, Value, Node, is_active, report_of, client_numbers, updates_to, updates_of}
-use Rattle.plain.specs.Answer.{stored_at, Outcome, outcome, status_of, busy_updates, activates, deactivates, sets, conclude, answer_parts}
-use Rattle.plain.proofs.Outcomes.{node_after, before, reply_to, concluded, outcome_holds}
+use Rattle.plain.specs.Node.{Client, Value, Node, is_active, client_numbers, updates_to, updates_of}
+use Rattle.plain.specs.Answer.{stored_at, outcome, status_of, busy_updates, activates, deactivates, sets, answer_parts}
+use Rattle.plain.proofs.Outcomes.{before, reply_to, concluded, outcome_holds}
 
 -- ## Counting twice
 

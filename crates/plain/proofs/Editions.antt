@@ -13,7 +13,7 @@ use Rattle.message.specs.Line.{Parts}
 use Rattle.message.specs.Request.{Request, identify, describe, ping, activate, deactivate, read, change, execute, check, count, malformed, module_part, accessible_part, named, or_null, request}
 use Rattle.message.specs.Error.{class, ProtocolError}
 use Rattle.plain.specs.Node.{Node}
-use Rattle.plain.specs.Answer.{Outcome, denied, outcome, conclude, answer_parts, settings_of, parts_set}
+use Rattle.plain.specs.Answer.{denied, outcome, conclude, answer_parts, settings_of, parts_set}
 use Rattle.plain.specs.Editions.{first_request, first_outcome, AsInFirst}
 
 -- a line whose action is `check` asks for one, or for nothing

@@ -1,6 +1,5 @@
 -- Lines are answered as before, but for the text of a describing reply. Assumes nothing.
 use Prim.Native.Nat.{ℕ}
-use mathlib.Core.List.{List, [], ◌∷◌}
 use mathlib.Core.Path.{◌≡◌, refl, ap}
 use Rattle.table.specs.Table.{Table}
 use Rattle.message.specs.Line.{Parts}

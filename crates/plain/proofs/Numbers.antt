@@ -8,7 +8,7 @@ use mathlib.Core.Logic.{◌↔◌}
 use mathlib.Core.Path.{◌≡◌, refl}
 use lib.Dec.{ltb}
 use Rattle.table.specs.Layout.{table_of}
-use Rattle.report.specs.Judge.{fault, first_fault, table_number}
+use Rattle.report.specs.Judge.{first_fault, table_number}
 use Rattle.report.proofs.Faults.{no_fault, first_fault_none}
 use Rattle.plain.specs.Node.{Node}
 use Rattle.plain.specs.Calls.{Call, sends, is_small, is_short, lent_faults, own_faults, call_number}

@@ -1,6 +1,6 @@
 -- "Without the record both stay as in document 01." (M-107): of a table without an `ED` record, every line is answered as document 01 has it, which
 -- knows one identification and no `check`. Only a theorem speaks of that node. Assumes nothing.
-use Rattle.std.specs.Prelude.{ℕ, cond, List, [], ◌≡◌}
+use Rattle.std.specs.Prelude.{ℕ, cond, [], ◌≡◌}
 use Rattle.std.proofs.Math.Option.{none}
 use Rattle.ascii.specs.Text.{bytes}
 use Rattle.ascii.specs.Bytes.{same}
