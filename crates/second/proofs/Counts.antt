@@ -1,9 +1,8 @@
 -- Counts are true: item by item, and so of every history. Assumes nothing.
-use Prim.Native.Nat.{ℕ, zero, suc, ◌+◌, min}
+use Prim.Native.Nat.{ℕ, ◌+◌, min}
 use native.Mathlib.Nat.{zero-add, add-zero, add_assoc}
-use native.Mathlib.Omega.{arith}
 use mathlib.Core.Bool.{Bool, true, false, cond, ◌||◌}
-use mathlib.Core.List.{List, [], ◌∷◌, ◌++◌}
+use mathlib.Core.List.{List, [], ◌∷◌}
 use mathlib.Core.Option.{Option, none, some}
 use mathlib.Core.Path.{◌≡◌, refl, sym, ap, ◌∙◌}
 use lib.Dec.{eqb}
@@ -23,9 +22,9 @@ use Rattle.table.specs.Table.{Parameter, Table}
 use Rattle.table.specs.Layout.{table_of}
 use Rattle.table.specs.Search.{Placed, parameters}
 use Rattle.plain.specs.Node.{Node, put, begin, line_of, line_taken, counting}
-use Rattle.plain.specs.Answer.{Outcome, denied, carried, activates, deactivates, sets, outcome, conclude, answer_parts, answer}
-use Rattle.plain.specs.Calls.{Open, Lent, Call, Effect, call_number, driver_effect, reading_effect, unreadable_effect, effect, settle, step_if}
-use Rattle.plain.specs.History.{step, answers, finish, sent, feeds, opens, closes, reads, fails, Item, byte, mark, taken, after, run_node, run_sent, joined}
+use Rattle.plain.specs.Answer.{activates, deactivates, sets, outcome, answer_parts, answer}
+use Rattle.plain.specs.Calls.{Open, Lent, Call, call_number, driver_effect, reading_effect, unreadable_effect, effect, settle, step_if}
+use Rattle.plain.specs.History.{step, feeds, opens, closes, reads, fails, Item, byte, mark, taken, after, run_node, run_sent, joined}
 use Rattle.plain.proofs.Put.{put_at}
 use Rattle.plain.proofs.Counts.{counted_twice, line_counted_lem, errors_append, updates_append}
 use Rattle.plain.proofs.Outcomes.{node_after, concluded, outcome_holds}

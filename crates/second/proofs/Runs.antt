@@ -15,7 +15,7 @@ use Rattle.message.specs.Error.{Fault, fault_of}
 use Rattle.message.specs.Reply.{Held, valued, failed}
 use Rattle.outbox.specs.Outbox.{Record}
 use Rattle.counter.specs.Counts.{no_counts, lines_counted}
-use Rattle.plain.specs.Node.{Client, closed, connected, Node, put, with_client, with_value, fresh, is_open, line_of, receive, emptied, report_of, client_numbers, updates_to, holding, with_clients}
+use Rattle.plain.specs.Node.{Client, closed, connected, Node, put, with_client, with_value, fresh, is_open, line_of, receive, emptied, report_of, client_numbers, holding, with_clients}
 use Rattle.plain.specs.Node.{with_count, opened, line_taken, counting}
 use Rattle.plain.specs.Answer.{answer_parts, answer}
 use Rattle.plain.specs.Calls.{Effect, driver_effect, reading_effect, unreadable_effect}
@@ -165,17 +165,17 @@ module _ (w : Table) where
   mark_lines n s (reads p bs t) x = refl
   mark_lines n s (fails p k t) x = refl
 
-  run_by : (x : List Item) (n : Node) (s : ℕ → Line) → run (weave n s) x ≡ run_by n (lines s x) (marks x)
+  run_by_lem : (x : List Item) (n : Node) (s : ℕ → Line) → run (weave n s) x ≡ run_by n (lines s x) (marks x)
   unfolding marks own run_node run_sent joined after
-  run_by [] n s = refl
-  run_by (byte c b ∷ x) n s =
+  run_by_lem [] n s = refl
+  run_by_lem (byte c b ∷ x) n s =
       ap (λ m. run m x) (after_byte n s c b)
-      ∙ run_by x n (put s c (with_byte (s c) b))
+      ∙ run_by_lem x n (put s c (with_byte (s c) b))
       ∙ ap (λ f. run_by n f (marks x)) (lines_byte s c b x)
-  run_by (mark m ∷ x) n s =
+  run_by_lem (mark m ∷ x) n s =
       ap (λ a. ((run a.0 x).0, a.1 ++ (run a.0 x).1)) (after_mark_lem n s m)
       ∙ ap (λ r. (r.0, (after_mark n s m).1 ++ r.1))
-      (run_by x (after_mark n s m).0 (reset s m) ∙ ap (λ f. run_by (after_mark n s m).0 f (marks x)) (lines_mark s m x))
+      (run_by_lem x (after_mark n s m).0 (reset s m) ∙ ap (λ f. run_by (after_mark n s m).0 f (marks x)) (lines_mark s m x))
       ∙ ap (λ a. ((run_by a.0 (pop (lines s (mark m ∷ x)) m) (marks x)).0, a.1 ++ (run_by a.0 (pop (lines s (mark m ∷ x)) m) (marks x)).1))
       (mark_lines n s m x)
 
@@ -192,7 +192,7 @@ module _ (w : Table) where
       by : (z : List Item) → run n z ≡ run_by n (lines (λ d. line_of (n.clients d)) z) (marks z)
       by z =
           ap (λ m. run m z) (λ i. with_clients n (fun_ext (λ d. same (n.clients d)) i))
-          ∙ run_by z n (λ d. line_of (n.clients d))
+          ∙ run_by_lem z n (λ d. line_of (n.clients d))
 
   -- Who is open after these items.
   put_open : (n : Node) (c : ℕ) (x : Client) (i : Item) → is_open x ≡ standing (is_open (n.clients c)) (i ∷ [])

@@ -1,6 +1,6 @@
 -- A second history's calls are accepted, the same bytes are sent and the node ends the same. Assumes nothing.
 use Prim.Native.Nat.{ℕ}
-use mathlib.Core.Bool.{true, not, ◌&&◌, So, false≢true}
+use mathlib.Core.Bool.{not, ◌&&◌, So, false≢true}
 use mathlib.Core.List.{List, [], ◌∷◌, ◌++◌}
 use mathlib.Core.Path.{◌≡◌, refl, sym, ◌∙◌, ap, ap₂, subst}
 use lib.Dec.{ltb}
