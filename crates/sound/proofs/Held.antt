@@ -1,5 +1,5 @@
 -- Small changes of a sound node leave it sound. Assumes nothing.
-use Prim.Native.Nat.{ℕ, ◌+◌, ◌≤◌, ◌<◌, min}
+use Prim.Native.Nat.{ℕ, ◌≤◌, ◌<◌}
 use mathlib.Core.Bool.{Bool, false, not, ◌&&◌, ◌||◌}
 use mathlib.Core.List.{List}
 use mathlib.Core.Option.{some}
@@ -11,7 +11,7 @@ use borrow.Author.Tests.{le-ltb}
 use Rattle.ascii.specs.Bytes.{all}
 use Rattle.ascii.specs.Numbers.{latest}
 use Rattle.counter.specs.declared.Counts.{Counts}
-use Rattle.counter.specs.Counts.{highest, stopping, lines_counted, all_counted}
+use Rattle.counter.specs.Counts.{highest, stopping, lines_counted}
 use Rattle.outbox.specs.Outbox.{Record}
 use Rattle.table.specs.Table.{Parameter, Table}
 use Rattle.table.specs.Search.{Placed, parameters}

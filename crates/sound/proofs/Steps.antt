@@ -30,7 +30,7 @@ use Rattle.table.specs.Search.{Placed, parameters, commands}
 use Rattle.report.specs.Report.{report}
 use Rattle.report.specs.Judge.{first_fault}
 use Rattle.report.proofs.Faults.{no_fault, first_fault_none}
-use Rattle.plain.specs.Node.{closed, Value, Node, with_client, with_value, Setting, Client, fresh, opened, is_active, below, active_count, line_of, receive, emptied, line_taken, counting, report_of, client_numbers, updates_to, holding, showing, with_values, with_settings}
+use Rattle.plain.specs.Node.{closed, Value, Node, with_client, with_value, Setting, Client, fresh, opened, is_active, below, active_count, line_of, receive, emptied, line_taken, report_of, client_numbers, updates_to, holding, showing, with_values, with_settings}
 use Rattle.plain.specs.Answer.{shown_value, judged_at, stored_at, busy, status_of, busy_settings, busy_updates}
 use Rattle.plain.specs.Answer.{Outcome, denied, carried, argument_verdict, argument_form, activates, deactivates, sets, outcome, conclude, answer_parts, answer}
 use Rattle.plain.specs.Calls.{Event, Open, Close, Piece, Reading, Unreadable, Call, reading_verdict, own_faults, call_number, before_feed, has_feed, ended, Effect, piece_effect, driver_effect, reading_effect, unreadable_effect, effect, settle, settling, step_if}

@@ -10,7 +10,7 @@ use lib.Dec.{leb, eqb}
 use borrow.Author.Tests.{leb-true}
 use lib.ListN.{length, length-take, length-drop}
 use Rattle.ascii.specs.Text.{bytes}
-use Rattle.ascii.specs.Bytes.{◌>>=◌, all, after, part}
+use Rattle.ascii.specs.Bytes.{all, after, part}
 use Rattle.ascii.specs.Names.{is_text}
 use Rattle.ascii.specs.Numbers.{unsigned}
 use Rattle.ascii.proofs.Lists.{both}
