@@ -8,7 +8,6 @@ use lib.Dec.{eqb}
 use borrow.Author.Tests.{eqb-true}
 use Rattle.ascii.specs.Bytes.{all, any, count, same}
 use Rattle.ascii.proofs.Lists.{both, same_self, same_is}
-use Rattle.json_text.specs.Json as Json
 use Rattle.json_text.specs.Json.{Json, null, boolean, Items, no_items, item, Members, no_members, member}
 use Rattle.json_text.specs.Readable.{Readable, ReadableItems, ReadableMembers}
 use Rattle.datainfo.specs.Datainfo.{Datainfo, double, int, bool, enum, string, array, tuple, struct, scaled, blob, partial, Elements, no_elements, element}
