@@ -5,7 +5,6 @@ use mathlib.Core.Bool.{true, false}
 use mathlib.Core.List.{List}
 use lib.Dec.{eqb}
 use lib.ListN.{length, get_or}
-use borrow.Author.Rules.{length_unmapped}
 use denote.Shadow.{shadow}
 use mir.Val.{Val}
 use Rattle.ascii.specs.Bytes.{any}
@@ -51,25 +50,25 @@ pub clients_sized : (s : Clients) {v : List Val} → shadow (the_field.row.own_v
 clients_sized s g =
     let fs = g.1.1 in
     record {
-      is_open = length_unmapped ℕ s.open 8 fs.0.1.0.1;
-      is_overlong = length_unmapped ℕ s.overlong 8 fs.1.0.1.0.1;
-      mask = length_unmapped ℕ s.active 8 fs.1.1.0.1.0.1;
-      size = length_unmapped ℕ s.length 8 fs.1.1.1.0.1.0.1;
+      is_open = fs.0.1.0.1;
+      is_overlong = fs.1.0.1.0.1;
+      mask = fs.1.1.0.1.0.1;
+      size = fs.1.1.1.0.1.0.1;
     }
 
 -- the lines
 pub lines_sized : (s : Clients) {v : List Val} → shadow (the_field.row.own_val (the_type.to s) v) → length s.lines ≡ 8192
-lines_sized s g = length_unmapped ℕ s.lines 8192 g.1.1.1.1.1.1.0.1.0.1
+lines_sized s g = g.1.1.1.1.1.1.0.1.0.1
 
 -- of clients without their lines, whatever lines they are given
 pub brief_sized : (s : Brief) {v : List Val} → shadow ((Briefs.the_field).row.own_val ((Briefs.the_type).to s) v) → (lines : List ℕ) → Sized (with_lines s lines)
 brief_sized s g lines =
     let fs = g.1.1 in
     record {
-      is_open = length_unmapped ℕ s.open 8 fs.0.1.0.1;
-      is_overlong = length_unmapped ℕ s.overlong 8 fs.1.0.1.0.1;
-      mask = length_unmapped ℕ s.active 8 fs.1.1.0.1.0.1;
-      size = length_unmapped ℕ s.length 8 fs.1.1.1.0.1.0.1;
+      is_open = fs.0.1.0.1;
+      is_overlong = fs.1.0.1.0.1;
+      mask = fs.1.1.0.1.0.1;
+      size = fs.1.1.1.0.1.0.1;
     }
 
 -- no line reaches into the next client's place

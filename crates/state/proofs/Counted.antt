@@ -1,33 +1,32 @@
 -- What is counted, and the plain node that a state stands for (M-108). Assumes nothing.
-use Prim.Native.Nat.{ℕ, zero, suc, ◌+◌, ◌^◌, ◌≤◌, ◌<◌, min}
+use Prim.Native.Nat.{ℕ, zero, suc, ◌+◌, ◌^◌, ◌≤◌, ◌<◌}
 use native.Mathlib.Nat.{add-zero, zero-add}
 use native.Mathlib.Omega.{arith}
-use borrow.Author.Tests.{eqb-true, eqb-false, ltb-true, ltb-false, lt-ltb, le-ltb, eq-eqb, ne_eqb}
+use borrow.Author.Tests.{eqb-true, eqb-false, ltb-true, ltb-false, lt-ltb, le-ltb}
 use mathlib.Core.Bool.{Bool, true, false, cond}
 use mathlib.Core.List.{List}
-use mathlib.Core.Path.{◌≡◌, refl, sym, ap, ap₂, subst, ◌∙◌, fun_ext}
+use mathlib.Core.Path.{◌≡◌, refl, sym, ap, ap₂, ◌∙◌, fun_ext}
 use denote.Shadow.{shadow}
 use mir.Val.{Val}
 use lib.Dec.{eqb, ltb}
-use lib.ListN.{length, length-map, get_or, set, length-set, get_or-eq_default}
+use lib.ListN.{length, get_or, set, length-set}
 use lib.Seq.{get_or-set_same, get_or-set_other}
 use Rattle.counter.specs.declared.Counts.{Counts}
-use Rattle.counter.specs.Counts.{highest, no_counts, stopping, lines_counted, all_counted}
+use Rattle.counter.specs.Counts.{no_counts, stopping, lines_counted, all_counted}
 use Rattle.outbox.specs.Outbox.{Record}
 use Rattle.outbox.specs.Sent.{errors_sent, updates_sent}
 use Rattle.outbox.specs.Clauses.Tallied.{Holds}
-use Rattle.plain.specs.Node.{Node, put, with_count, with_counts, counting}
+use Rattle.plain.specs.Node.{put, with_count, with_counts, counting}
 use Rattle.plain.proofs.Counts.{counted_twice, line_counted_lem, NoneTo}
 use Rattle.state.specs.declared.Bare.{Bare}
 use Rattle.state.specs.declared.State.{State}
 use Rattle.state.specs.contracts.State.{the_type, the_field}
-use Rattle.state.specs.Clauses.Bare as Bared
+use Rattle.state.specs.contracts.Bare as Bared
 use Rattle.state.specs.View.{counts_at, view, next_counts}
 use Rattle.state.specs.Fit.{is_unfit}
 use Rattle.table.specs.Table.{Table}
-use Rattle.state.specs.declared.Settings.{Settings}
 use Rattle.state.specs.Clauses.Bare.{lined}
-use Rattle.state.specs.Clauses.Counted.{counts_cleared, line_counted, with_sent, sent_counted, LineCounted, SentCounted}
+use Rattle.state.specs.Clauses.Counted.{counts_cleared, line_counted, with_sent, sent_counted, SentCounted}
 
 sent_length : (xs : List Counts) (rs : List Record) (k : ℕ) → length (sent_counted xs rs k) ≡ length xs
 unfolding sent_counted
@@ -122,11 +121,11 @@ module _ (table : List ℕ) (s : State) (values : List ℕ) (size : length s.cou
 
 -- how many elements the array has, as the fields of a struct are handed to a proof
 pub counts_sized : (s : State) {v : List Val} → shadow (the_field.row.own_val (the_type.to s) v) → length s.counts ≡ 8
-counts_sized s g = sym (length-map s.counts _) ∙ g.1.1.1.1.0.1.0.1
+counts_sized s g = g.1.1.1.1.0.1.0.1
 
 -- the same of a state without its lines
 pub bare_sized : (s : Bare) {v : List Val} → shadow ((Bared.the_field).row.own_val ((Bared.the_type).to s) v) → length s.counts ≡ 8
-bare_sized s g = sym (length-map s.counts _) ∙ g.1.1.1.1.0.1.0.1
+bare_sized s g = g.1.1.1.1.0.1.0.1
 
 stays : (k : ℕ) → k < 2 ^ 32 → k ≡ stopping k 0
 stays k h = omega arith

@@ -6,7 +6,7 @@ use mathlib.Core.Bool.{Bool, true, false, cond}
 use mathlib.Core.List.{List, ◌++◌}
 use lib.Dec.{eqb, ltb}
 use lib.ListN.{length, get_or, set, drop, length-drop}
-use lib.Seq.{sets, length-take-le}
+use lib.Seq.{length-take-le}
 use borrow.Author.Tests.{ltb-true, ltb-false, lt-ltb, le-ltb}
 use Rattle.ascii.specs.Bytes.{any}
 use Rattle.ascii.specs.Clauses.Writer.{Puts}
@@ -19,7 +19,7 @@ use Rattle.state.proofs.Becomes.{Becomes, Joinable, Sized, LinesFit}
 use Rattle.state.proofs.Areas.{other_line, written}
 use Rattle.state.proofs.Received.{receive_closed, receive_overlong, receive_whole, receive_over, any_append}
 use Rattle.state.proofs.Cells.{yes, changed, unchanged, Change, becomes, without_line, without_line_lem}
-use Rattle.state.proofs.Judged.{is_set, not_set}
+use Rattle.state.proofs.Judged.{is_set_lem, not_set}
 
 -- A closed client stays so, and an open one's line becomes another.
 receive_by : (l k : Line) (a : ℕ → Bool) (bs : List ℕ) → receive (connected l a) bs ≡ connected k a → (t : Bool) → cond t (connected k a) closed ≡ receive (cond t (connected l a) closed) bs
@@ -117,7 +117,7 @@ module _ (s : Clients) (z : Sized s) (room : length s.lines ≡ 8192) (c : ℕ) 
 module _ (s : Clients) (c : ℕ) (bs : List ℕ) where
   pub joined_stays : (get_or s.overlong c 0 ≡ 0 → ⊥) → s ≡ with_joined s c bs
   unfolding with_joined
-  joined_stays h = rw (is_set s.overlong c h)
+  joined_stays h = rw (is_set_lem s.overlong c h)
 
   module _ (w : get_or s.overlong c 0 ≡ 0) (n : get_or s.length c 0 ≤ 1024) where
     pub joined_over : 1024 - get_or s.length c 0 < length bs → without_line s c 1 ≡ with_joined s c bs

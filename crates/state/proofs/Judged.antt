@@ -49,9 +49,9 @@ yes_is : (l : List ℕ) (c : ℕ) → not (eqb (get_or l c 0) 0) ≡ is_set l c
 unfolding is_set
 yes_is l c = refl
 
-pub is_set : (l : List ℕ) (c : ℕ) → (get_or l c 0 ≡ 0 → ⊥) → is_set l c ≡ true
+pub is_set_lem : (l : List ℕ) (c : ℕ) → (get_or l c 0 ≡ 0 → ⊥) → is_set l c ≡ true
 unfolding is_set
-is_set l c h = rw (ne_eqb (get_or l c 0) 0 h)
+is_set_lem l c h = rw (ne_eqb (get_or l c 0) 0 h)
 
 pub not_set : (l : List ℕ) (c : ℕ) → get_or l c 0 ≡ 0 → is_set l c ≡ false
 unfolding is_set
@@ -62,18 +62,18 @@ module _ (s : Brief) (c : ℕ) where
   nothing_dropped h = rw (not_set s.overlong c h)
 
   pub keeps_dropped : (get_or s.overlong c 0 ≡ 0 → ⊥) → not (eqb (get_or s.length c 0) 0) ≡ is_set s.overlong c && is_set s.length c
-  keeps_dropped h = rw (is_set s.overlong c h) (yes_is s.length c)
+  keeps_dropped h = rw (is_set_lem s.overlong c h) (yes_is s.length c)
 
   pub open_keeps : (get_or s.open c 0 ≡ 0 → ⊥) → false ≡ not (is_set s.open c) && (is_set s.length c || is_set s.overlong c || is_set s.active c)
-  open_keeps h = rw (is_set s.open c h)
+  open_keeps h = rw (is_set_lem s.open c h)
 
   module _ (o : get_or s.open c 0 ≡ 0) where
     pub keeps_bytes : (get_or s.length c 0 ≡ 0 → ⊥) → true ≡ not (is_set s.open c) && (is_set s.length c || is_set s.overlong c || is_set s.active c)
-    keeps_bytes h = rw (not_set s.open c o, is_set s.length c h)
+    keeps_bytes h = rw (not_set s.open c o, is_set_lem s.length c h)
 
     module _ (n : get_or s.length c 0 ≡ 0) where
       pub keeps_overlong : (get_or s.overlong c 0 ≡ 0 → ⊥) → true ≡ not (is_set s.open c) && (is_set s.length c || is_set s.overlong c || is_set s.active c)
-      keeps_overlong h = rw (not_set s.open c o, not_set s.length c n, is_set s.overlong c h)
+      keeps_overlong h = rw (not_set s.open c o, not_set s.length c n, is_set_lem s.overlong c h)
 
       pub keeps_active : get_or s.overlong c 0 ≡ 0 → not (eqb (get_or s.active c 0) 0) ≡ not (is_set s.open c) && (is_set s.length c || is_set s.overlong c || is_set s.active c)
       keeps_active h = rw (not_set s.open c o, not_set s.length c n, not_set s.overlong c h) (yes_is s.active c)
@@ -89,7 +89,7 @@ module _ (s : Clients) (c i : ℕ) where
 
   pub open_active : (get_or s.open c 0 ≡ 0 → ⊥) → (r : Bool) → r ≡ bit (get_or s.active c 0) i → r ≡ is_active (client_at s c) i
   unfolding client_at is_active
-  open_active h r e = rw (is_set s.open c h) e
+  open_active h r e = rw (is_set_lem s.open c h) e
 
 -- of client c, the faults in turn: the flags that the code has
 module _ (m : ℕ) (s : Clients) (c : ℕ) where

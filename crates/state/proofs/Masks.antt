@@ -41,18 +41,18 @@ xor_digits x h y k =
 pub small : (n : ℕ) → n % 2 < 2
 small n = mod-lt n (omega arith)
 
-bit_or : (a b j : ℕ) → bit (bit_or a b) j ≡ bit a j || bit b j
+bit_or_lem : (a b j : ℕ) → bit (bit_or a b) j ≡ bit a j || bit b j
 unfolding bit
-bit_or a b j =
+bit_or_lem a b j =
     let x = a / 2 ^ j in
     let y = b / 2 ^ j in
     ap (λ (n : ℕ). eqb (n % 2) 1) (or_shr a b j ∙ or_step x y)
     ∙ ap (λ (n : ℕ). eqb n 1) (mul-add-mod_self_right (bit_or (x / 2) (y / 2)) 2 (max (x % 2) (y % 2)))
     ∙ or_digits (x % 2) (small x) (y % 2) (small y)
 
-bit_xor : (a b j : ℕ) → bit (bit_xor a b) j ≡ xor (bit a j) (bit b j)
+bit_xor_lem : (a b j : ℕ) → bit (bit_xor a b) j ≡ xor (bit a j) (bit b j)
 unfolding bit
-bit_xor a b j =
+bit_xor_lem a b j =
     let x = a / 2 ^ j in
     let y = b / 2 ^ j in
     ap (λ (n : ℕ). eqb (n % 2) 1) (xor_shr a b j ∙ xor_step x y)
@@ -81,14 +81,14 @@ bit_shifted i h j = ap (λ (n : ℕ). bit n j) (ap (λ (n : ℕ). n % 65536) (on
 
 -- bit i set, or taken away where it is set
 pub set_bit : (mask i : ℕ) → i < 16 → (j : ℕ) → bit (bit_or mask (power i)) j ≡ bit mask j || eqb j i
-set_bit mask i h j = bit_or mask (power i) j ∙ ap (λ (t : Bool). bit mask j || t) (bit_shifted i h j)
+set_bit mask i h j = bit_or_lem mask (power i) j ∙ ap (λ (t : Bool). bit mask j || t) (bit_shifted i h j)
 
 at_place : (mask i j : ℕ) {v : Bool} → bit mask i ≡ v → eqb j i ≡ true → bit mask j ≡ v
 at_place mask i j h e = ap (bit mask) (eqb-true j i e) ∙ h
 
 pub clear_bit : (mask i : ℕ) → i < 16 → bit mask i ≡ true → (j : ℕ) → bit (bit_xor mask (power i)) j ≡ bit mask j && not (eqb j i)
 clear_bit mask i l h j =
-    bit_xor mask (power i) j
+    bit_xor_lem mask (power i) j
     ∙ ap (xor (bit mask j)) (bit_shifted i l j)
     ∙ go (bit mask j) (eqb j i) (at_place mask i j h)
   where

@@ -9,7 +9,6 @@ use mathlib.Core.List.{List, [], ◌∷◌}
 use mathlib.Core.Option.{Option, none, some}
 use lib.Dec.{eqb, ltb}
 use lib.ListN.{length, get_or, set, take, drop, get_elem?}
-use borrow.Author.Rules.{length_unmapped}
 use borrow.Author.Tests.{eqb-true, eqb-false, ne_eqb, ltb-false, le-ltb}
 use denote.Shadow.{shadow}
 use mir.Val.{Val}
@@ -21,7 +20,7 @@ use Rattle.table.specs.declared.layout.Part.{Part}
 use Rattle.table.specs.Clauses.At.{bytes_of}
 use Rattle.table.proofs.Accessibles.{in_some}
 use Rattle.message.specs.Error.{Fault, HardwareError, CommunicationFailed, ReadFailed, OutOfRange, fault_number, fault_of}
-use Rattle.message.specs.Reply.{failed, held_as}
+use Rattle.message.specs.Reply.{failed}
 use Rattle.plain.specs.Node.{Value, put, holding, showing}
 use Rattle.state.specs.declared.Settings.{Settings}
 use Rattle.state.specs.View.{stored_text, shown, shown_bytes, value_at, with_stored, with_length, with_error}
@@ -111,9 +110,9 @@ pub settings_sized : (s : Settings) {v : List Val} → shadow (the_field.row.own
 settings_sized s g =
     let fs = g.1.1 in
     record {
-      size = length_unmapped ℕ s.length 64 fs.0.1.0.1;
-      error = length_unmapped ℕ s.error 64 fs.1.0.1.0.1;
-      time = length_unmapped ℕ s.time 64 fs.1.1.0.1.0.1;
+      size = fs.0.1.0.1;
+      error = fs.1.0.1.0.1;
+      time = fs.1.1.0.1.0.1;
     }
 
 -- with parameter k, which is x, holding v, and nothing else altered for the plain node

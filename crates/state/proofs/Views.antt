@@ -9,10 +9,9 @@ use Rattle.table.specs.Table.{Parameter, Table}
 use Rattle.table.specs.Layout.{read_table, or_empty, table_of}
 use Rattle.table.specs.Search.{Placed, parameters}
 use Rattle.table.proofs.Places.{initial_lies}
-use Rattle.counter.specs.declared.Counts.{Counts}
 use Rattle.counter.specs.Counts.{no_counts}
 use Rattle.message.specs.Error.{Fault, fault_number, fault_of}
-use Rattle.message.specs.Reply.{failed, held_as}
+use Rattle.message.specs.Reply.{failed}
 use Rattle.plain.specs.Node.{Client, closed, Value, with_client, with_value, initially, begin, holding, showing, with_clients, with_values, with_counts, none_open}
 use Rattle.sound.proofs.Lists.{there_low}
 use Rattle.state.specs.declared.Clients.{Clients}

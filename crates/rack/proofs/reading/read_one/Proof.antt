@@ -2,7 +2,7 @@
 use borrow.Author.Rules.{rules}
 use mathlib.Core.Path.{refl}
 use denote.Enum.Declared.{tag_of}
-use Rattle.fit.specs.Clauses.Verdict.{the_type}
+use Rattle.fit.specs.contracts.Verdict.{the_type}
 use Rattle.rack.proofs.Readings.{not_first, readable, read_info, read_late, read_past, read_none, read_unfit, read_fits, read_taken}
 use Rattle.rack.proofs.reading.read_one.Statement.{statement}
 use Rattle.rack.proofs.reading.read_one.Tie as tie
