@@ -1,12 +1,11 @@
 -- Laws of the code that reads a number and a datainfo's limits. Assumes nothing.
-use Prim.Native.Nat.{ℕ, zero, suc, ◌+◌, ◌*◌, ◌-◌, ◌^◌, ◌≤◌, ◌<◌}
+use Prim.Native.Nat.{ℕ, suc, ◌+◌, ◌*◌, ◌-◌, ◌^◌, ◌≤◌, ◌<◌}
 use native.Mathlib.Numerals.{add-one}
 use native.Mathlib.Omega.{arith}
 use mathlib.Core.Bool.{Bool, true, false, cond, not, ◌&&◌, false≢true}
 use mathlib.Core.List.{List, [], ◌∷◌}
-use mathlib.Core.Option.{Option, none, some}
+use mathlib.Core.Option.{Option, some}
 use mathlib.Core.Path.{◌≡◌, refl, sym, ap, ◌∙◌}
-use lib.Dec.{eqb}
 use lib.IntN.{ℤ, pos, negsuc}
 use lib.ListN.{length, get_or, drop, drop_of_length-le}
 use lib.Seq.{drop-cons}
@@ -19,20 +18,19 @@ use Rattle.ascii.specs.declared.Unsigned as U
 use Rattle.ascii.specs.declared.Unsigned.{Unsigned}
 use Rattle.ascii.specs.declared.Signed as S
 use Rattle.ascii.specs.declared.Signed.{Signed}
-use Rattle.ascii.specs.Bytes.{is_digit, head}
+use Rattle.ascii.specs.Bytes.{is_digit}
 use Rattle.ascii.specs.Numbers.{unsigned, signed}
 use Rattle.ascii.specs.Clauses.Read.{ReadsUnsigned, ReadsSigned}
-use Rattle.decimal.specs.Decimal.{Decimal, numeral_from, numeral}
+use Rattle.decimal.specs.Decimal.{numeral_from, numeral}
 use Rattle.datainfo.specs.Datainfo.{Datainfo}
-use Rattle.datainfo.specs.Datainfo as Datainfo
 use Rattle.datainfo.specs.Layout.{limit, double_at, int_at, enum_at, string_at, array_at, tuple_at, struct_at, scaled_at, blob_at, partial_at, variants, elements}
-use Rattle.datainfo.specs.Layout.{fields, typed, datainfo_in, datainfo_at}
+use Rattle.datainfo.specs.Layout.{fields, typed, datainfo_in}
 use Rattle.datainfo.specs.Clauses.Obeyed.{ReadsLimit}
 use Rattle.datainfo.specs.declared.rules.Limit as L
 use Rattle.datainfo.specs.declared.rules.Limit.{Limit}
 use Rattle.fit.proofs.Shapes.{nothing, just, either, steps}
 use Rattle.figures.specs.Figures.{is_narrow, is_summed}
-use Rattle.figures.specs.Clauses.Tally.{below_zero, Small, LimitsNarrow, ScaledNarrow, TellsSummed, SetTo, Marks, mark_of, above}
+use Rattle.figures.specs.Clauses.Tally.{Small, LimitsNarrow, ScaledNarrow, TellsSummed, SetTo, Marks, mark_of, above}
 use Rattle.figures.proofs.Stored.{stored_small}
 
 -- ## Digits

@@ -1,25 +1,24 @@
 -- A text that is in stored form for a narrow int or scaled is a small number's token. Assumes nothing.
-use Prim.Native.Nat.{ℕ, zero, suc, ◌*◌, ◌≤◌}
+use Prim.Native.Nat.{ℕ, zero, suc, ◌≤◌}
 use native.Mathlib.Nat.{mul-one}
 use native.Mathlib.Omega.{arith}
 use mathlib.Core.Bool.{Bool, true, false, cond, not, ◌&&◌, ◌||◌, false≢true}
 use mathlib.Core.List.{List, [], ◌∷◌}
 use mathlib.Core.Option.{Option, none, some}
 use mathlib.Core.Path.{◌≡◌, refl, sym, ap, ap₂, ◌∙◌}
-use lib.Dec.{eqb, leb}
+use lib.Dec.{eqb}
 use lib.IntN.{ℤ, pos, negsuc, neg_ℤ, nat_abs, ◌*ℤ◌}
 use lib.ListN.{length}
 use lib.Signed.{le_z}
 use borrow.Author.Tests.{leb-true, not-true}
-use Rattle.ascii.specs.Bytes.{all, any, same, head, tail}
+use Rattle.ascii.specs.Bytes.{all, any, head, tail}
 use Rattle.ascii.proofs.Lists.{both, neither, all_cons, all_weaker, taken, dropped, same_is}
 use Rattle.decimal.specs.Token.{is_e, is_whole}
-use Rattle.decimal.specs.Decimal.{Decimal, from_integer, excess, in_power, at_most, between, numeral_from, numeral, significand, exponent, fraction}
+use Rattle.decimal.specs.Decimal.{from_integer, excess, in_power, at_most, between, numeral_from, numeral, significand, exponent, fraction}
 use Rattle.decimal.specs.Decimal.{written_power, exactly, is_within_limits}
-use Rattle.json_text.specs.Json as Json
 use Rattle.json_text.specs.Json.{Json, null, boolean, text, compact}
 use Rattle.datainfo.specs.Datainfo.{Datainfo, double, int, bool, enum, string, array, tuple, struct, scaled, blob, partial}
-use Rattle.fit.specs.Fit.{Verdict, fits, wrongType, badJSON, severity, in_range, expect, as_number, whole_fit, between_integers, fit, numbered, form_of}
+use Rattle.fit.specs.Fit.{fits, wrongType, in_range, expect, as_number, whole_fit, between_integers, fit, numbered, form_of}
 use Rattle.fit.specs.Fit.{as_partial, at_top, in_order, stored, stored_form, value_verdict, verdict_of, verdict, is_stored}
 use Rattle.form.proofs.Verdicts.{worse_both, in_range_lem, cond_fits, fit_is}
 use Rattle.figures.specs.Figures.{is_narrow, is_summed}

@@ -1,12 +1,12 @@
 -- What is kept stands for the figures of all settings, one after another. Assumes nothing.
-use Prim.Native.Nat.{ℕ, zero, suc, ◌+◌, ◌*◌, ◌≤◌, ◌<◌}
+use Prim.Native.Nat.{ℕ, suc, ◌+◌, ◌*◌, ◌≤◌, ◌<◌}
 use native.Mathlib.Omega.{arith}
 use mathlib.Core.Bool.{Bool, true, false, cond}
 use mathlib.Core.List.{List, [], ◌∷◌, ◌++◌, map, map-append, append_assoc}
 use mathlib.Core.Path.{◌≡◌, refl, sym, ap, ◌∙◌}
 use lib.Dec.{eqb, leb, ltb}
 use lib.IntN.{ℤ, sub_ℕ, ◌+ℤ◌}
-use lib.ListN.{length, take, length-append, length-map}
+use lib.ListN.{length, length-append, length-map}
 use lib.Seq.{take_all, length-take-le, take-append-le}
 use lib.Signed.{le_z}
 use borrow.Author.Tests.{ltb-true, ltb-false, ne_eqb}
@@ -17,7 +17,7 @@ use Rattle.datainfo.specs.Datainfo.{Datainfo}
 use Rattle.fit.specs.Fit.{is_stored}
 use Rattle.figures.specs.declared.Tally.{Tally}
 use Rattle.figures.specs.Figures.{is_summed, least, greatest, total, numbers_text, full, first_settings, figure_line}
-use Rattle.figures.specs.Clauses.Tally.{below_zero, above, mark_of, Small, no_settings, lower, higher, noted, Sums, Tallies, tally_numbers, full_text}
+use Rattle.figures.specs.Clauses.Tally.{below_zero, mark_of, no_settings, lower, higher, noted, Sums, Tallies, tally_numbers, full_text}
 use Rattle.figures.specs.Clauses.Tally.{count_text, tally_line}
 use Rattle.figures.specs.Theorems.{FiguresAreExact}
 use Rattle.figures.proofs.Differences.{sub_sum, sub_order, numeral_back}
