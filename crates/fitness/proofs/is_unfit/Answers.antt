@@ -1,0 +1,17 @@
+-- `fitness::is_unfit` meets its contract. Assumes nothing.
+use borrow.Author.Rules.{rules}
+use Rattle.report.proofs.Faults.{accepted_readable}
+use Rattle.fitness.proofs.Unfits.{clients_make, settings_make, few_counted}
+use Rattle.fitness.proofs.is_unfit.Goals as goal
+
+pub module_count-requires : goal.module_count-requires
+module_count-requires c = search accepted_readable
+
+pub clients_unfit-requires : goal.clients_unfit-requires
+clients_unfit-requires c = (search few_counted, search rules)
+
+pub returns-then-clients_unfit : goal.returns-then-clients_unfit
+returns-then-clients_unfit c = search clients_make
+
+pub returns : goal.returns
+returns c = search settings_make
