@@ -20,7 +20,6 @@ use Rattle.decimal.specs.Clauses.Exact.{decimal as decimal_of}
 use Rattle.json_text.specs.Json.{quoted, compact, compact_members, more_members}
 use Rattle.datainfo.specs.declared.rules.Limit as L
 use Rattle.datainfo.specs.Clauses.Obeyed.{ReadsLimit}
-use Rattle.datainfo.specs.Datainfo as Datainfo
 use Rattle.datainfo.specs.Datainfo.{Datainfo}
 use Rattle.datainfo.specs.Layout.{limit, double_at, int_at, string_at, array_at, scaled_at, blob_at, datainfo_in}
 use Rattle.report.specs.Report.{decimal_text, datainfo_value}

@@ -2,7 +2,7 @@
 use Prim.Native.Nat.{ℕ, zero, suc}
 use mathlib.Core.Path.{◌≡◌, refl, ap, ◌∙◌}
 use mathlib.Core.Bool.{Bool, true, false, cond}
-use mathlib.Core.List.{List, [], ◌∷◌, ◌++◌, append_assoc, append-nil}
+use mathlib.Core.List.{List, [], ◌∷◌, ◌++◌, append_assoc}
 use mathlib.Core.Option.{Option, none, some}
 use lib.Dec.{eqb}
 use lib.IntN.{ℤ}
@@ -10,7 +10,7 @@ use Rattle.ascii.specs.Text.{bytes}
 use Rattle.ascii.specs.Bytes.{◌>>=◌, part}
 use Rattle.ascii.specs.Numbers.{integer, unsigned, signed}
 use Rattle.ascii.specs.Clauses.Reader.{rest}
-use Rattle.json_text.specs.Json.{Json, Items, no_items, item, Members, no_members, member, quoted, compact, compact_items, more_items, compact_members, more_members}
+use Rattle.json_text.specs.Json.{quoted, compact, compact_items, compact_members, more_members}
 use Rattle.datainfo.specs.Datainfo as Datainfo
 use Rattle.datainfo.specs.Datainfo.{Datainfo, Variant, Elements, Fields, Parts}
 use Rattle.datainfo.specs.Layout.{counted, flagged, entry, joined, variants, enum_at, elements, tuple_at, fields, struct_at, partial_at}

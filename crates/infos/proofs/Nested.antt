@@ -16,7 +16,6 @@ use Rattle.ascii.specs.Bytes.{◌>>=◌}
 use Rattle.ascii.specs.Numbers.{integer, signed}
 use Rattle.ascii.specs.Clauses.Reader.{Ends, rest}
 use Rattle.json_text.specs.Json.{quoted, compact, compact_members, more_members}
-use Rattle.datainfo.specs.Datainfo as Datainfo
 use Rattle.datainfo.specs.Datainfo.{Datainfo}
 use Rattle.datainfo.specs.Layout.{entry, double_at, int_at, string_at, array_at, scaled_at, blob_at, typed, datainfo_in}
 use Rattle.datainfo.specs.Clauses.Members.{after_member}

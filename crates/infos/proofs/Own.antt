@@ -1,25 +1,23 @@
 -- Laws of a parameter's own datainfo: the names of its optional members are told. Assumes nothing.
-use Prim.Native.Nat.{ℕ, ◌+◌, ◌-◌, ◌≤◌, ◌<◌}
-use native.Mathlib.Omega.{arith}
+use Prim.Native.Nat.{ℕ, ◌-◌, ◌≤◌, ◌<◌}
 use mathlib.Core.Path.{◌≡◌, refl, sym, ap, ◌∙◌}
 use mathlib.Core.Bool.{Bool, true, false, cond}
 use mathlib.Core.List.{List, [], ◌∷◌, ◌++◌, append_assoc, append-nil}
 use mathlib.Core.Option.{Option, none, some, some-injective}
-use lib.ListN.{length, drop}
+use lib.ListN.{drop}
 use lib.Dec.{eqb}
-use borrow.Author.Tests.{eq-eqb, ne_eqb}
+use borrow.Author.Tests.{ne_eqb}
 use Rattle.ascii.specs.declared.Next.{Next}
 use Rattle.ascii.specs.declared.Next.TheVariants.{At, Bad}
 use Rattle.ascii.specs.declared.Unsigned as U
 use Rattle.ascii.specs.declared.Unsigned.{Unsigned}
 use Rattle.ascii.specs.Text.{bytes}
-use Rattle.ascii.specs.Bytes.{◌>>=◌, head}
+use Rattle.ascii.specs.Bytes.{◌>>=◌}
 use Rattle.ascii.specs.Numbers.{unsigned}
 use Rattle.ascii.specs.Clauses.Read.{ReadsUnsigned}
 use Rattle.ascii.specs.Clauses.Reader.{ByteAt, Ends}
 use Rattle.ascii.proofs.Follows.{then_then}
-use Rattle.json_text.specs.Json.{no_items, quoted, compact, compact_items, more_items, compact_members, more_members}
-use Rattle.datainfo.specs.Datainfo as Datainfo
+use Rattle.json_text.specs.Json.{quoted, compact, compact_items, compact_members, more_members}
 use Rattle.datainfo.specs.Datainfo.{Datainfo, partial, no_fields, Fields, Parts}
 use Rattle.datainfo.specs.Clauses.Obeyed.{name_in}
 use Rattle.datainfo.specs.Layout.{entry, joined, fields, struct_at, partial_at, typed, datainfo_in}

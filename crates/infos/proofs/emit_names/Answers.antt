@@ -1,0 +1,25 @@
+use borrow.Author.Rules.{rules}
+use native.Mathlib.Omega.{arith}
+use mathlib.Core.Path.{refl}
+use Rattle.ascii.proofs.Bytes.{ended_within}
+use Rattle.datainfo.proofs.Own.{unsigned_within}
+use Rattle.infos.proofs.Own.{names_short, names_first, names_over, names_bad, names_more}
+use Rattle.infos.proofs.emit_names.Goals as goal
+
+pub unsigned-requires : goal.unsigned-requires
+unsigned-requires c = (omega arith, omega arith)
+
+pub returns-in_default : goal.returns-in_default
+returns-in_default c = search names_short
+
+pub loop-left-init : goal.loop-left-init
+loop-left-init c = (search unsigned_within, refl, omega arith, names_first _ _ _ c.unsigned.ensures _ _ c.in-Read.is _ _ (omega arith))
+
+pub returns-in_default-field_end : goal.returns-in_default-field_end
+returns-in_default-field_end c = search names_bad
+
+pub loop-left-preserved : goal.loop-left-preserved
+loop-left-preserved c = (search ended_within, search rules, omega arith, search names_more)
+
+pub returns : goal.returns
+returns c = search names_over
