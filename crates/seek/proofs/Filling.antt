@@ -1,21 +1,17 @@
 -- Laws of filling an index from a table, one for each way through a function. Assumes nothing.
-use Prim.Native.Nat.{ℕ, ◌+◌, ◌≤◌, ◌<◌}
+use Prim.Native.Nat.{ℕ, ◌≤◌, ◌<◌}
 use native.Mathlib.Omega.{arith}
-use mathlib.Core.Path.{◌≡◌, refl, sym, ap, ◌∙◌}
-use mathlib.Core.Bool.{cond}
-use mathlib.Core.List.{List, [], ◌∷◌, ◌++◌}
-use mathlib.Core.Option.{none}
-use lib.Dec.{eqb, ltb}
-use lib.ListN.{length, drop, get_elem?}
+use mathlib.Core.Path.{◌≡◌, sym, ap, ◌∙◌}
+use mathlib.Core.List.{List, ◌++◌}
+use lib.ListN.{length, drop}
 use borrow.Author.Tests.{ne_eqb, lt-ltb, le-ltb}
 use mir.Syntax.{w8}
 use mir.Val.{Fits}
 use Rattle.hash.specs.Hash.{start_place}
 use Rattle.table.specs.Layout.{table_of}
-use Rattle.table.specs.Rules.{accessible_name}
 use Rattle.table.specs.Clauses.At.{bytes_of}
 use Rattle.table.specs.declared.layout.Part.{Part}
-use Rattle.report.specs.Judge.{fault, first_fault, table_number}
+use Rattle.report.specs.Judge.{first_fault, table_number}
 use Rattle.report.proofs.Faults.{first_fault_first}
 use Rattle.search.specs.declared.cursor.One as O
 use Rattle.search.specs.Clauses.Left.{name_of}

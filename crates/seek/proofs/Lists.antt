@@ -1,10 +1,10 @@
 -- Laws of the elements of a list by their numbers. Assumes nothing.
-use Prim.Native.Nat.{ℕ, zero, suc, ◌≤◌, ◌<◌}
+use Prim.Native.Nat.{ℕ, zero, suc, ◌≤◌}
 use native.Mathlib.Omega.{arith}
 use mathlib.Core.Path.{◌≡◌, refl, sym}
 use mathlib.Core.List.{List, [], ◌∷◌}
-use mathlib.Core.Option.{none, some}
-use lib.ListN.{length, get_elem?}
+use mathlib.Core.Option.{none}
+use lib.ListN.{get_elem?}
 use Rattle.table.proofs.Whole.{never}
 
 module _ {A : Type 0} where

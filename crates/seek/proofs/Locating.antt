@@ -1,17 +1,16 @@
 -- Laws of what is located, one for each way through a function. Assumes nothing.
 use Prim.Native.Nat.{ℕ, ◌+◌, ◌-◌, ◌<◌}
 use native.Mathlib.Omega.{arith}
-use mathlib.Core.Path.{◌≡◌, refl, sym, ap, ◌∙◌}
+use mathlib.Core.Path.{◌≡◌, sym, ap, ◌∙◌}
 use mathlib.Core.Bool.{true, ◌&&◌}
 use mathlib.Core.List.{List}
 use mathlib.Core.Option.{Option, none, some}
-use lib.ListN.{drop}
 use Rattle.ascii.specs.Bytes.{same, is_some}
 use Rattle.ascii.proofs.Lists.{both, same_is}
-use Rattle.table.specs.Table.{Parameter, Command, Accessible, parameter, command}
+use Rattle.table.specs.Table.{Accessible}
 use Rattle.table.specs.Layout.{table_of}
 use Rattle.table.specs.Rules.{accessible_name}
-use Rattle.table.specs.Search.{Placed, commands_of, commands, find_module, find_parameter, find_command}
+use Rattle.table.specs.Search.{Placed, find_module}
 use Rattle.table.specs.Clauses.At.{bytes_of, parameter_of, command_of}
 use Rattle.table.specs.declared.layout.ParameterAt.{ParameterAt}
 use Rattle.table.specs.declared.layout.CommandAt.{CommandAt}
@@ -20,10 +19,10 @@ use Rattle.report.specs.Judge.{table_number}
 use Rattle.search.specs.declared.cursor.One as O
 use Rattle.search.specs.declared.find.FoundModule as F
 use Rattle.search.specs.declared.locate.Located as L
-use Rattle.search.specs.Clauses.Left.{placed, left_from}
-use Rattle.search.specs.Clauses.Found.{FindsModule, ParameterFound, CommandFound, ParameterLocated, CommandLocated, NothingLocated, Locates}
+use Rattle.search.specs.Clauses.Left.{placed}
+use Rattle.search.specs.Clauses.Found.{FindsModule, ParameterLocated, CommandLocated, NothingLocated, Locates}
 use Rattle.index.specs.Among.{as_one}
-use Rattle.index.specs.Accessibles.{accessibles, is_named, find_accessible, sought, seek_steps, parameter_in, command_in, placed_one}
+use Rattle.index.specs.Accessibles.{accessibles, is_named, find_accessible, sought, seek_steps, parameter_in, command_in}
 use Rattle.index.proofs.Accepted.{answers_stand, parameter_meant, command_meant, parameters_are_accessibles, commands_are_accessibles}
 use Rattle.seek.specs.declared.walk.Walk.{Walk}
 use Rattle.seek.specs.declared.walk.Step as S

@@ -1,12 +1,11 @@
 -- Laws of searches for an accessible of an accepted table, one for each way through a function. Assumes nothing.
-use Prim.Native.Nat.{ℕ, ◌+◌, ◌%◌, ◌^◌, ◌≤◌, ◌<◌}
+use Prim.Native.Nat.{ℕ, ◌+◌, ◌%◌, ◌≤◌, ◌<◌}
 use native.Mathlib.Omega.{arith}
 use mathlib.Core.Path.{◌≡◌, refl, sym, ap, ap₂, ◌∙◌}
-use mathlib.Core.Bool.{Bool, true, false, cond, not, ◌&&◌}
+use mathlib.Core.Bool.{Bool, true, false, not, ◌&&◌}
 use mathlib.Core.List.{List}
 use mathlib.Core.Option.{none, some}
-use lib.Dec.{ltb}
-use lib.ListN.{length, get_or, take, get_elem?}
+use lib.ListN.{length, get_or, take}
 use lib.Seq.{length-take-le}
 use borrow.Author.Tests.{lt-ltb, le-ltb, not-true, not-false}
 use mir.Syntax.{w64}
@@ -16,7 +15,6 @@ use Rattle.hash.specs.Hash.{start_place}
 use Rattle.hash.proofs.Hashes.{start_low}
 use Rattle.table.specs.Table.{Accessible}
 use Rattle.table.specs.Layout.{table_of}
-use Rattle.table.specs.Rules.{accessible_name}
 use Rattle.table.specs.Search.{Placed}
 use Rattle.table.specs.Clauses.At.{bytes_of, Inside}
 use Rattle.table.specs.declared.layout.Part.{Part}

@@ -9,7 +9,6 @@ use Rattle.table.specs.Search.{parameters_of, commands_of, parameters, commands}
 use Rattle.table.specs.Clauses.At.{bytes_of, Inside, parameter_of, command_of}
 use Rattle.table.specs.declared.layout.ParameterAt.{ParameterAt}
 use Rattle.table.specs.declared.layout.CommandAt.{CommandAt}
-use Rattle.search.specs.declared.cursor.Cursor.{Cursor}
 use Rattle.search.specs.declared.cursor.One as O
 use Rattle.search.specs.Clauses.Left.{placed, left_from, accessibles_of, name_of, OnWay, ParameterIn, CommandIn}
 use Rattle.index.specs.Accessibles.{accessibles}
