@@ -1,14 +1,12 @@
 -- What is answered keeps the promise: a refusal, and an accepted call. Assumes nothing.
 use Prim.Native.Nat.{ℕ, zero, suc, ◌≤◌}
 use native.Mathlib.Omega.{arith}
-use mathlib.Core.Bool.{Bool, false, cond}
+use mathlib.Core.Bool.{Bool}
 use mathlib.Core.List.{List, []}
 use mathlib.Core.Logic.{◌≢◌}
 use mathlib.Core.Path.{◌≡◌, refl, sym, ap, subst, ◌∙◌}
-use lib.ListN.{length}
-use lib.Seq.{sets}
 use Rattle.table.specs.Layout.{table_of}
-use Rattle.outbox.specs.Outbox.{Record, encode_all}
+use Rattle.outbox.specs.Outbox.{encode_all}
 use Rattle.plain.specs.Node.{Node}
 use Rattle.plain.specs.Calls.{Call, Answer, Effect, call_number, effect, call_steps, settle, step_if, settled, settings_if, answer_of, refusal_of}
 use Rattle.plain.specs.History.{step}

@@ -1,8 +1,8 @@
 -- What is left by a call that changes one client: an open, a close, and a piece without a line feed. Assumes nothing.
-use Prim.Native.Nat.{ℕ, zero, suc, ◌+◌, ◌≤◌, ◌<◌}
+use Prim.Native.Nat.{ℕ, suc, ◌+◌, ◌≤◌, ◌<◌}
 use native.Mathlib.Omega.{arith}
 use native.Mathlib.Nat.{add-zero}
-use mathlib.Core.Bool.{Bool, true, false, cond, ◌||◌, true≢false}
+use mathlib.Core.Bool.{Bool, true, false, cond, true≢false}
 use mathlib.Core.List.{List, [], ◌∷◌}
 use mathlib.Core.Path.{◌≡◌, refl, sym, ap, subst, ◌∙◌}
 use lib.Dec.{eqb}
@@ -27,7 +27,6 @@ use Rattle.state.proofs.Becomes.{Becomes, Always, Joinable}
 use Rattle.ascii.proofs.Lists.{neither}
 use Rattle.state.proofs.Kept.{still_fit}
 use Rattle.state.proofs.Views.{client_view}
-use Rattle.promise.specs.declared.Done.{Done}
 use Rattle.promise.specs.Clauses.Leaves.{Leaves}
 use Rattle.promise.specs.Clauses.Answer.{quiet_done, done_with}
 
