@@ -4,7 +4,7 @@ use Prim.Native.Nat.{ℕ, ◌+◌, ◌≤◌, ◌<◌}
 use native.Mathlib.Omega.{arith}
 use mathlib.Core.Path.{◌≡◌, refl, sym, ap, subst, ◌∙◌}
 use mathlib.Core.List.{List, []}
-use mathlib.Core.Option.{Option, none, some}
+use mathlib.Core.Option.{none, some}
 use lib.ListN.{length, get_or, take, drop}
 use lib.Seq.{length-take-le}
 use Rattle.ascii.specs.Bytes.{head, drop_while, is_in}
@@ -17,7 +17,6 @@ use Rattle.form.specs.Clauses.Merged.{ShownBy, ShownAt, Completes}
 use Rattle.form.specs.Clauses.Merged as Merged
 use Rattle.form.proofs.Stored.{short_stored, change_verdict_lem, change_form_lem}
 use Rattle.message.specs.Error.{fault_of}
-use Rattle.message.specs.Reply.{Held, valued}
 use Rattle.message.specs.Clauses.Said.{sensor_fault}
 use Rattle.message.specs.declared.say.Fault.{Fault}
 use Rattle.message.specs.declared.say.Sensor.{Sensor}
@@ -39,7 +38,7 @@ use Rattle.outcome.specs.Clauses.Outcome.{OutcomeIs, OfParameter}
 use Rattle.outcome.specs.declared.Outcome.{Outcome}
 use Rattle.access.specs.Clauses.Whole.{judging_whole, changes_whole, checks_whole, Fillable, Fills}
 use Rattle.access.proofs.Finding.{ParameterKnown, parameter_known, info_known, the_parameter}
-use Rattle.access.proofs.Showing.{read_low, read_lies, holds, is_value, held_fits}
+use Rattle.access.proofs.Showing.{read_lies, holds, is_value, held_fits}
 
 text_none : text [] ≡ none
 unfolding text spaced bare Json.scalar head drop_while Token.number Token.int Token.minus Token.digits is_in

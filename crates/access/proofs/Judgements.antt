@@ -1,7 +1,7 @@
 -- What a change and a check come to, by how their data is judged: the same law for both. Assumes nothing.
 use Prim.Native.Nat.{ℕ}
 use mathlib.Core.Path.{◌≡◌, subst, ◌∙◌}
-use mathlib.Core.Bool.{true, false}
+use mathlib.Core.Bool.{true}
 use mathlib.Core.List.{List}
 use lib.ListN.{drop}
 use Rattle.datainfo.specs.Layout.{datainfo_at}

@@ -11,7 +11,7 @@ use Rattle.ascii.specs.Bytes.{◌>>=◌, is_some, head, tail, after}
 use Rattle.ascii.specs.Clauses.Reader.{ByteAt, Left}
 use Rattle.ascii.specs.Text.{bytes}
 use Rattle.decimal.specs.Token as Token
-use Rattle.json_text.specs.Json.{Json, null, number, array, object, Items, Members, no_items, no_members, skip, giving, string_end, scalar, spaced, items, array_end, members, object_end, bare, value, text}
+use Rattle.json_text.specs.Json.{Json, array, object, Items, Members, no_items, no_members, skip, giving, string_end, scalar, spaced, items, array_end, members, object_end, bare, value, text}
 use Rattle.fit.specs.Fit.{Verdict, fits, wrongType, badJSON}
 use Rattle.plain.specs.Answer.{null_verdict, argument_verdict}
 

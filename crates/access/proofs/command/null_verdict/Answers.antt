@@ -1,0 +1,12 @@
+-- `access::command::null_verdict` meets its contract. Assumes nothing.
+use Rattle.access.proofs.Nulls.{null_bad, null_fits, null_wrong}
+use Rattle.access.proofs.command.null_verdict.Goals as goal
+
+pub returns-then-not-is_text : goal.returns-then-not-is_text
+returns-then-not-is_text c = search null_bad
+
+pub returns-then-byte-eq110 : goal.returns-then-byte-eq110
+returns-then-byte-eq110 c = search null_fits
+
+pub returns : goal.returns
+returns c = search null_wrong

@@ -1,0 +1,18 @@
+-- `access::whole::change_whole` meets its contract. Assumes nothing.
+use Rattle.state.specs.Clauses.Bare.{unlined}
+use Rattle.access.proofs.Finding.{info_known, parameter_known}
+use Rattle.access.proofs.Changed.{change_denied, change_settable, change_set}
+use Rattle.access.proofs.whole.change_whole.Goals as goal
+
+pub judge_change-requires : goal.judge_change-requires
+judge_change-requires c = info_known (parameter_known _ c.requires.0.lent.accepted _ _ _ _ _ c.requires.1.1)
+
+pub set-requires : goal.set-requires
+set-requires c = change_settable _ (unlined c.args.state) _ _ _ _ c.requires.0 _ _ _ _ _ _ c.requires.1.1 _ c.judge_change.ensures c.in-LetIn.is c.requires.1.0
+
+pub returns-in-Denied : goal.returns-in-Denied
+returns-in-Denied c = change_denied _ (unlined c.args.state) _ _ _ _ c.requires.0 _ _ _ _ _ _ c.requires.1.1 _ c.judge_change.ensures _ c.in-Denied.is
+
+pub returns-in-LetIn : goal.returns-in-LetIn
+returns-in-LetIn c = change_set _ (unlined c.args.state) _ _ _ _ c.requires.0 _ _ _ _ _ _ c.requires.1.1 _ c.judge_change.ensures c.in-LetIn.is
+    _ _ _ c.set.ensures
