@@ -1,6 +1,6 @@
 -- What a call does: it writes nothing, or it is an accepted reading or report of an unreadable parameter, or it has a line carried out. Assumes
 -- nothing.
-use Prim.Native.Nat.{ℕ, zero, suc, ◌+◌}
+use Prim.Native.Nat.{ℕ, zero, suc}
 use mathlib.Core.Bool.{Bool, true, false, not, false≢true}
 use mathlib.Core.List.Memᴰ
 use mathlib.Core.List.{List, [], ◌∷◌, ◌++◌, Memᴰ}
@@ -222,7 +222,7 @@ the_final rs c d r x h m =
 
 -- the line that a final reply among the records of a call answers
 pub data Line-of (w : Table) (n m : Node) (rs : List Record) (c : ℕ) (r : Reply) : Event → Type 0 where
-  line_of : {bs : List ℕ} {t : ℕ} → Answered w n c bs t m rs → r ≡ reply_to (parts_at n c bs) (outcome_at w n c bs t)
+  line_of_lem : {bs : List ℕ} {t : ℕ} → Answered w n c bs t m rs → r ≡ reply_to (parts_at n c bs) (outcome_at w n c bs t)
       → Line-of w n m rs c r (Piece c bs t)
 
 line_in : (w : Table) (n : Node) (m : Node) (rs : List Record) (c d : ℕ) (r : Reply) (bs : List ℕ) (t : ℕ) → Answered w n c bs t m rs
@@ -231,7 +231,7 @@ line_in w n m rs c d r bs t h l =
     let x : Outcome = outcome_at w n c bs t in
     let q = the_final (before x) c d (reply_to (parts_at n c bs) x) r (quiet w (idle n c) c t (request_of n c bs))
     (subst (Memᴰ (final d r)) h.records l) in
-    subst (λ y. Line-of w n m rs y r (Piece c bs t)) (sym q.0) (line_of h q.1)
+    subst (λ y. Line-of w n m rs y r (Piece c bs t)) (sym q.0) (line_of_lem h q.1)
 
 final_in : {w : Table} {n : Node} {e : Event} {m : Node} {rs : List Record} → Did w n e m rs → (c : ℕ) (r : Reply)
     → Memᴰ (final c r) rs → Line-of w n m rs c r e

@@ -124,7 +124,7 @@ module _ (w : Table) (n : Node) (c t : ℕ) where
 -- ## Lines
 
 -- the line that an accepted piece ends is carried out
-pub ended_line : {w : Table} {n m : Node} {rs : List Record} {c : ℕ} {bs : List ℕ} {t : ℕ} → Did w n (Piece c bs t) m rs → has_feed bs ≡ true
+pub ended_line : {w : Table} {n : Node} {c : ℕ} {bs : List ℕ} {t : ℕ} {m : Node} {rs : List Record} → Did w n (Piece c bs t) m rs → has_feed bs ≡ true
     → Answered w n c bs t m rs
 ended_line (received g) f = absurd (true≢false (sym f ∙ g))
 ended_line (line _ h) f = h

@@ -8,7 +8,6 @@ use lib.ListN.{get_elem?}
 use native.Mathlib.Omega.{arith}
 use Rattle.fit.specs.Fit.{fits}
 use Rattle.table.specs.Table.{Parameter, Command, Accessible, parameter, command, Module, Table}
-use Rattle.table.specs.Layout.{table_of}
 use Rattle.table.specs.Search.{Placed, parameters_of, placed_from, parameters, commands}
 use Rattle.message.specs.Line.{Parts}
 use Rattle.message.specs.Request.{Request, read, execute}
@@ -23,7 +22,7 @@ use Rattle.plain.proofs.Clients.{emptied_line, activated_line}
 use Rattle.plain.proofs.Outcomes.{node_after, before, reply_to, Tells, by_identify, by_describe, by_ping, by_read, by_count, done_of, outcome_holds, by_check}
 use Rattle.rule.specs.Theorems.{parts_at, request_of, OfPiece, of_piece, ParametersBelong, PieceUsed, PiecesAreUsed, ReadTold, ReadsAreTrue, CommandOrdered, CommandsAreOrdered}
 use Rattle.rule.proofs.Told.{apart, told_kind}
-use Rattle.rule.proofs.Calls.{idle, outcome_at, Did, received, line, accepted_call, Line-of, line_of, line_of_final}
+use Rattle.rule.proofs.Calls.{idle, outcome_at, Did, received, line, accepted_call, Line-of, line_of_lem, line_of_final}
 
 reply_is : (x y : DataReport) → reply x ≡ reply y → x ≡ y
 reply_is x y e = cc
@@ -69,7 +68,7 @@ read_in w n c now p =
 
 read_line : {w : Table} {n m : Node} {rs : List Record} {c : ℕ} (r : DataReport) {e : Event} → Line-of w n m rs c (reply r) e
     → OfPiece c (λ bs t. ReadTold w n c bs r rs) e
-read_line {w} {n} {m} {rs} {c} r (line_of {bs = bs} {t = t} h q) =
+read_line {w} {n} {m} {rs} {c} r (line_of_lem {bs = bs} {t = t} h q) =
     let o : Outcome = outcome_at w n c bs t in
     let g = read_in w (idle n c) c t (parts_at n c bs) (request_of n c bs) r q in
     of_piece
@@ -119,7 +118,7 @@ order_in w n c now p =
 
 command_line : {w : Table} {n m : Node} {rs : List Record} {c : ℕ} (r : DataReport) {e : Event} → Line-of w n m rs c (done r) e
     → OfPiece c (λ bs t. CommandOrdered w n c bs t r rs) e
-command_line {w} {n} {m} {rs} {c} r (line_of {bs = bs} {t = t} h q) =
+command_line {w} {n} {m} {rs} {c} r (line_of_lem {bs = bs} {t = t} h q) =
     let o : Outcome = outcome_at w n c bs t in
     let g = order_in w (idle n c) c t (parts_at n c bs) (request_of n c bs) r q in
     of_piece
@@ -172,16 +171,16 @@ leaves w n c now =
       doing = λ k v h. untouched n c _ refl;
     })
 
-piece_used : {w : Table} {n m : Node} {rs : List Record} {c : ℕ} {bs : List ℕ} {t : ℕ} (x : Answer) → x.used ≡ used_of bs
+piece_used : {w : Table} {n : Node} {c : ℕ} {bs : List ℕ} {t : ℕ} {m : Node} {rs : List Record} (x : Answer) → x.used ≡ used_of bs
     → x.records ≡ rs → Did w n (Piece c bs t) m rs → PieceUsed n m c bs x
-piece_used {n = n} {c = c} {bs} x u q (received f) =
+piece_used {n = n} {c = c} {bs = bs} x u q (received f) =
     record {
       used = u;
       joined = λ h. (refl, q);
       emptied = λ h. absurd (false≢true (sym f ∙ h));
       others = λ d h. put_other n.clients c _ d h;
     }
-piece_used {w} {n} {m} {c = c} {bs} {t} x u q (line f h) =
+piece_used {w} {n} {c} {bs} {t} {m} x u q (line f h) =
     let o : Outcome = outcome_at w n c bs t in
     let g = leaves w (idle n c) c t (request_of n c bs) in
     record {

@@ -1,5 +1,5 @@
 -- Part of a struct (M-113): which member of what is stored comes from where. Assumes nothing.
-use Prim.Native.Nat.{ℕ, zero, suc, ◌+◌, ◌≤◌}
+use Prim.Native.Nat.{ℕ, ◌+◌, ◌≤◌}
 use native.Mathlib.Nat.{zero-add}
 use native.Mathlib.Omega.{arith}
 use mathlib.Core.Bool.{Bool, true, false, cond, not, ◌&&◌, ◌||◌, false≢true, true≢false}
@@ -8,34 +8,32 @@ use mathlib.Core.Logic.{◌⊎◌, inl, inr}
 use mathlib.Core.Option.{Option, none, some}
 use mathlib.Core.Path.{◌≡◌, refl, sym, ap, ap₂, ◌∙◌}
 use lib.Dec.{eqb, leb}
-use lib.ListN.{length, get_elem?}
+use lib.ListN.{length}
 use borrow.Author.Tests.{eqb-true, eq-eqb, le-leb, not-true}
 use Rattle.ascii.specs.Bytes.{all, any, count, same}
 use Rattle.ascii.specs.Names.{distinct}
-use Rattle.ascii.proofs.Lists.{both, neither, or-true, same_self, same_is, same_other}
-use Rattle.json_text.specs.Json as Json
+use Rattle.ascii.proofs.Lists.{both, or-true, same_self, same_is}
 use Rattle.json_text.specs.Json.{Json, null, boolean, Members, no_members, member, text, compact}
 use Rattle.datainfo.specs.Datainfo.{Datainfo, partial, Fields, no_fields, field, field_names, field_of}
-use Rattle.fit.specs.Fit as Fit
-use Rattle.fit.specs.Fit.{Verdict, fits, rangeError, wrongType, worse, severity, in_range, expect, as_object, keys, each_once, value_at, fit, fields_fit}
-use Rattle.fit.specs.Fit.{within, map_members, numbered, numbered_at, as_partial, at_top, keep_members, join_members, is_left_out, or_none, members_of, completed, completed_of, ordered}
+use Rattle.fit.specs.Fit.{Verdict, fits, wrongType, worse, severity, in_range, expect, as_object, keys, each_once, value_at, fit, fields_fit}
+use Rattle.fit.specs.Fit.{within, numbered, as_partial, at_top, keep_members, join_members, is_left_out, or_none, members_of, completed, completed_of, ordered}
 use Rattle.fit.specs.Fit.{form_of, stored_form, value_verdict, verdict_of, verdict, is_stored, change_verdict, change_form}
 use Rattle.fit.proofs.Shapes.{nothing, just}
 use Rattle.form.proofs.Verdicts.{worse_both, both_worse, cond_fits}
 use Rattle.form.proofs.Ordered.{count_none, ordered_keys, ordered_value}
 use Rattle.form.proofs.Stored.{stored_part, fits_value, stored_fits, own_value_lem, own_compact}
-use Rattle.form.proofs.Members.{object_begins, none_counted, any_all, once_alone, count_less, field_fits}
-use Rattle.form.proofs.Listed.{exchanged, stored_at, object_is}
+use Rattle.form.proofs.Members.{none_counted, any_all, once_alone, count_less, field_fits}
+use Rattle.form.proofs.Listed as Listed
+use Rattle.form.proofs.Listed.{exchanged, object_is}
 use Rattle.form.proofs.Whole as Whole
 use Rattle.form.proofs.Whole.{same_members, same_scalar}
-use Rattle.message.specs.Error.{Fault}
 use Rattle.message.specs.Reply.{Held, valued, failed}
-use Rattle.table.specs.Table.{Parameter, Table}
-use Rattle.table.specs.Search.{Placed, parameters}
-use Rattle.sound.specs.Theorems.{Sound, HeldFits}
+use Rattle.table.specs.Table.{Parameter}
+use Rattle.table.specs.Search.{Placed}
+use Rattle.sound.specs.Theorems.{HeldFits}
 use Rattle.plain.specs.Node.{Value, Node}
 use Rattle.plain.specs.Answer.{shown_value, judged_at, stored_at}
-use Rattle.rule.specs.Parts.{is_among, LeftOut, Given, GoodPart, Merged, WhereShown, ChangedInPart, NoObject, PartsAreMerged}
+use Rattle.rule.specs.Parts.{is_among, LeftOut, GoodPart, Merged, WhereShown, ChangedInPart, NoObject, PartsAreMerged}
 
 -- ## Names
 
@@ -372,7 +370,7 @@ module _ (ns : List (List ℕ)) (fs : Fields) (js ms : Members) where
   zs = ordered fs (exchanged fs merged)
 
   stored_value : (k : List ℕ) (d : Datainfo) → field_of k fs ≡ some d → value_at k zs ≡ numbered d (value_at k merged)
-  stored_value k d e = ordered_value fs (exchanged fs merged) k (field_named fs k d e) ∙ stored_at fs merged k d e
+  stored_value k d e = ordered_value fs (exchanged fs merged) k (field_named fs k d e) ∙ Listed.stored_at fs merged k d e
 
   merged_is : js ≡ ordered fs (exchanged fs js) → each_once (field_names fs) (keys merged) ≡ true → fields_fit fs merged ≡ fits → Merged fs js ms zs
   merged_is i e f = record {
@@ -385,7 +383,7 @@ module _ (ns : List (List ℕ)) (fs : Fields) (js ms : Members) where
     where
       -- what is shown is in stored form
       shown_value_lem : (k : List ℕ) (d : Datainfo) → field_of k fs ≡ some d → value_at k js ≡ numbered d (value_at k js)
-      shown_value_lem k d h = ap (value_at k) i ∙ ordered_value fs (exchanged fs js) k (field_named fs k d h) ∙ stored_at fs js k d h
+      shown_value_lem k d h = ap (value_at k) i ∙ ordered_value fs (exchanged fs js) k (field_named fs k d h) ∙ Listed.stored_at fs js k d h
 
   form_is : form_of (partial ns fs) (some (Json.object merged)) ≡ compact (Json.object zs)
   unfolding form_of within as_object

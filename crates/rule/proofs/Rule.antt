@@ -31,7 +31,7 @@ use Rattle.rule.specs.Theorems.{parts_at, request_of, ToActive, UpdatesGoToActiv
 use Rattle.rule.proofs.Laws.{updates_append, replies_append, no_final_replies, updates_to_member, updates_of_member, updates_of_for, sent_once, sent_never}
 use Rattle.rule.proofs.Laws.{busy_once, busy_never}
 use Rattle.rule.proofs.Told.{kind, apart, told_kind, scope_is}
-use Rattle.rule.proofs.Calls.{quiet, idle, told_node, outcome_at, Answered, Did, opened, shut, received, read, unread, line, every_call, accepted_call, Line-of, line_of, line_of_final, refusals_alter_nothing}
+use Rattle.rule.proofs.Calls.{quiet, idle, told_node, outcome_at, Answered, Did, opened, shut, received, read, unread, line, every_call, accepted_call, Line-of, line_of_lem, line_of_final, refusals_alter_nothing}
 
 -- ## Errors
 
@@ -66,7 +66,7 @@ altered n m rs c p (carried y ss l q) r i h e f g = absurd (h (ap kind (sym g) �
 
 altered_line : {w : Table} {n m : Node} {rs : List Record} {c : ℕ} {r : Reply} {e : Event} → Line-of w n m rs c r e → kind r ≡ 0
     → AltersNothing n m rs c r
-altered_line {w} {n} {m} {rs} {c} {r} (line_of {bs = bs} {t = t} h q) i =
+altered_line {w} {n} {m} {rs} {c} {r} (line_of_lem {bs = bs} {t = t} h q) i =
     altered n m rs c (parts_at n c bs) (outcome_at w n c bs t) r i (no_error w (idle n c) c t (request_of n c bs)) h.node h.records q
 
 pub errors_alter_nothing : ErrorsAlterNothing
@@ -87,9 +87,9 @@ set_sent w n m k p v rs t e u =
       nobody = λ d h. u d ∙ sent_never m.clients p.home (report_of p v) d h;
     }
 
-reading_sets : {w : Table} {n m : Node} {rs : List Record} {k : ℕ} {bs : List ℕ} {t : ℕ} → Did w n (Reading k bs t) m rs
+reading_sets : {w : Table} {n : Node} {k : ℕ} {bs : List ℕ} {t : ℕ} {m : Node} {rs : List Record} → Did w n (Reading k bs t) m rs
     → ReadingSets w n m k bs t rs
-reading_sets {w} {n} {k = k} {bs} {t} (read p q f) =
+reading_sets {w} {n} {k} {bs} {t} (read p q f) =
     let v : Value = showing (stored_form p.it.datainfo bs) t in
     record {
       p = p;
@@ -98,7 +98,7 @@ reading_sets {w} {n} {k = k} {bs} {t} (read p q f) =
       records = refl;
     }
 
-unreadable_sets : {w : Table} {n m : Node} {rs : List Record} {k class t : ℕ} → Did w n (Unreadable k class t) m rs → UnreadableSets w n m k class t rs
+unreadable_sets : {w : Table} {n : Node} {k class t : ℕ} {m : Node} {rs : List Record} → Did w n (Unreadable k class t) m rs → UnreadableSets w n m k class t rs
 unreadable_sets {w} {n} {k = k} {t = t} (unread p f q i) =
     let v : Value = holding (failed f) t in
     record {
@@ -215,7 +215,7 @@ module _ (w : Table) (n m : Node) (c t : ℕ) (k : ℕ × Placed Parameter) (v :
 
 changed_line : {w : Table} {n m : Node} {rs : List Record} {c : ℕ} (r : DataReport) {e : Event} → Line-of w n m rs c (changed r) e
     → OfPiece c (λ bs t. ChangeSets w n m c bs t r rs) e
-changed_line {w} {n} {m} {rs} {c} r (line_of {bs = bs} {t = t} h q) =
+changed_line {w} {n} {m} {rs} {c} r (line_of_lem {bs = bs} {t = t} h q) =
     let g = changing w (idle n c) c t (parts_at n c bs) (request_of n c bs) r q in
     of_piece
     (record {
@@ -310,7 +310,7 @@ activation w n c now p =
 
 initial_updates : {w : Table} {n k : Node} {rs : List Record} {c : ℕ} (m : Option (List ℕ)) {e : Event}
     → Line-of w n k rs c (active m) e → InitialUpdates w n c m rs
-initial_updates {w} {n} {k} {rs} {c} m (line_of {bs = bs} {t = t} h q) =
+initial_updates {w} {n} {k} {rs} {c} m (line_of_lem {bs = bs} {t = t} h q) =
     let o : Outcome = outcome_at w n c bs t in
     let u : (d : ℕ) → updates_for d rs ≡ cond (eqb d c) (reports_of (in_scope_of w m) n.values 0 (parameters w)) [] =
     λ d.

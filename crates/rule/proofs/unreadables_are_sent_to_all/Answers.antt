@@ -1,0 +1,7 @@
+-- `rule::unreadables_are_sent_to_all` promises the theorem of `Rule`. Assumes nothing.
+use mathlib.Core.Path.{refl}
+use Rattle.rule.proofs.Rule.{unreadables_are_sent_to_all}
+use Rattle.rule.proofs.unreadables_are_sent_to_all.Goals as goal
+
+pub returns : goal.returns
+returns c = (refl, unreadables_are_sent_to_all)
