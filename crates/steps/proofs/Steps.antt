@@ -1,28 +1,25 @@
 -- What an index alters over the calls. Assumes nothing.
 use Prim.Native.Nat.{ℕ, zero, suc, ◌≤◌}
 use native.Mathlib.Omega.{arith}
-use mathlib.Core.Bool.{Bool, true, false, cond, not, false≢true}
+use mathlib.Core.Bool.{Bool, true, false, cond, not}
 use mathlib.Core.List.{List, ◌++◌}
 use mathlib.Core.Option.{Option, none, some}
-use mathlib.Core.Path.{◌≡◌, refl, sym, ap, ◌∙◌}
+use mathlib.Core.Path.{◌≡◌, refl, ap, ◌∙◌}
 use borrow.Author.Tests.{not-false}
 use Rattle.ascii.specs.Bytes.{is_some}
-use Rattle.hash.specs.Hash.{start_place}
 use Rattle.table.specs.Table.{Accessible, Table}
 use Rattle.table.specs.Layout.{read_table, or_empty, table_of}
 use Rattle.table.specs.Rules.{counts_good, names_good}
 use Rattle.table.specs.Search.{Placed, find_module}
-use Rattle.table.proofs.Accessibles.{in_some}
-use Rattle.index.specs.Index.{around}
 use Rattle.index.specs.Search as Index
 use Rattle.index.specs.Search.{looked}
-use Rattle.index.specs.Accessibles.{accessibles, is_named, find_accessible, index_of, sought, seek_steps}
+use Rattle.index.specs.Accessibles.{index_of, sought, seek_steps}
 use Rattle.index.proofs.Accepted.{steps_are_few, present_names_are_quick}
 use Rattle.report.specs.Judge.{number_of, tree_number, table_number}
 use Rattle.report.proofs.Faults.{no_fault, first_fault_none}
 use Rattle.message.specs.Line.{content, parts_of}
 use Rattle.message.specs.Request.{Request, identify, describe, ping, activate, deactivate, read, change, execute, count, malformed, check, request}
-use Rattle.plain.specs.Node.{Client, Node, put, with_client, line_of, receive}
+use Rattle.plain.specs.Node.{Client, Node, with_client, line_of, receive}
 use Rattle.plain.specs.Answer.{request_steps, line_steps}
 use Rattle.plain.specs.Calls.{Event, Open, Close, Piece, Reading, Unreadable, Call, Effect, beside, is_short, lent_faults, call_number}
 use Rattle.plain.specs.Calls.{before_feed, has_feed, effect, ended_steps, event_steps, call_steps, settle, settling, step_if, settings_if}
