@@ -1,5 +1,5 @@
 -- The examples, by computing. Assumes nothing.
-use mathlib.Core.Path.{◌≡◌, refl}
+use mathlib.Core.Path.{refl}
 use Rattle.report.specs.Notes.{note_member, noted_members, noted_value, noted_report}
 use Rattle.examples.specs.Demo.{demo, noted, stage, one_module, reported, on_off, kelvin, initial, small, counted, value_and_target, ramp, staged, edited, around, percent, heated}
 use Rattle.examples.specs.Theorems.{examples, exchanges, changing, failing, talking, piece_calls, replies_to, last_written, ExamplesAreRight, FiveMilliseconds, WholeReport, NotedReport, TablesAreGood, OutboxExample, BrokenSensor, WhoTalks, ExchangesAreRight, ramping, Ramps, replies_of, visiting, NextEdition, heating, PartOfAStruct}
