@@ -1,4 +1,3 @@
-use native.Mathlib.Omega.{arith}
 use Rattle.index.proofs.Loops.{looking_start}
 use Rattle.seek.proofs.Seeking.{look_free, look_found, look_more, look_end}
 use Rattle.seek.proofs.look.look.Goals as goal
@@ -8,9 +7,6 @@ loop-n-init c = search looking_start
 
 pub returns-then-b : goal.returns-then-b
 returns-then-b c = search look_free
-
-pub overflow_cast-b : goal.overflow_cast-b
-overflow_cast-b c = omega (arith, c.shared_slice_known-in-loop-n-1.given c.loop-n.at)
 
 pub returns-in-At : goal.returns-in-At
 returns-in-At c = search look_found
