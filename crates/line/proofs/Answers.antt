@@ -1,10 +1,9 @@
 -- Laws of a line that is answered: from what a request comes to, and what follows from it, to what the plain node answers. Assumes nothing.
 use Prim.Native.Nat.{ℕ, ◌≤◌, ◌<◌}
 use native.Mathlib.Omega.{arith}
-use mathlib.Core.Path.{◌≡◌, refl, sym, ap, ap₂, subst, ◌∙◌}
+use mathlib.Core.Path.{◌≡◌, refl, sym, ap, subst, ◌∙◌}
 use mathlib.Core.Bool.{false}
 use mathlib.Core.List.{List, [], ◌∷◌, append-nil}
-use mathlib.Core.Option.{Option, none, some}
 use lib.ListN.{length}
 use Rattle.ascii.specs.Numbers.{latest}
 use Rattle.ascii.specs.Bytes.{any, take_while, drop_while, tail, same}

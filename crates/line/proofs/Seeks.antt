@@ -12,13 +12,12 @@ use Rattle.seek.specs.declared.locate.Placed.{Placed}
 use Rattle.index.specs.Accessibles.{seek_steps}
 use Rattle.message.specs.Line.{whole, content, parts_of}
 use Rattle.message.specs.Request.{request}
-use Rattle.message.specs.Clauses.Parsed.{part, Within, Inside, Parted, Asks, switch_request, verb_request, meaning}
+use Rattle.message.specs.Clauses.Parsed.{part, Within, Inside, Parted, Asks, verb_request}
 use Rattle.message.specs.declared.line.Part.{Part}
 use Rattle.message.specs.declared.line.Request.{Request}
 use Rattle.message.specs.declared.line.Request.TheVariants as Q
 use Rattle.message.specs.declared.line.Switch.TheVariants.{On, Off}
 use Rattle.message.specs.declared.line.Verb.{Verb}
-use Rattle.message.specs.declared.line.Verb.TheVariants as Verb
 use Rattle.message.proofs.Requests.{requested}
 use Rattle.plain.specs.Answer.{request_steps}
 use Rattle.line.specs.declared.locating.Names.{Names}

@@ -28,7 +28,6 @@ use Rattle.message.specs.Clauses.Said.{class_of}
 use Rattle.message.specs.declared.say.Class.{Class}
 use Rattle.message.specs.declared.say.Class.TheVariants as K
 use Rattle.message.specs.declared.line.Verb.{Verb}
-use Rattle.message.specs.declared.line.Verb.TheVariants as Verb
 use Rattle.message.specs.declared.line.Switch.{Switch}
 use Rattle.message.specs.declared.line.Switch.TheVariants.{On, Off}
 use Rattle.plain.specs.Node.{Node}

@@ -6,9 +6,7 @@ use Rattle.message.specs.Clauses.Parsed.{Within, Inside}
 use Rattle.message.specs.declared.line.Part.{Part}
 use Rattle.message.specs.declared.line.Request.{Request}
 use Rattle.message.specs.declared.line.Verb.{Verb}
-use Rattle.message.specs.declared.line.Verb.TheVariants as Verb
 use Rattle.message.specs.declared.say.Class.{Class}
-use Rattle.message.specs.declared.say.Class.TheVariants as Class
 
 -- parts within a line of at most 1,024 bytes
 pub record Carriable (line : List ℕ) (specifier payload : Part) (asked : Request) : Type 0 where
