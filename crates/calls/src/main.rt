@@ -2,7 +2,7 @@
 // made of, `script::say` what is written.
 #![tactic(auto)]
 
-use libc::STDIN_FILENO;
+use input::read_full;
 use node::clients::{jihfasul_close, jihfasul_open};
 use node::pieces::jihfasul_piece;
 use node::readings::jihfasul_reading;
@@ -13,6 +13,8 @@ use script::operation::{Operation, class_of, read_operation};
 use script::poke::{blank, poked, put_within};
 use script::say::{fill, write_answer, write_note, write_state};
 use state::State;
+use std::io;
+use std::io::{BufReader, BufWriter, Read, Write};
 
 // What is handed on from operation to operation: the lengths of the table and of the index that calls are lent, and the state. `more` says whether the
 // script may go on.
@@ -62,7 +64,8 @@ fn call(
 }
 
 // A call that is lent the fronts of both areas, and the line about its answer; the outbox then has its pattern again.
-fn answered(
+fn answered<W: Write>(
+    output: &mut W,
     table: &[u8],
     values: &mut [u8],
     outbox: &mut [u8],
@@ -70,14 +73,14 @@ fn answered(
     o: Operation,
     bytes: &[u8],
     index: &[u8],
-) -> State {
+) -> io::Result<State> {
     let most = o.values;
     let room = o.outbox;
     if values.len() < most {
-        return state;
+        return Ok(state);
     }
     if outbox.len() < room {
-        return state;
+        return Ok(state);
     }
     let done = call(
         table,
@@ -88,13 +91,14 @@ fn answered(
         bytes,
         index,
     );
-    write_answer(values, outbox, state, o, done);
+    write_answer(output, values, outbox, state, o, done)?;
     fill(outbox);
-    done.state
+    Ok(done.state)
 }
 
 // An operation that is not a table.
-fn carried_out(
+fn carried_out<W: Write>(
+    output: &mut W,
     table: &[u8],
     values: &mut [u8],
     outbox: &mut [u8],
@@ -102,25 +106,25 @@ fn carried_out(
     o: Operation,
     bytes: &[u8],
     index: &[u8],
-) -> State {
+) -> io::Result<State> {
     let code = o.code;
     if is_call(code) {
-        return answered(table, values, outbox, state, o, bytes, index);
+        return answered(output, table, values, outbox, state, o, bytes, index);
     }
     match code {
         b'N' => {
-            write_note(bytes);
-            state
+            write_note(output, bytes)?;
+            Ok(state)
         }
         b'E' => {
-            write_state(state, o.number);
-            state
+            write_state(output, state, o.number)?;
+            Ok(state)
         }
         b'w' => {
             put_within(values, o.number, bytes);
-            state
+            Ok(state)
         }
-        _ => poked(state, o, bytes),
+        _ => Ok(poked(state, o, bytes)),
     }
 }
 
@@ -132,13 +136,18 @@ fn ended(handed: HandedOn) -> HandedOn {
 }
 
 // A table, read into a lent buffer.
-fn with_table(table: &mut [u8], handed: HandedOn, size: usize) -> HandedOn {
+fn with_table<R: Read>(
+    input: &mut R,
+    table: &mut [u8],
+    handed: HandedOn,
+    size: usize,
+) -> io::Result<HandedOn> {
     if table.len() < size {
-        return ended(handed);
+        return Ok(ended(handed));
     }
     let mut next = handed;
-    next.table = io::read_full(STDIN_FILENO, &mut table[..size]);
-    next
+    next.table = read_full(input, &mut table[..size])?;
+    Ok(next)
 }
 
 // The index that calls are lent from here on, put into a lent buffer.
@@ -153,7 +162,9 @@ fn with_index(index: &mut [u8], handed: HandedOn, bytes: &[u8]) -> HandedOn {
 }
 
 // Another operation, its bytes read into a lent buffer.
-fn operate(
+fn operate<R: Read, W: Write>(
+    input: &mut R,
+    output: &mut W,
     table: &[u8],
     values: &mut [u8],
     outbox: &mut [u8],
@@ -161,24 +172,25 @@ fn operate(
     bytes: &mut [u8],
     handed: HandedOn,
     o: Operation,
-) -> HandedOn {
+) -> io::Result<HandedOn> {
     let size = o.size;
     let held = handed.table;
     let lent = handed.index;
     if bytes.len() < size {
-        return ended(handed);
+        return Ok(ended(handed));
     }
     if table.len() < held {
-        return ended(handed);
+        return Ok(ended(handed));
     }
     if index.len() < lent {
-        return ended(handed);
+        return Ok(ended(handed));
     }
-    io::read_full(STDIN_FILENO, &mut bytes[..size]);
+    read_full(input, &mut bytes[..size])?;
     if o.code == b'I' {
-        return with_index(index, handed, &bytes[..size]);
+        return Ok(with_index(index, handed, &bytes[..size]));
     }
     let state = carried_out(
+        output,
         &table[..held],
         values,
         outbox,
@@ -186,17 +198,19 @@ fn operate(
         o,
         &bytes[..size],
         &index[..lent],
-    );
-    HandedOn {
+    )?;
+    Ok(HandedOn {
         more: true,
         table: held,
         index: lent,
         state,
-    }
+    })
 }
 
 // The next operation. It is lent arrays, since a loop that lends slices has to keep account of their lengths.
-fn step(
+fn step<R: Read, W: Write>(
+    input: &mut R,
+    output: &mut W,
     head: &mut [u8; 23],
     table: &mut [u8; 65536],
     values: &mut [u8; 20000],
@@ -204,24 +218,28 @@ fn step(
     index: &mut [u8; 256],
     bytes: &mut [u8; 65536],
     handed: HandedOn,
-) -> HandedOn {
-    let o = read_operation(head);
+) -> io::Result<HandedOn> {
+    let o = read_operation(input, head)?;
     let code = o.code;
     match code {
-        0 => ended(handed),
-        b'T' => with_table(table, handed, o.size),
-        _ => operate(table, values, outbox, index, bytes, handed, o),
+        0 => Ok(ended(handed)),
+        b'T' => with_table(input, table, handed, o.size),
+        _ => operate(
+            input, output, table, values, outbox, index, bytes, handed, o,
+        ),
     }
 }
 
-// The loop counts its turns down, since a proved loop has to end: there are far fewer operations.
-fn main() {
+// A proved loop has to end: there are far fewer operations.
+fn main(rt: HostRuntime) -> io::Result<()> {
+    let mut input = BufReader::new(rt.alloc(), rt.reader())?;
+    let mut output = BufWriter::new(rt.alloc(), io::writer(&rt))?;
     let mut head = [0u8; 23];
-    let mut table = io::large_buffer();
+    let mut table = [0u8; 65536];
     let mut values = [0u8; 20000];
     let mut outbox = [0u8; 40000];
     let mut index = [0u8; 256];
-    let mut bytes = io::large_buffer();
+    let mut bytes = [0u8; 65536];
     fill(&mut outbox);
     let mut handed = HandedOn {
         more: true,
@@ -229,9 +247,13 @@ fn main() {
         index: 0,
         state: blank(),
     };
-    let mut turns: u32 = 1000000;
-    while turns > 0 && handed.more {
+    for _ in 0..1000000u32 {
+        if !handed.more {
+            break;
+        }
         handed = step(
+            &mut input,
+            &mut output,
             &mut head,
             &mut table,
             &mut values,
@@ -239,7 +261,7 @@ fn main() {
             &mut index,
             &mut bytes,
             handed,
-        );
-        turns -= 1;
+        )?;
     }
+    output.flush()
 }

@@ -3,184 +3,207 @@
 // A length is a byte, and so many of the kept bytes are lent; a name is a length byte and its bytes. Each filling and each search writes a line.
 #![tactic(auto)]
 
-ghost use Rattle.std.specs.Prelude.{◌≡◌, ◌≤◌, length};
-ghost use Rattle.io.specs.Counts.{IsPrefixLen};
+ghost use Rattle.std.specs.Prelude.{◌≡◌, ◌≤◌, IfOk, length};
 ghost use Rattle.report.specs.Judge.{table_number};
 
 use describe::judge::table_number;
-use libc::{STDIN_FILENO, STDOUT_FILENO};
+use input::{read_byte, read_full};
 use search::locate::Located;
 use seek::fill::fill;
 use seek::locate::locate;
+use std::io;
+use std::io::{BufReader, BufWriter, Read, Write};
 
 fn number(high: u8, middle: u8, low: u8) -> usize {
     high as usize * 65536 + middle as usize * 256 + low as usize
 }
 
 // What stands before a number, and the number.
-fn write_number(label: &[u8], n: usize) {
-    io::write_all(STDOUT_FILENO, label);
-    io::print_decimal(STDOUT_FILENO, n as u64);
+fn write_number<W: Write>(output: &mut W, label: &[u8], n: usize) -> io::Result<()> {
+    output.write_all(label)?;
+    write!(output, "{n}")
 }
 
-fn end_line() {
-    io::write_all(STDOUT_FILENO, b"\n");
-}
-
-fn byte_in() -> u8 {
-    let mut space = [0u8; 1];
-    io::read_full(STDIN_FILENO, &mut space);
-    space[0]
+fn end_line<W: Write>(output: &mut W) -> io::Result<()> {
+    output.write_all(b"\n")
 }
 
 // A name, read to the front of a lent buffer; its length.
-fn name_in(space: &mut [u8]) -> usize
-    ensures { IsPrefixLen result space.new }
+fn name_in<R: Read>(input: &mut R, space: &mut [u8]) -> io::Result<usize>
+    ensures { IfOk result (λ n. n ≤ length space.new) }
 {
-    let n = byte_in() as usize;
+    let n = read_byte(input)? as usize;
     if space.len() < n {
-        return 0;
+        return Ok(0);
     }
-    io::read_full(STDIN_FILENO, &mut space[..n]);
-    n
+    read_full(input, &mut space[..n])?;
+    Ok(n)
 }
 
 // A length of kept bytes; all of them where there are fewer.
-fn length_in(kept: &[u8]) -> usize
-    ensures { result ≤ length kept.now }
+fn length_in<R: Read>(input: &mut R, kept: &[u8]) -> io::Result<usize>
+    ensures { IfOk result (λ n. n ≤ length kept.now) }
 {
-    let n = byte_in() as usize;
+    let n = read_byte(input)? as usize;
     if kept.len() < n {
-        return kept.len();
+        return Ok(kept.len());
     }
-    n
+    Ok(n)
 }
 
-fn write_byte(b: u8) {
-    io::print_hex(STDOUT_FILENO, b as u64, 2);
+fn write_byte<W: Write>(output: &mut W, b: u8) -> io::Result<()> {
+    write!(output, "{b:02x}")
 }
 
-fn write_bytes(s: &[u8]) {
-    let mut i = 0;
-    while i < s.len() {
-        write_byte(s[i]);
-        i += 1;
+fn write_bytes<W: Write>(output: &mut W, s: &[u8]) -> io::Result<()> {
+    for b in s {
+        write_byte(output, *b)?;
     }
+    Ok(())
 }
 
 // A filling's number, and all bytes that are kept after it.
-fn fill_in(s: &[u8], kept: &mut [u8]) {
-    let n = length_in(kept);
-    write_number(b"fill ", fill(s, &mut kept[..n]) as usize);
-    io::write_all(STDOUT_FILENO, b" ");
-    write_bytes(kept);
-    end_line();
+fn fill_in<R: Read, W: Write>(
+    input: &mut R,
+    output: &mut W,
+    s: &[u8],
+    kept: &mut [u8],
+) -> io::Result<()> {
+    let n = length_in(input, kept)?;
+    write_number(output, b"fill ", fill(s, &mut kept[..n]) as usize)?;
+    output.write_all(b" ")?;
+    write_bytes(output, kept)?;
+    end_line(output)
 }
 
 // A place, and the byte there.
-fn write_in(kept: &mut [u8]) {
-    let at = byte_in() as usize;
-    let b = byte_in();
+fn write_in<R: Read>(input: &mut R, kept: &mut [u8]) -> io::Result<()> {
+    let at = read_byte(input)? as usize;
+    let b = read_byte(input)?;
     if at < kept.len() {
         kept[at] = b;
     }
+    Ok(())
 }
 
 // What is located: its number among its kind, and its module's.
-fn write_located(located: Located) {
+fn write_located<W: Write>(output: &mut W, located: Located) -> io::Result<()> {
     match located {
-        Located::NoModule => {
-            io::write_all(STDOUT_FILENO, b"no module");
-        }
-        Located::Nothing => {
-            io::write_all(STDOUT_FILENO, b"none");
-        }
+        Located::NoModule => output.write_all(b"no module"),
+        Located::Nothing => output.write_all(b"none"),
         Located::Parameter(k, home, _) => {
-            write_number(b"parameter ", k);
-            write_number(b" of ", home);
+            write_number(output, b"parameter ", k)?;
+            write_number(output, b" of ", home)
         }
         Located::Command(k, home, _) => {
-            write_number(b"command ", k);
-            write_number(b" of ", home);
+            write_number(output, b"command ", k)?;
+            write_number(output, b" of ", home)
         }
     }
 }
 
 // An accessible sought in an accepted table, and the steps.
-fn seek_in(s: &[u8], kept: &[u8])
+fn seek_in<R: Read, W: Write>(
+    input: &mut R,
+    output: &mut W,
+    s: &[u8],
+    kept: &[u8],
+) -> io::Result<()>
     requires { table_number s.now ≡ 0 }
 {
-    let mut module = io::buffer();
-    let mut name = io::buffer();
-    let lent = length_in(kept);
-    let m = name_in(&mut module);
-    let n = name_in(&mut name);
+    let mut module = [0u8; 4096];
+    let mut name = [0u8; 4096];
+    let lent = length_in(input, kept)?;
+    let m = name_in(input, &mut module)?;
+    let n = name_in(input, &mut name)?;
     let r = locate(s, &kept[..lent], &module[..m], &name[..n]);
     let located = r.located;
-    write_located(located);
-    write_number(b" steps ", r.steps);
-    end_line();
+    write_located(output, located)?;
+    write_number(output, b" steps ", r.steps)?;
+    end_line(output)
 }
 
 // One operation; whether there was one. In a table that is refused nothing is sought.
-fn operation_in(s: &[u8], kept: &mut [u8]) -> bool {
-    let kind = byte_in();
+fn operation_in<R: Read, W: Write>(
+    input: &mut R,
+    output: &mut W,
+    s: &[u8],
+    kept: &mut [u8],
+) -> io::Result<bool> {
+    let kind = read_byte(input)?;
     match kind {
-        b'f' => {
-            fill_in(s, kept);
-        }
-        b'b' => {
-            write_in(kept);
-        }
+        b'f' => fill_in(input, output, s, kept)?,
+        b'b' => write_in(input, kept)?,
         b's' => {
             if table_number(s) != 0 {
-                return false;
+                return Ok(false);
             }
-            seek_in(s, kept);
+            seek_in(input, output, s, kept)?;
         }
         _ => {
-            return false;
+            return Ok(false);
         }
     }
-    true
+    Ok(true)
 }
 
 // Each operation that follows a table; there are far fewer than a million.
-fn operations_in(s: &[u8], kept: &mut [u8]) {
-    let mut turns: u32 = 1000000;
-    while turns > 0 && operation_in(s, kept) {
-        turns -= 1;
+fn operations_in<R: Read, W: Write>(
+    input: &mut R,
+    output: &mut W,
+    s: &[u8],
+    kept: &mut [u8],
+) -> io::Result<()> {
+    for _ in 0..1000000u32 {
+        if !operation_in(input, output, s, kept)? {
+            break;
+        }
     }
+    Ok(())
 }
 
 // A table, read into a lent buffer; whether there was one.
-fn table_in(head: &mut [u8], space: &mut [u8], kept: &mut [u8]) -> bool {
+fn table_in<R: Read, W: Write>(
+    input: &mut R,
+    output: &mut W,
+    head: &mut [u8],
+    space: &mut [u8],
+    kept: &mut [u8],
+) -> io::Result<bool> {
     if head.len() < 3 {
-        return false;
+        return Ok(false);
     }
-    if io::read_full(STDIN_FILENO, head) < 3 {
-        return false;
+    if read_full(input, head)? < 3 {
+        return Ok(false);
     }
     let n = number(head[0], head[1], head[2]);
     if space.len() < n {
-        return false;
+        return Ok(false);
     }
-    io::read_full(STDIN_FILENO, &mut space[..n]);
-    operations_in(&space[..n], kept);
-    true
+    read_full(input, &mut space[..n])?;
+    operations_in(input, output, &space[..n], kept)?;
+    Ok(true)
 }
 
-fn one_table(kept: &mut [u8]) -> bool {
+fn one_table<R: Read, W: Write>(
+    input: &mut R,
+    output: &mut W,
+    kept: &mut [u8],
+) -> io::Result<bool> {
     let mut head = [0u8; 3];
-    let mut space = io::large_buffer();
-    table_in(&mut head, &mut space, kept)
+    let mut space = [0u8; 65536];
+    table_in(input, output, &mut head, &mut space, kept)
 }
 
-// The loop counts its turns down, since a proved loop has to end: there are far fewer tables.
-fn main() {
+// A proved loop has to end: there are far fewer tables.
+fn main(rt: HostRuntime) -> io::Result<()> {
+    let mut input = BufReader::new(rt.alloc(), rt.reader())?;
+    let mut output = BufWriter::new(rt.alloc(), io::writer(&rt))?;
     let mut kept = [0u8; 160];
-    let mut turns: u32 = 1000000;
-    while turns > 0 && one_table(&mut kept) {
-        turns -= 1;
+    for _ in 0..1000000u32 {
+        if !one_table(&mut input, &mut output, &mut kept)? {
+            break;
+        }
     }
+    output.flush()
 }

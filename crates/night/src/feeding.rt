@@ -3,6 +3,7 @@ ghost use Rattle.std.specs.Prelude.{length};
 ghost use Rattle.replay.specs.Theorems.{Running};
 
 use replay::{Replay, feed};
+use std::io::Read;
 
 // Whether the file may go on, whether it could not be read, and the replay.
 #[derive(Clone, Copy)]
@@ -21,21 +22,29 @@ fn goes_on(n: usize, stopped: bool) -> bool {
 }
 
 // Reads once and plays what came. Where the file can't be read, that is said.
-fn feed_some(table: &[u8], values: &mut [u8], outbox: &mut [u8], replay: Replay, fd: i32) -> Turn
+fn feed_some<R: Read>(
+    rt: &impl Eprint,
+    table: &[u8],
+    values: &mut [u8],
+    outbox: &mut [u8],
+    replay: Replay,
+    trace: &mut R,
+) -> Turn
     requires { Running table.now (length outbox.old) replay values.old }
     ensures { Running table.now (length outbox.old) result.replay values.new }
 {
-    let mut buffer = io::buffer();
-    let got = libc::read(fd, &mut buffer);
-    if got < 0 {
-        os::fail(b"night: the trace");
-        return Turn {
-            more: false,
-            failed: true,
-            replay,
-        };
-    }
-    let n = io::count(got, &buffer);
+    let mut buffer = [0u8; 4096];
+    let n = match trace.read(&mut buffer) {
+        Ok(n) => n,
+        Err(e) => {
+            let _ = eprintln!(rt; "night: the trace: {e}");
+            return Turn {
+                more: false,
+                failed: true,
+                replay,
+            };
+        }
+    };
     let next = feed(table, values, outbox, replay, &buffer[..n]);
     Turn {
         more: goes_on(n, next.reader.stopped),
@@ -46,12 +55,13 @@ fn feed_some(table: &[u8], values: &mut [u8], outbox: &mut [u8], replay: Replay,
 
 // All of the file, up to a wrong record. A proved loop has to end, and nothing says that a file does: it counts its turns down, from a number that no run
 // uses up.
-pub(crate) fn feed_all(
+pub(crate) fn feed_all<R: Read>(
+    rt: &impl Eprint,
     table: &[u8],
     values: &mut [u8],
     outbox: &mut [u8],
     replay: Replay,
-    fd: i32,
+    trace: &mut R,
 ) -> Turn
     requires { Running table.now (length outbox.old) replay values.old }
     ensures { Running table.now (length outbox.old) result.replay values.new }
@@ -59,7 +69,7 @@ pub(crate) fn feed_all(
     let mut next = replay;
     let mut turns: u64 = 18446744073709551615;
     while turns > 0 {
-        let turn = feed_some(table, values, outbox, next, fd);
+        let turn = feed_some(rt, table, values, outbox, next, trace);
         next = turn.replay;
         if !turn.more {
             return turn;

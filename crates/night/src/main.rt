@@ -10,10 +10,12 @@ ghost use Rattle.summary.specs.Clauses.Figured.{Tellable};
 
 use feeding::feed_all;
 use figures::Figures;
-use files::{is_at_end, open_argument};
-use libc::{STDERR_FILENO, STDOUT_FILENO};
+use files::{open_argument, read_table};
 use limits::{OUTBOX, VALUES};
 use replay::begin;
+use std::io::Read;
+use std::rt::Files;
+use std::{env, io};
 use summary::figured::put_figures;
 use summary::{put_start, put_summary};
 use time::{Time, time_argument};
@@ -30,63 +32,73 @@ fn outbox() -> [u8; OUTBOX] {
 }
 
 // M-111's lines, "after all of M-110's lines".
-fn tell_figures(table: &[u8], outbox: &mut [u8], figures: Figures)
+fn tell_figures(
+    rt: &impl Print,
+    table: &[u8],
+    outbox: &mut [u8],
+    figures: Figures,
+) -> io::Result<()>
     requires { Tellable table.now figures outbox.old }
 {
     let size = put_figures(table, outbox, figures);
-    io::write_all(STDOUT_FILENO, &outbox[..size]);
+    rt.write_all(&outbox[..size])
 }
 
-// The replay of the trace that is open as `fd`.
-fn night(table: &[u8], time: u64, fd: i32) {
+// The replay of an open trace.
+fn night<F: Read>(
+    rt: &(impl Print + Eprint),
+    table: &[u8],
+    time: u64,
+    trace: &mut F,
+) -> io::Result<()> {
     let mut values = values_area();
     let mut outbox = outbox();
     let started = begin(table, &values, time);
     let number = started.number as u64;
     if number != 0 {
         let size = put_start(&mut outbox, number);
-        io::write_all(STDOUT_FILENO, &outbox[..size]);
-        return;
+        return rt.write_all(&outbox[..size]);
     }
     let first = started.replay;
-    let fed = feed_all(table, &mut values, &mut outbox, first, fd);
+    let fed = feed_all(rt, table, &mut values, &mut outbox, first, trace);
     if fed.failed {
-        return;
+        return Ok(());
     }
     let last = fed.replay;
     let size = put_summary(table, &values, &mut outbox, last);
-    io::write_all(STDOUT_FILENO, &outbox[..size]);
+    rt.write_all(&outbox[..size])?;
     let figures = last.figures;
-    tell_figures(table, &mut outbox, figures);
+    tell_figures(rt, table, &mut outbox, figures)
 }
 
 // Both files are opened and the table is read before anything is written.
-fn main() {
-    if os::arg_count() != 4 {
-        io::write_all(STDERR_FILENO, b"usage: night TABLE TIME TRACE\n");
-        return;
-    }
-    let Time::At(time) = time_argument() else {
-        io::write_all(
-            STDERR_FILENO,
-            b"night: TIME is not in decimal digits, 64 at most\n",
-        );
-        return;
+fn run<R: Files + Print + Eprint>(rt: &R, table: &str, time: u64, trace: &str) -> io::Result<()> {
+    let Some(mut from) = open_argument(rt, table) else {
+        return Ok(());
     };
-    let from = open_argument(1);
-    if from < 0 {
-        return;
-    }
-    let mut table = [0u8; TABLE];
-    let size = io::read_full(from, &mut table);
-    if size < TABLE && !is_at_end(from) {
-        return;
-    }
-    libc::close(from);
-    let trace = open_argument(3);
-    if trace < 0 {
-        return;
-    }
-    night(&table[..size], time, trace);
-    libc::close(trace);
+    let mut space = [0u8; TABLE];
+    let Some(size) = read_table(rt, &mut from, &mut space) else {
+        return Ok(());
+    };
+    let Some(mut trace) = open_argument(rt, trace) else {
+        return Ok(());
+    };
+    night(rt, &space[..size], time, &mut trace)
+}
+
+fn main(rt: HostRuntime) -> io::Result<()> {
+    let mut args = env::args(&rt)?;
+    args.next();
+    let (Some(table), Some(time), Some(trace), None) = (
+        args.next(),
+        args.next(),
+        args.next(),
+        args.next(),
+    ) else {
+        return eprintln!(rt; "usage: night TABLE TIME TRACE");
+    };
+    let Time::At(time) = time_argument(time.as_str()) else {
+        return eprintln!(rt; "night: TIME is not in decimal digits, 64 at most");
+    };
+    run(&rt, table.as_str(), time, trace.as_str())
 }

@@ -23,26 +23,23 @@ fn time_of(text: &[u8]) -> Time {
         return Time::Bad;
     }
     let mut n: u64 = 0;
-    let mut i = 0;
-    while i < text.len() {
-        let b = text[i];
-        if b < b'0' {
+    for b in text {
+        if *b < b'0' {
             return Time::Bad;
         }
-        if b > b'9' {
+        if *b > b'9' {
             return Time::Bad;
         }
-        n = with_digit(n, b - b'0');
-        i += 1;
+        n = with_digit(n, *b - b'0');
     }
     Time::At(n)
 }
 
-pub(crate) fn time_argument() -> Time {
-    let mut text = [0u8; 64];
-    let length = os::arg(2, &mut text);
-    if os::errno() != 0 {
+// Of an argument; more than 64 digits are not read.
+pub(crate) fn time_argument(text: &str) -> Time {
+    let bytes = text.as_bytes();
+    if bytes.len() > 64 {
         return Time::Bad;
     }
-    time_of(&text[..length])
+    time_of(bytes)
 }

@@ -13,12 +13,14 @@
 //   w        the values area has the bytes from the place number on
 //   E        write the state, with so many parameters
 //   N        write the bytes as a line
-ghost use Rattle.std.specs.Prelude.{◌≡◌, ◌⊎◌, ◌≤◌, get_or};
+ghost use Rattle.std.specs.Prelude.{◌≡◌, ◌⊎◌, ◌≤◌, IfOk, get_or};
 ghost use Rattle.script.specs.Clauses.Head.{number_at, FromHead};
 
 use ascii::Unsigned;
 use ascii::numbers::unsigned;
-use libc::STDIN_FILENO;
+use input::read_full;
+use std::io;
+use std::io::Read;
 
 // What a head says. Code 0 is the end of the script.
 #[derive(Clone, Copy)]
@@ -62,16 +64,16 @@ fn code_of(head: &[u8; 23], count: usize) -> u8
 }
 
 // The next head, read into a lent buffer. Which bytes come from standard input no promise can say.
-pub fn read_operation(head: &mut [u8; 23]) -> Operation
-    ensures { FromHead head.new result }
+pub fn read_operation<R: Read>(input: &mut R, head: &mut [u8; 23]) -> io::Result<Operation>
+    ensures { IfOk result (FromHead head.new) }
 {
-    let count = io::read_full(STDIN_FILENO, head);
-    Operation {
+    let count = read_full(input, head)?;
+    Ok(Operation {
         code: code_of(head, count),
         number: number_at(head, 1, 8),
         time: number_at(head, 9, 8),
         values: number_at(head, 17, 2) as usize,
         outbox: number_at(head, 19, 2) as usize,
         size: number_at(head, 21, 2) as usize,
-    }
+    })
 }

@@ -7,10 +7,11 @@ ghost use Rattle.script.specs.Clauses.Pattern.{Filled};
 
 use crate::operation::Operation;
 use crate::poke::blank;
-use libc::STDOUT_FILENO;
 use limits::{ACCESSIBLES, CLIENTS, LINE};
 use promise::Done;
 use state::{Clients, Settings, State};
+use std::io;
+use std::io::Write;
 
 // The pattern that stands in an outbox before a call.
 pub fn fill(outbox: &mut [u8])
@@ -31,70 +32,52 @@ fn with_digit(sum: u64, b: u8) -> u64 {
 // The bytes as digits of a number in base 257, the remainder by 2 to the 40th.
 fn digest(s: &[u8]) -> u64 {
     let mut sum: u64 = 0;
-    let mut i = 0;
-    while i < s.len() {
-        sum = with_digit(sum, s[i]);
-        i += 1;
+    for b in s {
+        sum = with_digit(sum, *b);
     }
     sum % 1099511627776
 }
 
-fn write_byte(b: u8) {
+fn write_byte<W: Write>(output: &mut W, b: u8) -> io::Result<()> {
     if 31 < b && b < 127 && b != b'\\' {
         let one = [b; 1];
-        io::write_all(STDOUT_FILENO, &one);
-        return;
+        return output.write_all(&one);
     }
-    io::write_all(STDOUT_FILENO, b"\\");
-    io::print_hex(STDOUT_FILENO, b as u64, 2);
+    write!(output, "\\{b:02x}")
 }
 
-fn write_bytes(s: &[u8]) {
-    let mut i = 0;
-    while i < s.len() {
-        write_byte(s[i]);
-        i += 1;
+fn write_bytes<W: Write>(output: &mut W, s: &[u8]) -> io::Result<()> {
+    for b in s {
+        write_byte(output, *b)?;
     }
+    Ok(())
 }
 
 // So many bytes from a place on, if they are there.
-fn write_part(s: &[u8], from: usize, size: usize) {
+fn write_part<W: Write>(output: &mut W, s: &[u8], from: usize, size: usize) -> io::Result<()> {
     if s.len() < from {
-        return;
+        return Ok(());
     }
     if s.len() - from < size {
-        return;
+        return Ok(());
     }
     let to = from + size;
-    write_bytes(&s[from..to]);
+    write_bytes(output, &s[from..to])
 }
 
 // A space and a number.
-fn write_number(n: u64) {
-    io::write_all(STDOUT_FILENO, b" ");
-    io::print_decimal(STDOUT_FILENO, n);
+fn write_number<W: Write>(output: &mut W, n: u64) -> io::Result<()> {
+    write!(output, " {n}")
 }
 
-fn write_name(code: u8) {
+fn write_name<W: Write>(output: &mut W, code: u8) -> io::Result<()> {
     match code {
-        b'S' => {
-            io::write_all(STDOUT_FILENO, b"start");
-        }
-        b'O' => {
-            io::write_all(STDOUT_FILENO, b"open");
-        }
-        b'C' => {
-            io::write_all(STDOUT_FILENO, b"close");
-        }
-        b'P' => {
-            io::write_all(STDOUT_FILENO, b"piece");
-        }
-        b'R' => {
-            io::write_all(STDOUT_FILENO, b"reading");
-        }
-        _ => {
-            io::write_all(STDOUT_FILENO, b"unreadable");
-        }
+        b'S' => output.write_all(b"start"),
+        b'O' => output.write_all(b"open"),
+        b'C' => output.write_all(b"close"),
+        b'P' => output.write_all(b"piece"),
+        b'R' => output.write_all(b"reading"),
+        _ => output.write_all(b"unreadable"),
     }
 }
 
@@ -102,12 +85,10 @@ fn same_bytes(a: &[u8], b: &[u8]) -> bool {
     if a.len() != b.len() {
         return false;
     }
-    let mut i = 0;
-    while i < a.len() {
+    for i in 0..a.len() {
         if a[i] != b[i] {
             return false;
         }
-        i += 1;
     }
     true
 }
@@ -135,12 +116,10 @@ fn same_lines(a: Clients, b: Clients) -> bool {
 }
 
 fn same_clients(a: Clients, b: Clients) -> bool {
-    let mut c = 0;
-    while c < CLIENTS {
+    for c in 0..CLIENTS {
         if !same_client(a, b, c) {
             return false;
         }
-        c += 1;
     }
     same_lines(a, b)
 }
@@ -159,12 +138,10 @@ fn same_setting(a: Settings, b: Settings, k: usize) -> bool {
 }
 
 fn same_settings(a: Settings, b: Settings) -> bool {
-    let mut k = 0;
-    while k < ACCESSIBLES {
+    for k in 0..ACCESSIBLES {
         if !same_setting(a, b, k) {
             return false;
         }
-        k += 1;
     }
     true
 }
@@ -185,12 +162,10 @@ fn same_count(a: State, b: State, c: usize) -> bool {
 }
 
 fn same_counts(a: State, b: State) -> bool {
-    let mut c = 0;
-    while c < CLIENTS {
+    for c in 0..CLIENTS {
         if !same_count(a, b, c) {
             return false;
         }
-        c += 1;
     }
     true
 }
@@ -202,59 +177,67 @@ fn same_parts(a: State, b: State) -> bool {
     same_settings(a.settings, b.settings)
 }
 
-fn write_kept(before: State, after: State) {
+fn write_kept<W: Write>(output: &mut W, before: State, after: State) -> io::Result<()> {
     if same_parts(before, after) {
         if same_counts(before, after) {
-            io::write_all(STDOUT_FILENO, b" kept\n");
-            return;
+            return output.write_all(b" kept\n");
         }
     }
-    io::write_all(STDOUT_FILENO, b" altered\n");
+    output.write_all(b" altered\n")
 }
 
 // The end of a refused call's line.
-fn write_refused(before: State, code: u8, after: State) {
+fn write_refused<W: Write>(
+    output: &mut W,
+    before: State,
+    code: u8,
+    after: State,
+) -> io::Result<()> {
     if code == b'S' {
-        write_kept(blank(), after);
-        return;
+        return write_kept(output, blank(), after);
     }
-    write_kept(before, after);
+    write_kept(output, before, after)
 }
 
 // The end of an accepted call's line.
-fn write_written(outbox: &[u8], written: usize) {
+fn write_written<W: Write>(output: &mut W, outbox: &[u8], written: usize) -> io::Result<()> {
     if outbox.len() < written {
-        io::write_all(STDOUT_FILENO, b" beyond\n");
-        return;
+        return output.write_all(b" beyond\n");
     }
     if written != 0 {
-        io::write_all(STDOUT_FILENO, b" ");
+        output.write_all(b" ")?;
     }
-    write_part(outbox, 0, written);
-    io::write_all(STDOUT_FILENO, b"\n");
+    write_part(output, outbox, 0, written)?;
+    output.write_all(b"\n")
 }
 
-pub fn write_answer(values: &[u8], outbox: &[u8], before: State, o: Operation, done: Done) {
+pub fn write_answer<W: Write>(
+    output: &mut W,
+    values: &[u8],
+    outbox: &[u8],
+    before: State,
+    o: Operation,
+    done: Done,
+) -> io::Result<()> {
     let code = o.code;
     let written = done.written;
-    write_name(code);
-    write_number(done.number as u64);
-    write_number(done.used as u64);
-    write_number(written as u64);
-    write_number(done.steps as u64);
-    write_number(digest(outbox));
-    write_number(digest(values));
+    write_name(output, code)?;
+    write_number(output, done.number as u64)?;
+    write_number(output, done.used as u64)?;
+    write_number(output, written as u64)?;
+    write_number(output, done.steps as u64)?;
+    write_number(output, digest(outbox))?;
+    write_number(output, digest(values))?;
     if done.number == 0 {
-        write_written(outbox, written);
-        return;
+        return write_written(output, outbox, written);
     }
-    write_refused(before, code, done.state);
+    write_refused(output, before, code, done.state)
 }
 
-pub fn write_note(bytes: &[u8]) {
-    io::write_all(STDOUT_FILENO, b"# ");
-    write_bytes(bytes);
-    io::write_all(STDOUT_FILENO, b"\n");
+pub fn write_note<W: Write>(output: &mut W, bytes: &[u8]) -> io::Result<()> {
+    output.write_all(b"# ")?;
+    write_bytes(output, bytes)?;
+    output.write_all(b"\n")
 }
 
 // Casts of their own: of an argument it is known that it fits, of a number in an array it would have to be proved.
@@ -276,92 +259,89 @@ fn flag(b: u8) -> u64 {
 }
 
 // The unfinished line of a client, if it has one that is within bounds.
-fn write_line(s: Clients, c: usize) {
+fn write_line<W: Write>(output: &mut W, s: Clients, c: usize) -> io::Result<()> {
     if 7 < c {
-        return;
+        return Ok(());
     }
     let length = s.length[c];
     if length == 0 || 1024 < length {
-        return;
+        return Ok(());
     }
     let lines = s.lines;
-    io::write_all(STDOUT_FILENO, b" ");
-    write_part(&lines, LINE * c, size(length));
+    output.write_all(b" ")?;
+    write_part(output, &lines, LINE * c, size(length))
 }
 
-fn write_client(s: Clients, c: usize) {
+fn write_client<W: Write>(output: &mut W, s: Clients, c: usize) -> io::Result<()> {
     if 7 < c {
-        return;
+        return Ok(());
     }
-    io::write_all(STDOUT_FILENO, b"client");
-    write_number(c as u64);
-    write_number(flag(s.open[c]));
-    write_number(flag(s.overlong[c]));
-    write_number(wide(s.active[c]));
-    write_number(wide(s.length[c]));
-    write_line(s, c);
-    io::write_all(STDOUT_FILENO, b"\n");
+    output.write_all(b"client")?;
+    write_number(output, c as u64)?;
+    write_number(output, flag(s.open[c]))?;
+    write_number(output, flag(s.overlong[c]))?;
+    write_number(output, wide(s.active[c]))?;
+    write_number(output, wide(s.length[c]))?;
+    write_line(output, s, c)?;
+    output.write_all(b"\n")
 }
 
-fn write_parameter(s: Settings, k: usize) {
+fn write_parameter<W: Write>(output: &mut W, s: Settings, k: usize) -> io::Result<()> {
     if 63 < k {
-        return;
+        return Ok(());
     }
-    io::write_all(STDOUT_FILENO, b"parameter");
-    write_number(k as u64);
-    write_number(wide(s.length[k]));
-    write_number(class(s.error[k]));
-    write_number(s.time[k]);
-    io::write_all(STDOUT_FILENO, b"\n");
+    output.write_all(b"parameter")?;
+    write_number(output, k as u64)?;
+    write_number(output, wide(s.length[k]))?;
+    write_number(output, class(s.error[k]))?;
+    write_number(output, s.time[k])?;
+    output.write_all(b"\n")
 }
 
-fn write_clients(s: Clients) {
-    let mut c = 0;
-    while c < CLIENTS {
-        write_client(s, c);
-        c += 1;
+fn write_clients<W: Write>(output: &mut W, s: Clients) -> io::Result<()> {
+    for c in 0..CLIENTS {
+        write_client(output, s, c)?;
     }
+    Ok(())
 }
 
-fn write_parameters(s: Settings, count: u64) {
-    let mut k = 0;
-    while k < ACCESSIBLES {
+fn write_parameters<W: Write>(output: &mut W, s: Settings, count: u64) -> io::Result<()> {
+    for k in 0..ACCESSIBLES {
         if k as u64 >= count {
-            return;
+            return Ok(());
         }
-        write_parameter(s, k);
-        k += 1;
+        write_parameter(output, s, k)?;
     }
+    Ok(())
 }
 
 fn long(n: u32) -> u64 {
     n as u64
 }
 
-fn write_count(s: State, c: usize) {
+fn write_count<W: Write>(output: &mut W, s: State, c: usize) -> io::Result<()> {
     if 7 < c {
-        return;
+        return Ok(());
     }
     let one = s.counts[c];
-    io::write_all(STDOUT_FILENO, b"counts");
-    write_number(c as u64);
-    write_number(long(one.lines));
-    write_number(long(one.errors));
-    write_number(long(one.updates));
-    io::write_all(STDOUT_FILENO, b"\n");
+    output.write_all(b"counts")?;
+    write_number(output, c as u64)?;
+    write_number(output, long(one.lines))?;
+    write_number(output, long(one.errors))?;
+    write_number(output, long(one.updates))?;
+    output.write_all(b"\n")
 }
 
-fn write_counts(s: State) {
-    let mut c = 0;
-    while c < CLIENTS {
-        write_count(s, c);
-        c += 1;
+fn write_counts<W: Write>(output: &mut W, s: State) -> io::Result<()> {
+    for c in 0..CLIENTS {
+        write_count(output, s, c)?;
     }
+    Ok(())
 }
 
 // The state, with the first so many parameters.
-pub fn write_state(state: State, count: u64) {
-    write_clients(state.clients);
-    write_parameters(state.settings, count);
-    write_counts(state);
+pub fn write_state<W: Write>(output: &mut W, state: State, count: u64) -> io::Result<()> {
+    write_clients(output, state.clients)?;
+    write_parameters(output, state.settings, count)?;
+    write_counts(output, state)
 }

@@ -9,7 +9,9 @@ ghost use Rattle.report.specs.Judge.{table_number};
 
 use describe::judge::table_number;
 use describe::structure::{put_report, report_length};
-use libc::{STDIN_FILENO, STDOUT_FILENO};
+use input::read_full;
+use std::io;
+use std::io::{BufReader, BufWriter, Read, Write};
 
 fn number(high: u8, middle: u8, low: u8) -> usize {
     high as usize * 65536 + middle as usize * 256 + low as usize
@@ -19,26 +21,25 @@ fn number(high: u8, middle: u8, low: u8) -> usize {
 fn is_untouched(out: &[u8], from: usize, to: usize) -> bool
     requires { to ≤ length out.now }
 {
-    let mut i = from;
-    while i < to {
+    for i in from..to {
         if out[i] != 165 {
             return false;
         }
-        i += 1;
     }
     true
 }
 
 // No byte of a report is 165, so that one that was written before or after it would show.
-fn write_stray(out: &[u8], from: usize, to: usize)
+fn write_stray<W: Write>(output: &mut W, out: &[u8], from: usize, to: usize) -> io::Result<()>
     requires { (from ≤ length out.now) × (to ≤ length out.now) }
 {
     if !is_untouched(out, 0, from) {
-        io::write_all(STDOUT_FILENO, b" written before");
+        output.write_all(b" written before")?;
     }
     if !is_untouched(out, to, out.len()) {
-        io::write_all(STDOUT_FILENO, b" written after");
+        output.write_all(b" written after")?;
     }
+    Ok(())
 }
 
 // The report of an accepted table, put into the middle of a lent buffer: where it ends.
@@ -49,66 +50,75 @@ fn report_in(s: &[u8], out: &mut [u8]) -> usize
     put_report(out, 500, s)
 }
 
-fn write_length(s: &[u8])
+fn write_length<W: Write>(output: &mut W, s: &[u8]) -> io::Result<()>
     requires { table_number s.now ≡ 0 }
 {
-    searches::write_number(b" ", report_length(s));
+    searches::write_number(output, b" ", report_length(s))
 }
 
-fn write_report(s: &[u8], out: &mut [u8])
+fn write_report<W: Write>(output: &mut W, s: &[u8], out: &mut [u8]) -> io::Result<()>
     requires { (table_number s.now ≡ 0) × (33000 ≤ length out.old) }
 {
     let from = 500;
     let to = report_in(s, out);
-    write_length(s);
-    io::write_all(STDOUT_FILENO, b" ");
-    io::write_all(STDOUT_FILENO, &out[from..to]);
-    write_stray(out, from, to);
-    io::write_all(STDOUT_FILENO, b"\n");
+    write_length(output, s)?;
+    output.write_all(b" ")?;
+    output.write_all(&out[from..to])?;
+    write_stray(output, out, from, to)?;
+    output.write_all(b"\n")
 }
 
-fn write_judgement(s: &[u8], out: &mut [u8]) {
+fn write_judgement<W: Write>(output: &mut W, s: &[u8], out: &mut [u8]) -> io::Result<()> {
     if out.len() < 33000 {
-        return;
+        return Ok(());
     }
     let n = table_number(s);
-    io::print_decimal(STDOUT_FILENO, n as u64);
+    write!(output, "{n}")?;
     if n != 0 {
-        io::write_all(STDOUT_FILENO, b"\n");
-        return;
+        return output.write_all(b"\n");
     }
-    write_report(s, out);
+    write_report(output, s, out)
 }
 
 // A table, read into a lent buffer; whether there was one.
-fn table_in(head: &mut [u8], space: &mut [u8], out: &mut [u8]) -> bool {
+fn table_in<R: Read, W: Write>(
+    input: &mut R,
+    output: &mut W,
+    head: &mut [u8],
+    space: &mut [u8],
+    out: &mut [u8],
+) -> io::Result<bool> {
     if head.len() < 3 {
-        return false;
+        return Ok(false);
     }
-    if io::read_full(STDIN_FILENO, head) < 3 {
-        return false;
+    if read_full(input, head)? < 3 {
+        return Ok(false);
     }
     let n = number(head[0], head[1], head[2]);
     if space.len() < n {
-        return false;
+        return Ok(false);
     }
-    io::read_full(STDIN_FILENO, &mut space[..n]);
-    write_judgement(&space[..n], out);
-    searches::write_all_found(&space[..n]);
-    true
+    read_full(input, &mut space[..n])?;
+    write_judgement(output, &space[..n], out)?;
+    searches::write_all_found(input, output, &space[..n])?;
+    Ok(true)
 }
 
-fn one_table() -> bool {
+fn one_table<R: Read, W: Write>(input: &mut R, output: &mut W) -> io::Result<bool> {
     let mut head = [0u8; 3];
-    let mut space = io::large_buffer();
+    let mut space = [0u8; 65536];
     let mut out = [165u8; 33000];
-    table_in(&mut head, &mut space, &mut out)
+    table_in(input, output, &mut head, &mut space, &mut out)
 }
 
-// The loop counts its turns down, since a proved loop has to end: there are far fewer tables.
-fn main() {
-    let mut turns: u32 = 1000000;
-    while turns > 0 && one_table() {
-        turns -= 1;
+// A proved loop has to end: there are far fewer tables.
+fn main(rt: HostRuntime) -> io::Result<()> {
+    let mut input = BufReader::new(rt.alloc(), rt.reader())?;
+    let mut output = BufWriter::new(rt.alloc(), io::writer(&rt))?;
+    for _ in 0..1000000u32 {
+        if !one_table(&mut input, &mut output)? {
+            break;
+        }
     }
+    output.flush()
 }

@@ -1,207 +1,198 @@
 // What is found in a table. The searches in it follow it in the input, each begun by a letter that says which it is, and a byte 0 ends
 // them. A name is a length byte and its bytes. What is found is written one to a line.
+ghost use Rattle.std.specs.Prelude.{◌≤◌, IfOk, length};
 ghost use Rattle.table.specs.Layout.{Readable};
-ghost use Rattle.io.specs.Counts.{IsPrefixLen};
 
 use describe::judge::table_number;
-use libc::{STDIN_FILENO, STDOUT_FILENO};
+use input::{read_byte, read_full};
 use search::cursor::NextParameter;
 use search::find::{
     FoundCommand, FoundModule, FoundParameter, find_command, find_module, find_parameter,
     module_count, parameter_by_number,
 };
+use std::io;
+use std::io::{Read, Write};
 use table::layout::{CommandAt, ParameterAt, is_readable};
 
 // What stands before a number, and the number.
-pub(crate) fn write_number(label: &[u8], n: usize) {
-    io::write_all(STDOUT_FILENO, label);
-    io::print_decimal(STDOUT_FILENO, n as u64);
+pub(crate) fn write_number<W: Write>(output: &mut W, label: &[u8], n: usize) -> io::Result<()> {
+    output.write_all(label)?;
+    write!(output, "{n}")
 }
 
-fn write_nothing() {
-    io::write_all(STDOUT_FILENO, b"none\n");
+fn write_nothing<W: Write>(output: &mut W) -> io::Result<()> {
+    output.write_all(b"none\n")
 }
 
-fn write_module(number: usize, at: usize) {
-    write_number(b"module ", number);
-    write_number(b" at ", at);
-    io::write_all(STDOUT_FILENO, b"\n");
+fn write_module<W: Write>(output: &mut W, number: usize, at: usize) -> io::Result<()> {
+    write_number(output, b"module ", number)?;
+    write_number(output, b" at ", at)?;
+    output.write_all(b"\n")
 }
 
 // A parameter's number, its module's, and where its datainfo and its initial value lie.
-fn write_parameter(number: usize, home: usize, q: ParameterAt) {
-    write_number(b"parameter ", number);
-    write_number(b" of ", home);
+fn write_parameter<W: Write>(
+    output: &mut W,
+    number: usize,
+    home: usize,
+    q: ParameterAt,
+) -> io::Result<()> {
+    write_number(output, b"parameter ", number)?;
+    write_number(output, b" of ", home)?;
     if q.readonly {
-        io::write_all(STDOUT_FILENO, b" readonly");
+        output.write_all(b" readonly")?;
     }
     let initial = q.initial;
-    write_number(b" datainfo ", q.info);
-    write_number(b" initial ", initial.from);
-    write_number(b" to ", initial.to);
-    io::write_all(STDOUT_FILENO, b"\n");
+    write_number(output, b" datainfo ", q.info)?;
+    write_number(output, b" initial ", initial.from)?;
+    write_number(output, b" to ", initial.to)?;
+    output.write_all(b"\n")
 }
 
 // A command's number, its module's, and where its argument's datainfo lies, if it has one.
-fn write_command(number: usize, home: usize, q: CommandAt) {
-    write_number(b"command ", number);
-    write_number(b" of ", home);
+fn write_command<W: Write>(
+    output: &mut W,
+    number: usize,
+    home: usize,
+    q: CommandAt,
+) -> io::Result<()> {
+    write_number(output, b"command ", number)?;
+    write_number(output, b" of ", home)?;
     if q.argument {
-        write_number(b" argument ", q.info);
+        write_number(output, b" argument ", q.info)?;
     }
-    io::write_all(STDOUT_FILENO, b"\n");
-}
-
-fn byte_in() -> u8 {
-    let mut space = [0u8; 1];
-    io::read_full(STDIN_FILENO, &mut space);
-    space[0]
+    output.write_all(b"\n")
 }
 
 // A name, read to the front of a lent buffer; its length.
-fn name_in(space: &mut [u8]) -> usize
-    ensures { IsPrefixLen result space.new }
+fn name_in<R: Read>(input: &mut R, space: &mut [u8]) -> io::Result<usize>
+    ensures { IfOk result (λ n. n ≤ length space.new) }
 {
-    let n = byte_in() as usize;
+    let n = read_byte(input)? as usize;
     if space.len() < n {
-        return 0;
+        return Ok(0);
     }
-    io::read_full(STDIN_FILENO, &mut space[..n]);
-    n
+    read_full(input, &mut space[..n])?;
+    Ok(n)
 }
 
-fn find_module_in(s: &[u8])
+fn find_module_in<R: Read, W: Write>(input: &mut R, output: &mut W, s: &[u8]) -> io::Result<()>
     requires { Readable s.now }
 {
-    let mut name = io::buffer();
-    let n = name_in(&mut name);
+    let mut name = [0u8; 4096];
+    let n = name_in(input, &mut name)?;
     match find_module(s, &name[..n]) {
-        FoundModule::At(number, at) => {
-            write_module(number, at);
-        }
-        FoundModule::Nothing => {
-            write_nothing();
-        }
+        FoundModule::At(number, at) => write_module(output, number, at),
+        FoundModule::Nothing => write_nothing(output),
     }
 }
 
-fn find_parameter_in(s: &[u8])
+fn find_parameter_in<R: Read, W: Write>(input: &mut R, output: &mut W, s: &[u8]) -> io::Result<()>
     requires { Readable s.now }
 {
-    let mut module = io::buffer();
-    let mut name = io::buffer();
-    let m = name_in(&mut module);
-    let n = name_in(&mut name);
+    let mut module = [0u8; 4096];
+    let mut name = [0u8; 4096];
+    let m = name_in(input, &mut module)?;
+    let n = name_in(input, &mut name)?;
     match find_parameter(s, &module[..m], &name[..n]) {
-        FoundParameter::At(number, home, q) => {
-            write_parameter(number, home, q);
-        }
-        FoundParameter::Nothing => {
-            write_nothing();
-        }
+        FoundParameter::At(number, home, q) => write_parameter(output, number, home, q),
+        FoundParameter::Nothing => write_nothing(output),
     }
 }
 
-fn find_command_in(s: &[u8])
+fn find_command_in<R: Read, W: Write>(input: &mut R, output: &mut W, s: &[u8]) -> io::Result<()>
     requires { Readable s.now }
 {
-    let mut module = io::buffer();
-    let mut name = io::buffer();
-    let m = name_in(&mut module);
-    let n = name_in(&mut name);
+    let mut module = [0u8; 4096];
+    let mut name = [0u8; 4096];
+    let m = name_in(input, &mut module)?;
+    let n = name_in(input, &mut name)?;
     match find_command(s, &module[..m], &name[..n]) {
-        FoundCommand::At(number, home, q) => {
-            write_command(number, home, q);
-        }
-        FoundCommand::Nothing => {
-            write_nothing();
-        }
+        FoundCommand::At(number, home, q) => write_command(output, number, home, q),
+        FoundCommand::Nothing => write_nothing(output),
     }
 }
 
 // The parameter of a number, which is a byte.
-fn find_number_in(s: &[u8])
+fn find_number_in<R: Read, W: Write>(input: &mut R, output: &mut W, s: &[u8]) -> io::Result<()>
     requires { Readable s.now }
 {
-    let k = byte_in() as usize;
+    let k = read_byte(input)? as usize;
     match parameter_by_number(s, k) {
         NextParameter::At(q, e) => {
             let home = e.modules - 1;
-            write_parameter(k, home, q);
+            write_parameter(output, k, home, q)
         }
-        NextParameter::End => {
-            write_nothing();
-        }
+        NextParameter::End => write_nothing(output),
     }
 }
 
-fn count_modules(s: &[u8])
+fn count_modules<W: Write>(output: &mut W, s: &[u8]) -> io::Result<()>
     requires { Readable s.now }
 {
-    write_number(b"modules ", module_count(s));
-    io::write_all(STDOUT_FILENO, b"\n");
+    write_number(output, b"modules ", module_count(s))?;
+    output.write_all(b"\n")
 }
 
 // The table's number, judged 1,000 times, to measure how long that takes.
 fn judged_again(s: &[u8]) -> u8 {
     let mut n = 0;
-    let mut turns: u32 = 1000;
-    while turns > 0 {
+    for _ in 0..1000u32 {
         n = table_number(s);
-        turns -= 1;
     }
     n
 }
 
-fn judge_again(s: &[u8]) {
-    write_number(b"again ", judged_again(s) as usize);
-    io::write_all(STDOUT_FILENO, b"\n");
+fn judge_again<W: Write>(output: &mut W, s: &[u8]) -> io::Result<()> {
+    write_number(output, b"again ", judged_again(s) as usize)?;
+    output.write_all(b"\n")
 }
 
 // One search of a kind in a table that can be read; whether there is such a kind.
-fn write_search(s: &[u8], kind: u8) -> bool
+fn write_search<R: Read, W: Write>(
+    input: &mut R,
+    output: &mut W,
+    s: &[u8],
+    kind: u8,
+) -> io::Result<bool>
     requires { Readable s.now }
 {
     match kind {
-        b'm' => {
-            find_module_in(s);
-        }
-        b'p' => {
-            find_parameter_in(s);
-        }
-        b'c' => {
-            find_command_in(s);
-        }
-        b'n' => {
-            find_number_in(s);
-        }
-        b'k' => {
-            count_modules(s);
-        }
+        b'm' => find_module_in(input, output, s)?,
+        b'p' => find_parameter_in(input, output, s)?,
+        b'c' => find_command_in(input, output, s)?,
+        b'n' => find_number_in(input, output, s)?,
+        b'k' => count_modules(output, s)?,
         _ => {
-            return false;
+            return Ok(false);
         }
     }
-    true
+    Ok(true)
 }
 
 // One search, or the table judged again; whether there was one. In a table that can't be read nothing is sought.
-fn write_found(s: &[u8]) -> bool {
-    let kind = byte_in();
+fn write_found<R: Read, W: Write>(input: &mut R, output: &mut W, s: &[u8]) -> io::Result<bool> {
+    let kind = read_byte(input)?;
     if kind == b'j' {
-        judge_again(s);
-        return true;
+        judge_again(output, s)?;
+        return Ok(true);
     }
     if is_readable(s) {
-        return write_search(s, kind);
+        return write_search(input, output, s, kind);
     }
-    false
+    Ok(false)
 }
 
 // Each search that follows a table; there are far fewer than a million.
-pub(crate) fn write_all_found(s: &[u8]) {
-    let mut turns: u32 = 1000000;
-    while turns > 0 && write_found(s) {
-        turns -= 1;
+pub(crate) fn write_all_found<R: Read, W: Write>(
+    input: &mut R,
+    output: &mut W,
+    s: &[u8],
+) -> io::Result<()> {
+    for _ in 0..1000000u32 {
+        if !write_found(input, output, s)? {
+            break;
+        }
     }
+    Ok(())
 }

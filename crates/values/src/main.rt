@@ -8,94 +8,117 @@ ghost use Rattle.form.specs.Clauses.Formed.{FitsAt};
 
 use ascii::Next;
 use fit::Verdict;
-use libc::{STDIN_FILENO, STDOUT_FILENO};
+use input::read_full;
 use limits::{DATAINFO_LEVELS, PLACE};
+use std::io;
+use std::io::{BufReader, BufWriter, Read, Write};
 
 fn number(high: u8, low: u8) -> usize {
     high as usize * 256 + low as usize
 }
 
 // The buffer has room for the 256 bytes of a stored form, so the test passes.
-fn write_fit(info: &[u8], text: &[u8], stored: &mut [u8])
+fn write_fit<W: Write>(
+    output: &mut W,
+    info: &[u8],
+    text: &[u8],
+    stored: &mut [u8],
+) -> io::Result<()>
     requires { FitsAt info.now 0 text.now }
 {
     if PLACE <= stored.len() {
         let n = form::put_form(info, 0, stored, 0, text);
-        io::write_all(STDOUT_FILENO, b"fits ");
-        io::write_all(STDOUT_FILENO, &stored[..n]);
-        io::write_all(STDOUT_FILENO, b"\n");
+        output.write_all(b"fits ")?;
+        output.write_all(&stored[..n])?;
+        output.write_all(b"\n")?;
     }
+    Ok(())
 }
 
-fn write_verdict(info: &[u8], text: &[u8], stored: &mut [u8])
+fn write_verdict<W: Write>(
+    output: &mut W,
+    info: &[u8],
+    text: &[u8],
+    stored: &mut [u8],
+) -> io::Result<()>
     requires { ReadableAt info.now 0 4 }
 {
     match form::verdict(info, 0, text) {
-        Verdict::Fits => {
-            write_fit(info, text, stored);
-        }
-        Verdict::RangeError => {
-            io::write_all(STDOUT_FILENO, b"RangeError\n");
-        }
-        Verdict::WrongType => {
-            io::write_all(STDOUT_FILENO, b"WrongType\n");
-        }
-        Verdict::BadJson => {
-            io::write_all(STDOUT_FILENO, b"BadJSON\n");
-        }
+        Verdict::Fits => write_fit(output, info, text, stored),
+        Verdict::RangeError => output.write_all(b"RangeError\n"),
+        Verdict::WrongType => output.write_all(b"WrongType\n"),
+        Verdict::BadJson => output.write_all(b"BadJSON\n"),
     }
 }
 
-fn judge_case(info: &[u8], text: &[u8], stored: &mut [u8]) {
+fn judge_case<W: Write>(
+    output: &mut W,
+    info: &[u8],
+    text: &[u8],
+    stored: &mut [u8],
+) -> io::Result<()> {
     match datainfo::layout::datainfo_end(info, 0, DATAINFO_LEVELS) {
-        Next::At(_) => {
-            write_verdict(info, text, stored);
-        }
-        Next::Bad => {
-            io::write_all(STDOUT_FILENO, b"no datainfo\n");
-        }
+        Next::At(_) => write_verdict(output, info, text, stored),
+        Next::Bad => output.write_all(b"no datainfo\n"),
     }
 }
 
 // The bytes of a case whose lengths were read.
-fn read_case(info: &mut [u8], text: &mut [u8], stored: &mut [u8]) {
-    io::read_full(STDIN_FILENO, info);
-    io::read_full(STDIN_FILENO, text);
-    judge_case(info, text, stored);
+fn read_case<R: Read, W: Write>(
+    input: &mut R,
+    output: &mut W,
+    info: &mut [u8],
+    text: &mut [u8],
+    stored: &mut [u8],
+) -> io::Result<()> {
+    read_full(input, info)?;
+    read_full(input, text)?;
+    judge_case(output, info, text, stored)
 }
 
 // A case, read into lent buffers; whether there was one.
-fn case_in(head: &mut [u8], info: &mut [u8], text: &mut [u8], stored: &mut [u8]) -> bool {
+fn case_in<R: Read, W: Write>(
+    input: &mut R,
+    output: &mut W,
+    head: &mut [u8],
+    info: &mut [u8],
+    text: &mut [u8],
+    stored: &mut [u8],
+) -> io::Result<bool> {
     if head.len() < 4 {
-        return false;
+        return Ok(false);
     }
-    if io::read_full(STDIN_FILENO, head) < 4 {
-        return false;
+    if read_full(input, head)? < 4 {
+        return Ok(false);
     }
     let n = number(head[0], head[1]);
     let m = number(head[2], head[3]);
     if info.len() < n {
-        return false;
+        return Ok(false);
     }
     if text.len() < m {
-        return false;
+        return Ok(false);
     }
-    read_case(&mut info[..n], &mut text[..m], stored);
-    true
+    read_case(input, output, &mut info[..n], &mut text[..m], stored)?;
+    Ok(true)
 }
 
-fn one_case() -> bool {
+fn one_case<R: Read, W: Write>(input: &mut R, output: &mut W) -> io::Result<bool> {
     let mut head = [0u8; 4];
-    let mut info = io::buffer();
-    let mut text = io::buffer();
-    let mut stored = io::buffer();
-    case_in(&mut head, &mut info, &mut text, &mut stored)
+    let mut info = [0u8; 4096];
+    let mut text = [0u8; 4096];
+    let mut stored = [0u8; 4096];
+    case_in(input, output, &mut head, &mut info, &mut text, &mut stored)
 }
 
-// The loop counts its turns down, since a proved loop has to end: there are far fewer cases.
-fn main() {
-    let mut turns: u32 = 1000000;
-    while turns > 0 && one_case() {
-        turns -= 1;
+// A proved loop has to end: there are far fewer cases.
+fn main(rt: HostRuntime) -> io::Result<()> {
+    let mut input = BufReader::new(rt.alloc(), rt.reader())?;
+    let mut output = BufWriter::new(rt.alloc(), io::writer(&rt))?;
+    for _ in 0..1000000u32 {
+        if !one_case(&mut input, &mut output)? {
+            break;
+        }
     }
+    output.flush()
 }
