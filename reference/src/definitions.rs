@@ -5,10 +5,10 @@ use crate::history::{Answer, Call, History};
 
 const HEADER: &str = "\
 -- Histories that the reference program generated, with the answers that it gives. Printed by it; not edited by hand. Assumes nothing.
-use mathlib.Core.List.{List, [], _∷_}
-use Rattle·ascii.specs.Text.{bytes}
-use Rattle·plain.specs.Calls.{Open, Close, Piece, Reading, Unreadable, withArea, withOutbox, beside}
-use Rattle·examples·specs.specs.Told.{History}
+use Rattle.std.specs.Prelude.{List, [], ◌∷◌}
+use Rattle.ascii.specs.Text.{bytes}
+use Rattle.plain.specs.Calls.{Open, Close, Piece, Reading, Unreadable, with_area, with_outbox, beside}
+use Rattle.examples.specs.Told.{History}
 ";
 
 /// A file that defines the histories. Each begins with its only start, which
@@ -19,7 +19,7 @@ pub fn print(histories: &[History]) -> Option<String> {
         text += &format!("\n{}", definition(at + 1, history)?);
     }
     let names = (1..=histories.len())
-        .map(|number| format!("history-{number} ∷ "))
+        .map(|number| format!("history_{number} ∷ "))
         .collect::<String>();
     Some(text + &format!("\nunfoldable pub histories : List History\nhistories = {names}[]\n"))
 }
@@ -36,8 +36,8 @@ fn definition(number: usize, history: &History) -> Option<String> {
         .collect();
     let calls = lent(calls);
     Some(format!(
-        "unfoldable pub history-{number} : History\n\
-         history-{number} =\n    record {{\n      table = {};\n      area = {values_len};\n      time = {time};\n      start = {};\n      \
+        "unfoldable pub history_{number} : History\n\
+         history_{number} =\n    record {{\n      table = {};\n      area = {values_len};\n      time = {time};\n      start = {};\n      \
          calls =\n          {};\n      due =\n          {};\n    }}\n",
         bytes(&history.table),
         answers[0].number,
@@ -75,12 +75,12 @@ fn call(call: &Call) -> Option<String> {
             client,
             values_len,
             time,
-        } => format!("withArea (Open {client} {time}) {values_len}"),
+        } => format!("with_area (Open {client} {time}) {values_len}"),
         Call::Close {
             client,
             values_len,
             time,
-        } => format!("withArea (Close {client} {time}) {values_len}"),
+        } => format!("with_area (Close {client} {time}) {values_len}"),
         Call::Piece {
             client,
             values_len,
@@ -88,7 +88,7 @@ fn call(call: &Call) -> Option<String> {
             time,
             bytes: offered,
         } => format!(
-            "withOutbox (Piece {client} ({}) {time}) {values_len} {outbox_len}",
+            "with_outbox (Piece {client} ({}) {time}) {values_len} {outbox_len}",
             bytes(offered)
         ),
         Call::Reading {
@@ -98,7 +98,7 @@ fn call(call: &Call) -> Option<String> {
             time,
             text,
         } => format!(
-            "withOutbox (Reading {parameter} ({}) {time}) {values_len} {outbox_len}",
+            "with_outbox (Reading {parameter} ({}) {time}) {values_len} {outbox_len}",
             bytes(text)
         ),
         Call::Unreadable {
@@ -108,7 +108,7 @@ fn call(call: &Call) -> Option<String> {
             time,
             class,
         } => {
-            format!("withOutbox (Unreadable {parameter} {class} {time}) {values_len} {outbox_len}")
+            format!("with_outbox (Unreadable {parameter} {class} {time}) {values_len} {outbox_len}")
         }
     })
 }

@@ -249,17 +249,17 @@ fn definitions_of_a_refused_start() {
     };
     // No module: number 2, for every call.
     let expected = r#"
-unfoldable pub history-1 : History
-history-1 =
+unfoldable pub history_1 : History
+history_1 =
     record {
       table = bytes "ND\0\0EN";
       area = 16384;
       time = 5;
       start = 2;
       calls =
-          withArea (Open 7 6) 1
-          ∷ withOutbox (Piece 0 (bytes "'\\u{0}\"\0\u{7f}\n") 7) 2 3
-          ∷ beside (bytes "ÿ1") (withArea (Close 7 8) 1)
+          with_area (Open 7 6) 1
+          ∷ with_outbox (Piece 0 (bytes "'\\u{0}\"\0\u{7f}\n") 7) 2 3
+          ∷ beside (bytes "ÿ1") (with_area (Close 7 8) 1)
           ∷ [];
       due =
           record { number = 2; used = 0; written = bytes ""; steps = 0 }
@@ -269,7 +269,7 @@ history-1 =
     }
 
 unfoldable pub histories : List History
-histories = history-1 ∷ []
+histories = history_1 ∷ []
 "#;
     let printed = definitions::print(std::slice::from_ref(&history)).expect("one start");
     assert!(printed.ends_with(expected), "{printed}");
@@ -284,9 +284,9 @@ histories = history-1 ∷ []
 fn definitions_count_seeds_and_directed_histories() {
     let names = printed(&["directed"], "").lines().count();
     let printed = printed(&["definitions", "1", "directed", "3"], "");
-    let defined = printed.matches("\nunfoldable pub history-").count();
+    let defined = printed.matches("\nunfoldable pub history_").count();
     assert_eq!(defined, names + 2);
-    let last = format!("\nunfoldable pub history-{} : History\n", names + 2);
+    let last = format!("\nunfoldable pub history_{} : History\n", names + 2);
     assert!(printed.contains(&last));
 }
 
