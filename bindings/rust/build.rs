@@ -1,5 +1,5 @@
 //! Links the library: `libjihfasul.a`, as `./install` names it, or `libnode.a`,
-//! as `rt staticlib node` writes it, from the folder that `JIHFASUL_LIB_DIR`
+//! as `./evening` and `./test` build it, from the folder that `JIHFASUL_LIB_DIR`
 //! names, else from `target/staticlib` at the top of the repository.
 
 use std::env;
@@ -20,7 +20,7 @@ fn main() {
     let there = |name: &&str| folder.join(format!("lib{name}.a")).is_file();
     let Some(name) = NAMES.into_iter().find(there) else {
         let path = folder.display();
-        eprintln!("no library in {path}: run `rt staticlib node`, or set {FOLDER}");
+        eprintln!("no library in {path}: run `./evening`, which builds it, or set {FOLDER}");
         std::process::exit(1);
     };
     println!("cargo:rustc-link-search=native={}", folder.display());
