@@ -1,6 +1,4 @@
-pub mod Again
 pub mod Begun
-pub mod Hand
 pub mod Opens
 pub mod Reading
 pub mod Refused

@@ -11,8 +11,7 @@ use state::client::{closed, is_open, opened};
 use state::count::cleared;
 
 // "Open begins with an empty line and nothing active".
-#[unsafe(no_mangle)]
-pub extern "C" fn jihfasul_open(
+pub fn jihfasul_open(
     table: &[u8],
     values: &[u8],
     state: State,
@@ -46,8 +45,7 @@ pub extern "C" fn jihfasul_open(
 }
 
 // "close forgets both": the line and what is active.
-#[unsafe(no_mangle)]
-pub extern "C" fn jihfasul_close(
+pub fn jihfasul_close(
     table: &[u8],
     values: &[u8],
     state: State,

@@ -3,7 +3,7 @@
 #![tactic(auto)]
 
 pub mod clients;
-pub mod index;
+pub mod filling;
 pub mod list;
 pub mod pieces;
 pub mod readings;

@@ -11,8 +11,7 @@ use state::State;
 use state::client::{bare_of, is_open, with_lines};
 
 // "Piece: bytes from one client." The caller offers what is not used again.
-#[unsafe(no_mangle)]
-pub extern "C" fn jihfasul_piece(
+pub fn jihfasul_piece(
     table: &[u8],
     values: &mut [u8],
     outbox: &mut [u8],

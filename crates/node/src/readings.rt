@@ -11,8 +11,7 @@ use state::State;
 use state::client::bare_of;
 
 // "a driver's value for a parameter, numbered from 0 ..".
-#[unsafe(no_mangle)]
-pub extern "C" fn jihfasul_reading(
+pub fn jihfasul_reading(
     table: &[u8],
     values: &mut [u8],
     outbox: &mut [u8],

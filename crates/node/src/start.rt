@@ -36,8 +36,7 @@ fn blank(time: u64) -> State
 }
 
 // "All parameters show their initial value ..": nothing is stored, and every time is the start's.
-#[unsafe(no_mangle)]
-pub extern "C" fn jihfasul_start(table: &[u8], values: &[u8], time: u64) -> Done
+pub fn jihfasul_start(table: &[u8], values: &[u8], time: u64) -> Done
     ensures { Begins table.now values.now time result }
 {
     let number = table_number(table);

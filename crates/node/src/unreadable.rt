@@ -15,8 +15,7 @@ use state::client::bare_of;
 
 // "A driver must be able to report that a parameter can't be read, with one of ..": the values area isn't written. Number 14: "no such parameter
 // number"; 16: "unknown class".
-#[unsafe(no_mangle)]
-pub extern "C" fn jihfasul_unreadable(
+pub fn jihfasul_unreadable(
     table: &[u8],
     values: &[u8],
     outbox: &mut [u8],

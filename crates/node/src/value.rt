@@ -75,8 +75,7 @@ fn held_shown(settings: Settings, k: usize, initial: Part) -> Shown
 }
 
 // A parameter's number is "from 0 in table order over parameters only"; a table has 64 at most. Number 14: "no such parameter number".
-#[unsafe(no_mangle)]
-pub extern "C" fn jihfasul_value(table: &[u8], values: &[u8], state: State, parameter: u64) -> Shown
+pub fn jihfasul_value(table: &[u8], values: &[u8], state: State, parameter: u64) -> Shown
     ensures { Shows table.now values.now state parameter result }
 {
     let number = lent_number(table, values, false, b"", state, 0);

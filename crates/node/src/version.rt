@@ -3,16 +3,14 @@ ghost use Rattle.std.specs.Prelude.{◌≡◌};
 ghost use Rattle.node.specs.Version.{version, state_layout};
 
 // The library's version.
-#[unsafe(no_mangle)]
-pub extern "C" fn jihfasul_version() -> u32
+pub fn jihfasul_version() -> u32
     ensures { result ≡ version }
 {
     10000
 }
 
 // The version of the state's layout, to be kept beside a stored state.
-#[unsafe(no_mangle)]
-pub extern "C" fn jihfasul_state_layout() -> u32
+pub fn jihfasul_state_layout() -> u32
     ensures { result ≡ state_layout }
 {
     1

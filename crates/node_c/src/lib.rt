@@ -134,7 +134,7 @@ pub extern "C" fn jihfasul_value(table: &[u8], values: &[u8], state: State, para
 pub extern "C" fn jihfasul_index(table: &[u8], index: &mut [u8]) -> u8
     ensures { Fills table.now index.old index.new result }
 {
-    node::index::jihfasul_index(table, index)
+    node::filling::jihfasul_index(table, index)
 }
 
 #[unsafe(no_mangle)]

@@ -4,8 +4,7 @@ ghost use Rattle.seek.specs.Fill.{Fills};
 use seek::fill::fill;
 
 // "128 bytes of index, filled once from it": the number of a filling. "a refused one (1 to 6, then 18) writes nothing"
-#[unsafe(no_mangle)]
-pub extern "C" fn jihfasul_index(table: &[u8], index: &mut [u8]) -> u8
+pub fn jihfasul_index(table: &[u8], index: &mut [u8]) -> u8
     ensures { Fills table.now index.old index.new result }
 {
     fill(table, index)
