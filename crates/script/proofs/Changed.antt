@@ -1,6 +1,5 @@
 -- A state that is changed from outside, one law for each way through the code. Assumes nothing.
 use Prim.Native.Nat.{ℕ, ◌%◌, ◌≤◌, ◌<◌}
-use native.Mathlib.Omega.{arith}
 use borrow.Author.Tests.{lt-ltb, le-ltb, ne_eqb}
 use mathlib.Core.List.{List}
 use mathlib.Core.Logic.{◌≢◌}

@@ -7,7 +7,7 @@ use Rattle.ascii.specs.Numbers.{unsigned}
 use Rattle.ascii.specs.Clauses.Read.{ReadsUnsigned}
 use Rattle.ascii.specs.declared.Unsigned as U
 use Rattle.ascii.specs.declared.Unsigned.{Unsigned}
-use Rattle.script.specs.Clauses.Head.{or_zero, number_at}
+use Rattle.script.specs.Clauses.Head.{number_at}
 
 module _ (head : List ℕ) (at k : ℕ) (q : Unsigned) (h : ReadsUnsigned head q (unsigned k (drop at head))) where
   pub number_short : q ≡ U.TheVariants.Short → 0 ≡ number_at head at k

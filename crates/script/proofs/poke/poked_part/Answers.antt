@@ -1,0 +1,18 @@
+-- `script::poke::poked_part` meets its contract. Assumes nothing.
+use Rattle.script.proofs.Changed.{poked_length, poked_time, poked_error, poked_lines, poked_client}
+use Rattle.script.proofs.poke.poked_part.Goals as goal
+
+pub returns-in-122 : goal.returns-in-122
+returns-in-122 c = search poked_length
+
+pub returns-in-116 : goal.returns-in-116
+returns-in-116 c = search poked_time
+
+pub returns-in-101 : goal.returns-in-101
+returns-in-101 c = search poked_error
+
+pub returns-in-108 : goal.returns-in-108
+returns-in-108 c = search poked_lines
+
+pub returns-in_default : goal.returns-in_default
+returns-in_default c = search poked_client
