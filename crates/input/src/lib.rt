@@ -1,14 +1,18 @@
 // Reading from whatever gives bytes.
 #![tactic(auto)]
 
-ghost use Rattle.std.specs.Prelude.{◌≤◌, IfOk, length};
+ghost use Rattle.std.specs.Prelude.{◌≤◌, ◌<◌, IfOk, length, take};
+ghost use Rattle.std.specs.Io.KnownBytes.{Consumes, IsAtEnd};
 
 use std::io;
 use std::io::Read;
 
-// Reads until `space` is full or the input ends, and returns how many bytes it put at the start of `space`. Which bytes come no promise can say.
+// Reads until `space` is full or the input ends, and returns how many bytes it put at the start of `space`: those that the input gives next, where
+// it is known which these are.
 pub fn read_full<R: Read>(input: &mut R, space: &mut [u8]) -> io::Result<usize>
-    ensures { IfOk result (λ n. n ≤ length space.new) }
+    ensures fits { IfOk result (λ n. n ≤ length space.new) }
+    ensures bytes { IfOk result (λ n. Consumes (R.remaining input.old) (R.remaining input.new) (take n space.new)) }
+    ensures stops { IfOk result (λ n. n < length space.new → IsAtEnd (R.remaining input.new)) }
 {
     let mut done = 0;
     while done < space.len() {
