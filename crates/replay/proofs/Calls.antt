@@ -4,7 +4,7 @@ use mathlib.Core.List.{List, [], ◌∷◌, ◌++◌}
 use mathlib.Core.Option.{Option, none, some}
 use mathlib.Core.Path.{◌≡◌, refl, ap, ap₂, ◌∙◌}
 use Rattle.plain.specs.Node.{Node}
-use Rattle.plain.specs.Calls.{Call, Answer}
+use Rattle.plain.specs.Calls.{Answer}
 use Rattle.plain.specs.History.{step, answers, finish}
 use Rattle.lists.proofs.Readings.{answers_append, finish_append}
 use Rattle.trace.specs.Trace.{Entry}

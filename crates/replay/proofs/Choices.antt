@@ -19,7 +19,7 @@ use Rattle.table.specs.Search.{Placed, parameters}
 use Rattle.report.specs.Judge.{table_number}
 use Rattle.report.proofs.Faults.{no_fault, first_fault_none}
 use Rattle.message.specs.Error.{Fault, fault_of}
-use Rattle.message.specs.Reply.{Held, valued, failed, held_as}
+use Rattle.message.specs.Reply.{valued, held_as}
 use Rattle.outbox.specs.Outbox.{Record, encode_all}
 use Rattle.plain.specs.Node.{Node, Value, showing, report_of, client_numbers}
 use Rattle.plain.specs.Calls.{Event, Open, Close, Unreadable, Call, Answer, Effect, answer_of, effect, call_steps, settle, step_if, call_number, driver_effect}
@@ -37,20 +37,18 @@ use Rattle.sound.proofs.Accepted.{accepted}
 use Rattle.sound.proofs.Lists.{there_low}
 use Rattle.promise.specs.declared.Done.{Done}
 use Rattle.promise.specs.Promise.{Kept, step_from}
-use Rattle.trace.specs.declared.Kind.TheVariants.{Opening, Closing, Piece, Reading}
-use Rattle.trace.specs.declared.Kind.TheVariants as Kind
+use Rattle.trace.specs.declared.Kind.TheVariants.{Piece}
 use Rattle.trace.specs.declared.Head.{Head}
 use Rattle.trace.specs.Trace.{Entry}
 use Rattle.figures.specs.declared.Figures.{Figures}
-use Rattle.figures.specs.Clauses.Tally.{no_settings, tally_at, mark_of, noted, observed, Tallies, Bounded, Observes}
-use Rattle.figures.specs.Theorems.{FiguresAreExact}
+use Rattle.figures.specs.Clauses.Tally.{no_settings, tally_at, mark_of, observed, Tallies, Bounded}
 use Rattle.figures.proofs.Keeping.{none_anywhere, observed_same, observed_other}
 use Rattle.figures.proofs.Tallying.{figures_are_exact}
 use Rattle.replay.specs.declared.Chosen.{Chosen}
 use Rattle.replay.specs.declared.Chosen.TheVariants.{Of, Nothing}
 use Rattle.replay.specs.Replay.{call_of, call_for}
 use Rattle.replay.specs.Settings.{orders_of, form_for, readings_of, set_by}
-use Rattle.replay.specs.Clauses.Figured.{Figured, order_in, chosen_by, Shows, Shown, Markable, Notes}
+use Rattle.replay.specs.Clauses.Figured.{Figured, order_in, chosen_by, Shows, Shown, Notes}
 use Rattle.replay.specs.Clauses.View.{entry_of}
 use Rattle.replay.specs.Promise.{Single, by_open, by_close, by_piece, by_reading, by_unreadable}
 use Rattle.replay.specs.Clauses.Inner as Inner

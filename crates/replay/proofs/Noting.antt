@@ -1,18 +1,16 @@
 -- What a parameter shows is noted. Assumes nothing.
 use Prim.Native.Nat.{ℕ, ◌+◌, ◌-◌, ◌*◌}
-use mathlib.Core.Bool.{Bool, true, false, cond, ◌&&◌}
+use mathlib.Core.Bool.{cond}
 use mathlib.Core.List.{List}
-use mathlib.Core.Option.{some}
-use mathlib.Core.Path.{◌≡◌, refl, sym, ap, subst, ◌∙◌}
+use mathlib.Core.Path.{◌≡◌, sym, ap, subst, ◌∙◌}
 use lib.Dec.{eqb}
-use lib.ListN.{get_or, take, drop, get_elem?}
+use lib.ListN.{get_or, take, drop}
 use borrow.Author.Tests.{eq-eqb, ne_eqb}
 use Rattle.ascii.specs.Bytes.{head}
-use Rattle.fit.specs.Fit.{is_stored}
 use Rattle.fit.proofs.Shapes.{just, nothing}
 use Rattle.table.specs.Table.{Parameter}
 use Rattle.table.specs.Layout.{table_of, Readable}
-use Rattle.table.specs.Search.{Placed, parameters}
+use Rattle.table.specs.Search.{Placed}
 use Rattle.table.specs.Clauses.At.{parameter_of}
 use Rattle.table.specs.declared.layout.ParameterAt.{ParameterAt}
 use Rattle.table.proofs.Places.{initial_lies}

@@ -16,8 +16,7 @@ use Rattle.report.specs.Judge.{table_number}
 use Rattle.outbox.specs.Outbox.{Record, encode_all}
 use Rattle.message.specs.Reply.{Held, valued, failed}
 use Rattle.plain.specs.Node.{Node, Setting}
-use Rattle.plain.specs.Calls.{Open, Close, Call, with_area, with_outbox, Answer, Effect, effect, call_steps, settle, step_if, call_number}
-use Rattle.plain.specs.Calls as Calls
+use Rattle.plain.specs.Calls.{Call, Answer, Effect, effect, call_steps, settle, step_if, call_number}
 use Rattle.plain.specs.History.{Heard, heard, step, sent}
 use Rattle.state.specs.declared.State.{State}
 use Rattle.state.specs.View.{view, place_of, with_stored, with_held, area_with, written}

@@ -1,5 +1,5 @@
 -- What the code that keeps the figures promises (M-111). Assumes nothing.
-use Rattle.std.specs.Prelude.{ℕ, ◌≤◌, ◌<◌, true, false, cond, ◌&&◌, List, ◌++◌, ◌≡◌, eqb, length, get_or, drop}
+use Rattle.std.specs.Prelude.{ℕ, ◌≤◌, ◌<◌, true, cond, ◌&&◌, List, ◌++◌, ◌≡◌, eqb, length, get_or, drop}
 use Rattle.std.proofs.Math.Option.{some}
 use Rattle.std.proofs.Math.ListN.{get_elem?}
 use Rattle.ascii.specs.Bytes.{head}
