@@ -1,4 +1,7 @@
 -- `node::start::jihfasul_start` meets its contract. Assumes nothing.
+use Prim.Native.Nat.{◌≤◌}
+use native.Mathlib.Omega.{arith}
+use Rattle.ascii.specs.Numbers.{latest}
 use Rattle.node.proofs.Begun.{start_table, start_area, start_late, start_good}
 use Rattle.node.proofs.start.jihfasul_start.Goals as goal
 
@@ -12,4 +15,6 @@ pub returns-then-time-gt-LATEST : goal.returns-then-time-gt-LATEST
 returns-then-time-gt-LATEST c = search start_late
 
 pub returns : goal.returns
-returns c = search start_good
+returns c =
+    let timely : c.args.time ≤ latest = omega arith in
+    search (start_good, timely)
