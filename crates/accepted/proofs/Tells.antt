@@ -1,12 +1,12 @@
 -- What a driver tells of a parameter is taken in: what is held and sent, and that it has room. Assumes nothing.
+use Rattle.std.specs.Prelude.{Some, slice_get}
 use Prim.Native.Nat.{ℕ, ◌+◌, ◌-◌, ◌≤◌, ◌<◌}
 use native.Mathlib.Nat.{zero-add}
 use native.Mathlib.Omega.{arith}
 use mathlib.Core.Bool.{false}
 use mathlib.Core.List.{List, [], ◌∷◌}
-use mathlib.Core.Option.{some}
 use mathlib.Core.Path.{◌≡◌, refl, sym, ap, subst, ◌∙◌}
-use lib.ListN.{length, get_elem?}
+use lib.ListN.{length}
 use Rattle.ascii.specs.Bytes.{any}
 use Rattle.ascii.specs.Clauses.Writer.{Puts}
 use Rattle.table.specs.Table.{Parameter, Table}
@@ -58,7 +58,7 @@ module _ (table outbox : List ℕ) (k t : ℕ) (q : ParameterAt) (e : Cursor) (g
   abbrev pub it : Placed Parameter
   it = placed table e (parameter_of table q g.found.held.datainfo)
 
-  pub there : get_elem? (parameters w) k ≡ some it
+  pub there : slice_get (parameters w) k ≡ Some it
   there = g.found.is
 
   -- the report of what it holds
@@ -196,7 +196,7 @@ module _ (table outbox : List ℕ) (k t : ℕ) (q : ParameterAt) (e : Cursor) (g
         → (outbox' : List ℕ) (n : ℕ)
         → Puts outbox 0 (encode_all (sent (with_lines (brief_of s.clients) []) f m a named_module named)) outbox' n
         → (r : Bare) → SentCounted (bare_of (next_settings s settings)) outbox' n r
-        → (values : List ℕ) (class : ℕ) → Standing table s values → fault_of class ≡ some (fault_as f)
+        → (values : List ℕ) (class : ℕ) → Standing table s values → fault_of class ≡ Some (fault_as f)
         → Taken table s values outbox (Unreadable k class t) (done_with 0 n 0 (lined r s.clients.lines)) values outbox'
     unfolding effect unreadable_effect with_held with_setting places_after
     is_failed z number j settings i outbox' n puts r y values class stands known =

@@ -1,6 +1,5 @@
 // A parameter that can't be read.
-ghost use Rattle.std.specs.Prelude.{ℕ, List, ◌≡◌};
-ghost use Rattle.std.proofs.Math.Option.{some};
+ghost use Rattle.std.specs.Prelude.{ℕ, List, ◌≡◌, Some};
 ghost use Rattle.message.specs.Error.{fault_of};
 ghost use Rattle.message.specs.Clauses.Said.{fault_as};
 ghost use Rattle.plain.specs.Calls.{Unreadable};
@@ -31,7 +30,7 @@ pub fn take_unreadable(
     home: Cursor,
 ) -> BareDone
     requires { Tellable table.now outbox.old k time p home }
-    ensures { (lines values : List ℕ) (class : ℕ) → Standing table.now (lined state lines) values → fault_of class ≡ some (fault_as fault)
+    ensures { (lines values : List ℕ) (class : ℕ) → Standing table.now (lined state lines) values → fault_of class ≡ Some (fault_as fault)
         → Taken table.now (lined state lines) values outbox.old (Unreadable k class time) (done_by result lines) values
         outbox.new }
 {

@@ -1,4 +1,5 @@
 -- The ways out of a request to change a parameter. Assumes nothing.
+use Rattle.std.specs.Prelude.{Result, Ok, Err}
 use Prim.Native.Nat.{ℕ, ◌≤◌}
 use mathlib.Core.Path.{◌≡◌, refl, sym, subst, ◌∙◌}
 use mathlib.Core.List.{List, ◌∷◌, ◌++◌}
@@ -30,14 +31,12 @@ use Rattle.access.specs.Clauses.Busy.{status_updates}
 use Rattle.access.specs.Clauses.Set.{set_records, Settable, Accepts, IsSet, IsSetBy}
 use Rattle.access.specs.Clauses.Whole.{changes_whole}
 use Rattle.access.specs.Clauses.Judged.{JudgesChange}
-use Rattle.access.specs.declared.judge.Judged.{Judged}
-use Rattle.access.specs.declared.judge.Judged.TheVariants as J
 use Rattle.access.proofs.Finding.{ParameterKnown, parameter_known, the_parameter}
 use Rattle.access.proofs.Judgements.{judged_denied, judged_let_in, judged_fits, judged_fitting}
 use Rattle.access.proofs.Statuses.{settings_stand, updates_stand, status_holds, area_stands}
 
 module _ (s : List ℕ) (st : State) (values out : List ℕ) (c t : ℕ) (g : Ready s st values out c) (m a xs : List ℕ)
-    (k h : ℕ) (q : ParameterAt) (f : ParameterFound s m a k h q) (v : Judged) (j : JudgesChange (datainfo_at (drop q.info s)) q.readonly xs v) where
+    (k h : ℕ) (q : ParameterAt) (f : ParameterFound s m a k h q) (v : Result Unit Class) (j : JudgesChange (datainfo_at (drop q.info s)) q.readonly xs v) where
   p : ParameterKnown s m a k h q
   p = parameter_known s g.lent.accepted m a k h q f
 
@@ -47,12 +46,12 @@ module _ (s : List ℕ) (st : State) (values out : List ℕ) (c t : ℕ) (g : Re
   abbrev setting : Plain.Outcome
   setting = sets (table_of s) (view s st values) c t (k, p.it) (stored_form p.it.it.datainfo xs)
 
-  pub change_denied : (e : Class) → v ≡ J.Denied e → OfParameter s st values out c t (Denied e) values out m a (λ w n c t. changes_whole w n c t xs)
+  pub change_denied : (e : Class) → v ≡ Err e → OfParameter s st values out c t (Denied e) values out m a (λ w n c t. changes_whole w n c t xs)
   change_denied e z =
       the_parameter p (λ x. IsDenied (table_of s) (view s st values) c t out out values values (change x) (denied (class (class_of e))))
       (record { is = judged_denied s m a xs k h q p v j _ e z; quiet = refl; area = refl })
 
-  module _ (z : v ≡ J.LetIn) where
+  module _ (z : v ≡ Ok tt) where
     is_set : change (k, p.it) ≡ setting
     is_set = judged_let_in s m a xs k h q p v j (sets (table_of s) (view s st values) c t) z
 

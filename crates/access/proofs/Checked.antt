@@ -1,4 +1,5 @@
 -- The ways out of a request to check a value. Assumes nothing.
+use Rattle.std.specs.Prelude.{Result, Ok, Err}
 use Prim.Native.Nat.{ℕ, ◌≤◌}
 use native.Mathlib.Omega.{arith}
 use mathlib.Core.Path.{◌≡◌, refl, ◌∙◌}
@@ -34,8 +35,6 @@ use Rattle.access.specs.Clauses.Argument.{Reported}
 use Rattle.access.specs.Clauses.Told.{PutsChecked}
 use Rattle.access.specs.Clauses.Whole.{checks_whole}
 use Rattle.access.specs.Clauses.Judged.{JudgesChange}
-use Rattle.access.specs.declared.judge.Judged.{Judged}
-use Rattle.access.specs.declared.judge.Judged.TheVariants as J
 use Rattle.access.proofs.Finding.{ParameterKnown, parameter_known, the_parameter}
 use Rattle.access.proofs.Judgements.{judged_denied, judged_let_in, judged_fitting}
 use Rattle.access.proofs.Taken.{taken_is, taken_short}
@@ -63,20 +62,20 @@ module _ (table : List ℕ) (info : ℕ) (out m a xs : List ℕ) (t : ℕ) (room
 -- ## The ways out
 
 module _ (s out : List ℕ) (c t : ℕ) (l : Lent s out c) (m a xs : List ℕ) (k h : ℕ) (q : ParameterAt) (f : ParameterFound s m a k h q)
-    (v : Judged) (j : JudgesChange (datainfo_at (drop q.info s)) q.readonly xs v) where
+    (v : Result Unit Class) (j : JudgesChange (datainfo_at (drop q.info s)) q.readonly xs v) where
   p : ParameterKnown s m a k h q
   p = parameter_known s l.accepted m a k h q f
 
   abbrev check : Node → ℕ × Placed Parameter → Plain.Outcome
   check n x = checks_whole (table_of s) n c t xs x
 
-  pub check_denied : (e : Class) → v ≡ J.Denied e → (st : State) (values : List ℕ)
+  pub check_denied : (e : Class) → v ≡ Err e → (st : State) (values : List ℕ)
       → OfParameter s st values out c t (Denied e) values out m a (λ w n c t. checks_whole w n c t xs)
   check_denied e z st values =
       the_parameter p (λ x. IsDenied (table_of s) (view s st values) c t out out values values (check (view s st values) x) (denied (class (class_of e))))
       (record { is = judged_denied s m a xs k h q p v j _ e z; quiet = refl; area = refl })
 
-  module _ (z : v ≡ J.LetIn) where
+  module _ (z : v ≡ Ok tt) where
     pub check_told : t ≤ latest → (32768 ≤ length out) × (Reported m a t × FitsAt s q.info xs)
     check_told i =
         (l.room, (record { module_name_lem = p.good_module; name = p.good_name; in_time = i }, judged_fitting s m a xs k h q p v j z))

@@ -1,4 +1,5 @@
 -- The ways out of a command's request. Assumes nothing.
+use Rattle.std.specs.Prelude.{Result, Ok, Err}
 use Prim.Native.Nat.{ℕ, ◌≤◌}
 use mathlib.Core.Path.{◌≡◌, refl, subst, ◌∙◌}
 use mathlib.Core.Bool.{false}
@@ -8,7 +9,6 @@ use Rattle.ascii.specs.Text.{bytes}
 use Rattle.ascii.specs.Numbers.{latest}
 use Rattle.fit.specs.Fit.{fits, is_fit, severity}
 use Rattle.fit.specs.Clauses.Verdict.{meaning}
-use Rattle.fit.specs.declared.Verdict.{Verdict}
 use Rattle.table.specs.Layout.{argument_at, table_of}
 use Rattle.search.specs.Clauses.Found.{CommandFound}
 use Rattle.table.specs.declared.layout.CommandAt.{CommandAt}
@@ -24,12 +24,11 @@ use Rattle.outcome.specs.Clauses.Outcome.{IsDenied, Sends, OfCommand}
 use Rattle.outcome.specs.declared.Outcome.TheVariants.{Denied, Sent}
 use Rattle.access.specs.Clauses.Argument.{JudgesArgument, Ordered, Reported, order_records, IsOrdered}
 use Rattle.access.specs.Clauses.Judged.{Lets}
-use Rattle.access.specs.declared.judge.Judged.{Judged}
-use Rattle.access.specs.declared.judge.Judged.TheVariants as J
 use Rattle.access.proofs.Finding.{CommandKnown, command_known, the_command}
+use Rattle.fit.specs.declared.Misfit.{Misfit}
 
 module _ (s out : List ℕ) (c t : ℕ) (l : Lent s out c) (m a xs : List ℕ) (k h : ℕ) (q : CommandAt) (f : CommandFound s m a k h q)
-    (v : Verdict) (j : JudgesArgument (argument_at q.argument (drop q.info s)) xs v) (r : Judged) (d : Lets false (meaning v) r) where
+    (v : Result Unit Misfit) (j : JudgesArgument (argument_at q.argument (drop q.info s)) xs v) (r : Result Unit Class) (d : Lets false (meaning v) r) where
   g : CommandKnown s m a k q
   g = command_known s l.accepted m a k h q f
 
@@ -43,12 +42,12 @@ module _ (s out : List ℕ) (c t : ℕ) (l : Lent s out c) (m a xs : List ℕ) (
   unfolding does
   let_in_lem n = rw (judged_is, g.module_named, g.named)
 
-  pub execute_denied : (e : Class) → r ≡ J.Denied e → OfCommand s out c t (Denied e) out m a (λ w n c t. does w n c t xs)
+  pub execute_denied : (e : Class) → r ≡ Err e → OfCommand s out c t (Denied e) out m a (λ w n c t. does w n c t xs)
   execute_denied e z n values =
       the_command g (λ x. IsDenied (table_of s) n c t out out values values (does (table_of s) n c t xs x) (denied (class (class_of e))))
       (record { is = let_in_lem n ∙ subst (Lets false (meaning v)) z d (ordered n); quiet = refl; area = refl })
 
-  module _ (z : r ≡ J.LetIn) where
+  module _ (z : r ≡ Ok tt) where
     fits_it : meaning v ≡ fits
     fits_it = (subst (Lets false (meaning v)) z d).1
 

@@ -1,10 +1,10 @@
 -- What a change leaves out is filled in from what the parameter shows, in bytes of its own; what comes of it is judged and stored as it is. Assumes
 -- nothing.
+use Rattle.std.specs.Prelude.{Some, None}
 use Prim.Native.Nat.{ℕ, ◌+◌, ◌≤◌, ◌<◌}
 use native.Mathlib.Omega.{arith}
 use mathlib.Core.Path.{◌≡◌, refl, sym, ap, subst, ◌∙◌}
 use mathlib.Core.List.{List, []}
-use mathlib.Core.Option.{none, some}
 use lib.ListN.{length, get_or, take, drop}
 use lib.Seq.{length-take-le}
 use Rattle.ascii.specs.Bytes.{head, drop_while, is_in}
@@ -40,7 +40,7 @@ use Rattle.access.specs.Clauses.Whole.{judging_whole, changes_whole, checks_whol
 use Rattle.access.proofs.Finding.{ParameterKnown, parameter_known, info_known, the_parameter}
 use Rattle.access.proofs.Showing.{read_lies, holds, is_value, held_fits}
 
-text_none : text [] ≡ none
+text_none : text [] ≡ None
 unfolding text spaced bare Json.scalar head drop_while Token.number Token.int Token.minus Token.digits is_in
 text_none = refl
 
@@ -115,7 +115,7 @@ module _ (s : List ℕ) (st : State) (values m a xs before after : List ℕ) (r 
 -- ## What it comes to
 
 module _ (s : List ℕ) (st : State) (values m a xs before after : List ℕ) (r : ℕ) (g : Fills s st values m a xs before after r) (c t : ℕ) where
-  same_judging : (f : ℕ × Placed Parameter → List ℕ → Plain.Outcome) (x : ℕ × Placed Parameter) → find_parameter (table_of s) m a ≡ some x
+  same_judging : (f : ℕ × Placed Parameter → List ℕ → Plain.Outcome) (x : ℕ × Placed Parameter) → find_parameter (table_of s) m a ≡ Some x
       → judging_whole f (take r after) x ≡ judging (table_of s) (view s st values) c t f xs x
   unfolding judging_whole judging
   same_judging f x e =

@@ -1,11 +1,11 @@
 -- Parameters and commands that are found in an accepted table. Assumes nothing.
+use Rattle.std.specs.Prelude.{Some, slice_get}
 use Prim.Native.Nat.{ℕ, ◌-◌, ◌≤◌, ◌<◌}
 use native.Mathlib.Omega.{arith}
 use mathlib.Core.Path.{◌≡◌, refl, sym, subst, ◌∙◌}
 use mathlib.Core.Bool.{true}
 use mathlib.Core.List.{List}
-use mathlib.Core.Option.{some}
-use lib.ListN.{length, take, drop, get_elem?, length-drop}
+use lib.ListN.{length, take, drop, length-drop}
 use lib.Seq.{length-take-le}
 use Rattle.ascii.specs.Names.{is_name}
 use Rattle.datainfo.specs.Layout.{datainfo_at, ReadableAt}
@@ -28,14 +28,14 @@ use Rattle.sound.proofs.Accepted.{GoodParameter, GoodCommand, accepted, datainfo
 -- command k of an accepted table, whose names are m and a, and of which q has the positions
 pub record CommandKnown (s m a : List ℕ) (k : ℕ) (q : CommandAt) : Type 0 where
   pub it : Placed Command
-  pub is : find_command (table_of s) m a ≡ some (k, it)
+  pub is : find_command (table_of s) m a ≡ Some (k, it)
   pub low : k < 64
   pub module_named : it.module_name ≡ m
   pub named : it.it.name ≡ a
   pub good_module : is_name m ≡ true
   pub good_name : is_name a ≡ true
   pub left : List ℕ
-  pub argument : argument_at q.argument (drop q.info s) ≡ some (it.it.argument, left)
+  pub argument : argument_at q.argument (drop q.info s) ≡ Some (it.it.argument, left)
   pub within : q.info ≤ length s
 
 pub argument_known : {s m a : List ℕ} {k : ℕ} {q : CommandAt} → CommandKnown s m a k q → ArgumentReadable s q.argument q.info
@@ -43,7 +43,7 @@ argument_known p = record { within = p.within; argument = p.it.it.argument; left
 
 -- what holds of it holds of whatever the names find
 pub the_command : {s m a : List ℕ} {k : ℕ} {q : CommandAt} (p : CommandKnown s m a k q) (P : ℕ × Placed Command → Type 0)
-    → P (k, p.it) → (x : ℕ × Placed Command) → find_command (table_of s) m a ≡ some x → P x
+    → P (k, p.it) → (x : ℕ × Placed Command) → find_command (table_of s) m a ≡ Some x → P x
 the_command p P y x e = subst P (in_some (sym p.is ∙ e)) y
 
 module _ (s : List ℕ) (e : table_number s ≡ 0) (m a : List ℕ) (k h : ℕ) (q : CommandAt) (g : CommandFound s m a k h q) where
@@ -75,8 +75,8 @@ module _ (s : List ℕ) (e : table_number s ≡ 0) (m a : List ℕ) (k h : ℕ) 
 -- parameter k of an accepted table, of the module of number h, whose names are m and a, and of which q has the positions
 pub record ParameterKnown (s m a : List ℕ) (k h : ℕ) (q : ParameterAt) : Type 0 where
   pub it : Placed Parameter
-  pub is : find_parameter (table_of s) m a ≡ some (k, it)
-  pub there : get_elem? (parameters (table_of s)) k ≡ some it
+  pub is : find_parameter (table_of s) m a ≡ Some (k, it)
+  pub there : slice_get (parameters (table_of s)) k ≡ Some it
   pub low : k < 64
   pub home : it.home ≡ h
   pub home_low : h < 16
@@ -86,7 +86,7 @@ pub record ParameterKnown (s m a : List ℕ) (k h : ℕ) (q : ParameterAt) : Typ
   pub good_name : is_name a ≡ true
   pub readonly : it.it.readonly ≡ q.readonly
   pub left : List ℕ
-  pub info : datainfo_at (drop q.info s) ≡ some (it.it.datainfo, left)
+  pub info : datainfo_at (drop q.info s) ≡ Some (it.it.datainfo, left)
   pub in_table : InTable it.it.datainfo
   pub within : q.info ≤ length s
   pub inside : Inside s q.initial
@@ -96,7 +96,7 @@ pub info_known : {s m a : List ℕ} {k h : ℕ} {q : ParameterAt} → ParameterK
 info_known p = record { within = p.within; datainfo = p.it.it.datainfo; left = p.left; is = p.info }
 
 pub the_parameter : {s m a : List ℕ} {k h : ℕ} {q : ParameterAt} (p : ParameterKnown s m a k h q) (P : ℕ × Placed Parameter → Type 0)
-    → P (k, p.it) → (x : ℕ × Placed Parameter) → find_parameter (table_of s) m a ≡ some x → P x
+    → P (k, p.it) → (x : ℕ × Placed Parameter) → find_parameter (table_of s) m a ≡ Some x → P x
 the_parameter p P y x e = subst P (in_some (sym p.is ∙ e)) y
 
 take_itself : (n : ℕ) (xs : List ℕ) → n ≤ length xs → take (length (take n xs)) xs ≡ take n xs

@@ -1,9 +1,9 @@
 -- `null` is the only value that begins with an `n` (110). Assumes nothing.
+use Rattle.std.specs.Prelude.{Option, Some, None}
 use Prim.Native.Nat.{ℕ}
 use mathlib.Core.Path.{◌≡◌, refl, sym, ap, ◌∙◌}
 use mathlib.Core.Bool.{Bool, true, false, cond, not, false≢true}
 use mathlib.Core.List.{List}
-use mathlib.Core.Option.{Option, none, some}
 use lib.Dec.{eqb}
 use lib.ListN.{length, drop}
 use borrow.Author.Tests.{eqb-true, ne_eqb, not-true, not-false}
@@ -17,30 +17,30 @@ use Rattle.plain.specs.Answer.{null_verdict, argument_verdict}
 
 -- the verdict on what is read, if anything is
 abbrev Kind : Option (Json × List ℕ) → Verdict → Type 0
-Kind none k = Unit {0}
-Kind (some p) k = null_verdict (some p.0) ≡ k
+Kind None k = Unit {0}
+Kind (Some p) k = null_verdict (Some p.0) ≡ k
 
-kind_giving : (f : List ℕ → Json) (k : Verdict) → ((r : List ℕ) → null_verdict (some (f r)) ≡ k) → (o : Option (List ℕ)) → Kind (giving f o) k
-kind_giving f k h none = tt
-kind_giving f k h (some r) = h r
+kind_giving : (f : List ℕ → Json) (k : Verdict) → ((r : List ℕ) → null_verdict (Some (f r)) ≡ k) → (o : Option (List ℕ)) → Kind (giving f o) k
+kind_giving f k h None = tt
+kind_giving f k h (Some r) = h r
 
 kind_array : (f : List ℕ → Option (Json × List ℕ)) (xs : List ℕ) → Kind (array_end f xs) wrongType
 unfolding array_end null_verdict
 kind_array f xs = go (eqb (head (skip xs)) 93) (items f (length xs) xs)
   where
-    go : (b : Bool) (o : Option (Items × List ℕ)) → Kind (cond b (some (array no_items, tail (skip xs))) (o >>= λ p. some (array p.0, p.1))) wrongType
+    go : (b : Bool) (o : Option (Items × List ℕ)) → Kind (cond b (Some (array no_items, tail (skip xs))) (o >>= λ p. Some (array p.0, p.1))) wrongType
     go true o = refl
-    go false none = tt
-    go false (some p) = refl
+    go false None = tt
+    go false (Some p) = refl
 
 kind_object : (f : List ℕ → Option (Json × List ℕ)) (xs : List ℕ) → Kind (object_end f xs) wrongType
 unfolding object_end null_verdict
 kind_object f xs = go (eqb (head (skip xs)) 125) (members f (length xs) xs)
   where
-    go : (b : Bool) (o : Option (Members × List ℕ)) → Kind (cond b (some (object no_members, tail (skip xs))) (o >>= λ p. some (object p.0, p.1))) wrongType
+    go : (b : Bool) (o : Option (Members × List ℕ)) → Kind (cond b (Some (object no_members, tail (skip xs))) (o >>= λ p. Some (object p.0, p.1))) wrongType
     go true o = refl
-    go false none = tt
-    go false (some p) = refl
+    go false None = tt
+    go false (Some p) = refl
 
 -- the verdict by the first byte
 abbrev by_first : ℕ → Verdict
@@ -82,34 +82,34 @@ unfolding spaced
 kind_value xs = go (bare 8 (skip xs)) (kind_bare (skip xs))
   where
     go : (o : Option (Json × List ℕ)) → Kind o (by_first (head (skip xs)))
-        → Kind (o >>= λ p. some (p.0, skip p.1)) (by_first (head (skip xs)))
-    go none h = tt
-    go (some p) h = h
+        → Kind (o >>= λ p. Some (p.0, skip p.1)) (by_first (head (skip xs)))
+    go None h = tt
+    go (Some p) h = h
 
 kind_text : (xs : List ℕ) → is_some (text xs) ≡ true → null_verdict (text xs) ≡ by_first (head (skip xs))
 unfolding text
 kind_text xs = go (value 8 xs) (by_first (head (skip xs))) (kind_value xs)
   where
-    if_whole : (b : Bool) (v : Json) (k : Verdict) → null_verdict (some v) ≡ k → is_some (cond b (some v) none) ≡ true
-        → null_verdict (cond b (some v) none) ≡ k
+    if_whole : (b : Bool) (v : Json) (k : Verdict) → null_verdict (Some v) ≡ k → is_some (cond b (Some v) None) ≡ true
+        → null_verdict (cond b (Some v) None) ≡ k
     if_whole true v k h e = h
     if_whole false v k h e = absurd (false≢true e)
 
     go : (o : Option (Json × List ℕ)) (k : Verdict) → Kind o k
-        → is_some (o >>= λ p. cond (eqb (length p.1) 0) (some p.0) none) ≡ true
-        → null_verdict (o >>= λ p. cond (eqb (length p.1) 0) (some p.0) none) ≡ k
-    go none k h e = absurd (false≢true e)
-    go (some p) k h e = if_whole (eqb (length p.1) 0) p.0 k h e
+        → is_some (o >>= λ p. cond (eqb (length p.1) 0) (Some p.0) None) ≡ true
+        → null_verdict (o >>= λ p. cond (eqb (length p.1) 0) (Some p.0) None) ≡ k
+    go None k h e = absurd (false≢true e)
+    go (Some p) k h e = if_whole (eqb (length p.1) 0) p.0 k h e
 
 -- ## The ways out of the code
 
 no_text : (o : Option Json) → is_some o ≡ false → badJSON ≡ null_verdict o
 unfolding null_verdict
-no_text none e = refl
-no_text (some v) e = absurd (false≢true (sym e))
+no_text None e = refl
+no_text (Some v) e = absurd (false≢true (sym e))
 
 module _ (xs : List ℕ) (b : Bool) (t : b ≡ is_some (text xs)) where
-  pub null_bad : not b ≡ true → badJSON ≡ argument_verdict none xs
+  pub null_bad : not b ≡ true → badJSON ≡ argument_verdict None xs
   unfolding argument_verdict
   null_bad e = no_text (text xs) (sym t ∙ not-true b e)
 
@@ -117,12 +117,12 @@ module _ (xs : List ℕ) (b : Bool) (t : b ≡ is_some (text xs)) where
     first : k ≡ head (skip xs)
     first = r.is ∙ ap head (sym l.is)
 
-    by_first_lem : by_first k ≡ argument_verdict none xs
+    by_first_lem : by_first k ≡ argument_verdict None xs
     unfolding argument_verdict
     by_first_lem = ap by_first first ∙ sym (kind_text xs (sym t ∙ not-false b e))
 
-    pub null_fits : k ≡ 110 → fits ≡ argument_verdict none xs
+    pub null_fits : k ≡ 110 → fits ≡ argument_verdict None xs
     null_fits f = rw (← by_first_lem, f)
 
-    pub null_wrong : (k ≡ 110 → ⊥) → wrongType ≡ argument_verdict none xs
+    pub null_wrong : (k ≡ 110 → ⊥) → wrongType ≡ argument_verdict None xs
     null_wrong f = rw (← by_first_lem, ne_eqb k 110 f)

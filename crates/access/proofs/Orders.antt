@@ -1,10 +1,10 @@
 -- The order to carry out a command, and the reply after it: what is written, and that it has room. Assumes nothing.
+use Rattle.std.specs.Prelude.{Option, Some, None}
 use Prim.Native.Nat.{ℕ, ◌≤◌}
 use native.Mathlib.Omega.{arith}
 use mathlib.Core.Path.{◌≡◌}
 use mathlib.Core.Bool.{Bool, true, false, not}
 use mathlib.Core.List.{List, [], ◌∷◌, append-nil}
-use mathlib.Core.Option.{Option, none, some}
 use lib.ListN.{length, take, drop, length-append}
 use borrow.Author.Tests.{not-true, not-false}
 use Rattle.ascii.specs.Text.{bytes}
@@ -29,8 +29,8 @@ use Rattle.access.proofs.Taken.{taken_within, taken_is, taken_length, taken_shor
 
 form_short : (a : Option Datainfo) (xs : List ℕ) → is_fit (argument_verdict a xs) ≡ true → length (argument_form a xs) ≤ 256
 unfolding argument_form argument_verdict
-form_short none xs e = omega arith
-form_short (some d) xs e = stored_short d xs e
+form_short None xs e = omega arith
+form_short (Some d) xs e = stored_short d xs e
 
 -- ## The order
 
@@ -49,7 +49,7 @@ module _ (table : List ℕ) (info : ℕ) (out : List ℕ) (k : ℕ) (b : Bool) (
 
   -- an argument is declared
   module _ (e : not b ≡ false) where
-    declared : {a : Option Datainfo} {x : List ℕ} → read ≡ some (a, x) → Declared (drop info table) a x
+    declared : {a : Option Datainfo} {x : List ℕ} → read ≡ Some (a, x) → Declared (drop info table) a x
     declared i = some_declared b (drop info table) (not-false b e) i
 
     pub argument_fits : FitsAt table info xs
@@ -98,7 +98,7 @@ module _ (table : List ℕ) (info : ℕ) (out : List ℕ) (k : ℕ) (b : Bool) (
       let f = form_short argument xs o.argument.fits in
       written_append (command argument ∷ []) (reply ∷ []) 262 421 (written_one (command argument) 262 tt (omega arith)) (written_final c _ 415 (done_within _ fine tt))
 
-  one : {d : Option Datainfo} {y : List ℕ} → argument_at b (drop info table) ≡ some (d, y) → Puts out 0 (encode_all (command d ∷ [])) after told
+  one : {d : Option Datainfo} {y : List ℕ} → argument_at b (drop info table) ≡ Some (d, y) → Puts out 0 (encode_all (command d ∷ [])) after told
   unfolding encode_all
   one i = rw append-nil (x.is i)
 

@@ -1,10 +1,10 @@
 -- A parameter is set: what is written and where, and that it has room. Assumes nothing.
+use Rattle.std.specs.Prelude.{Option, Some, None}
 use Prim.Native.Nat.{ℕ, ◌+◌, ◌*◌, ◌-◌, ◌≤◌}
 use native.Mathlib.Omega.{arith}
 use mathlib.Core.Path.{◌≡◌, refl, ap, ◌∙◌}
 use mathlib.Core.Bool.{true}
 use mathlib.Core.List.{List, [], ◌∷◌, ◌++◌}
-use mathlib.Core.Option.{Option, some}
 use lib.ListN.{length, take, drop}
 use Rattle.ascii.specs.Text.{bytes}
 use Rattle.ascii.specs.Bytes.{all, head, is_in, is_letter}
@@ -27,8 +27,6 @@ use Rattle.sound.proofs.Room.{encode_append, room_after, puts_after, puts_none}
 use Rattle.state.specs.declared.Clients.{Clients}
 use Rattle.state.specs.View.{client_at, with_stored}
 use Rattle.state.proofs.Forms.{stands}
-use Rattle.outcome.specs.declared.Status.{Status}
-use Rattle.outcome.specs.declared.Status.TheVariants.{Stays, Busy}
 use Rattle.outcome.specs.declared.Outcome.TheVariants.{Stored}
 use Rattle.access.specs.Clauses.Busy.{FindsStatus, with_status, status_updates}
 use Rattle.access.specs.Clauses.Set.{set_records, Settable, Accepts, Staged, IsSet, IsSetBy}
@@ -37,7 +35,7 @@ use Rattle.access.proofs.Statuses.{status_length}
 -- ## The order, the updates and the reply, with a value of at most 256 bytes, after a status
 
 -- names and values are no longer than updates may have them
-pub first_words : (m : List ℕ) → is_name m ≡ true → (z : Status) (b : List ℕ) → Staged z b → length m + 6 + length b ≤ 1024
+pub first_words : (m : List ℕ) → is_name m ≡ true → (z : Option (ℕ × ℕ)) (b : List ℕ) → Staged z b → length m + 6 + length b ≤ 1024
 first_words m e z b y = let j = y.short in omega (arith, name_short m e)
 
 pub update_words : (m a v : List ℕ) → is_name m ≡ true → is_name a ≡ true → length v ≤ 256 → length m + length a + length v ≤ 1024
@@ -54,7 +52,7 @@ module _ (v : List ℕ) (n : length v ≤ 256) (i j : ℕ) where
       let w = order_short.short in
       room_after [] (order_change i j v) out out 0 (puts_none out) (omega arith) (omega arith)
 
-module _ (out : List ℕ) (k h : ℕ) (m a : List ℕ) (t : ℕ) (g : Settable out k h m a t) (s : Clients) (z : Status) (b : List ℕ) (y : Staged z b) (c : ℕ)
+module _ (out : List ℕ) (k h : ℕ) (m a : List ℕ) (t : ℕ) (g : Settable out k h m a t) (s : Clients) (z : Option (ℕ × ℕ)) (b : List ℕ) (y : Staged z b) (c : ℕ)
     (v : List ℕ) (n : length v ≤ 256) where
   abbrev report : DataReport
   report = report_of m a (valued v) t
@@ -78,9 +76,9 @@ module _ (out : List ℕ) (k h : ℕ) (m a : List ℕ) (t : ℕ) (g : Settable o
   unfolding bytes is_name is_name_byte is_letter is_in head all
   first_short = go z
     where
-      go : (z : Status) → Written (status_updates s z m b t) 3360
-      go Stays = written_within 3360 (omega arith) written_none
-      go (Busy i j) =
+      go : (z : Option (ℕ × ℕ)) → Written (status_updates s z m b t) 3360
+      go None = written_within 3360 (omega arith) written_none
+      go (Some (i, j)) =
           written_to (client_at s) j (report_of m (bytes "status") (valued b) t)
           (record { names = (g.module_name_lem, refl); small = y.short; in_time = g.in_time }) client_numbers
 
@@ -140,7 +138,7 @@ module _ (out : List ℕ) (k h : ℕ) (m a : List ℕ) (t : ℕ) (g : Settable o
 -- ## The stored form
 
 module _ (out : List ℕ) (k h : ℕ) (m a : List ℕ) (t : ℕ) (g : Settable out k h m a t) (table : List ℕ) (info : ℕ) (start xs : List ℕ)
-    (w : Accepts table info start xs) (z : Status) (i : FindsStatus table m a z) (values : List ℕ) (j : values ≡ with_status start z busy) where
+    (w : Accepts table info start xs) (z : Option (ℕ × ℕ)) (i : FindsStatus table m a z) (values : List ℕ) (j : values ≡ with_status start z busy) where
   abbrev read : Option (Datainfo × List ℕ)
   read = datainfo_in 4 (drop info table)
 
@@ -162,7 +160,7 @@ module _ (out : List ℕ) (k h : ℕ) (m a : List ℕ) (t : ℕ) (g : Settable o
     set_within = let l = puts_length (x.is w.fitting.reads.is) in let s = x.short in let y = set_room in omega arith
 
     -- by the datainfo that is read
-    module _ {d : Datainfo} {y : List ℕ} (e : read ≡ some (d, y)) where
+    module _ {d : Datainfo} {y : List ℕ} (e : read ≡ Some (d, y)) where
       value_is : take (r - 256 * k) (drop (256 * k) after) ≡ stored_form d xs
       value_is = let p = x.is e in stands p (let l = puts_length p in let z = set_within in omega arith)
 
@@ -175,7 +173,7 @@ module _ (out : List ℕ) (k h : ℕ) (m a : List ℕ) (t : ℕ) (g : Settable o
     unfolding with_stored
     set_is s c last written p = record { is = λ e. by e }
       where
-        by : {d : Datainfo} {y : List ℕ} → read ≡ some (d, y) → IsSet table d s c k h m a xs t start out (Stored z k (r - 256 * k) written) after last
+        by : {d : Datainfo} {y : List ℕ} → read ≡ Some (d, y) → IsSet table d s c k h m a xs t start out (Stored z k (r - 256 * k) written) after last
         by {d} e =
             let f = (x.is e).ends in
             let size : r - 256 * k ≡ length (stored_form d xs) = omega arith in

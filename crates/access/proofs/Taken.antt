@@ -1,10 +1,10 @@
 -- A stored form that is written to 256 bytes, and taken from there. Assumes nothing.
+use Rattle.std.specs.Prelude.{Some}
 use Prim.Native.Nat.{ℕ, ◌-◌, ◌≤◌}
 use native.Mathlib.Nat.{zero-add}
 use native.Mathlib.Omega.{arith}
 use mathlib.Core.Path.{◌≡◌, ◌∙◌}
 use mathlib.Core.List.{List}
-use mathlib.Core.Option.{some}
 use lib.ListN.{length, take, drop}
 use Rattle.ascii.proofs.Puts.{puts_length}
 use Rattle.datainfo.specs.Datainfo.{Datainfo}
@@ -19,7 +19,7 @@ module _ (table : List ℕ) (info : ℕ) (xs : List ℕ) (w : FitsAt table info 
   pub taken_within : r ≤ length after
   taken_within = let l = puts_length (x.is w.reads.is) in let s = x.short in omega arith
 
-  pub taken_is : {i : Datainfo} {y : List ℕ} → datainfo_in 4 (drop info table) ≡ some (i, y) → take r after ≡ stored_form i xs
+  pub taken_is : {i : Datainfo} {y : List ℕ} → datainfo_in 4 (drop info table) ≡ Some (i, y) → take r after ≡ stored_form i xs
   taken_is f =
       let z : r - 0 ≡ r = omega arith in
       let p = x.is f in

@@ -15,46 +15,56 @@ use fit::fit::is_fit;
 use form::verdict;
 use limits::PLACE;
 use message::say::Sensor;
-use outcome::Status;
-use search::find::{FoundParameter, find_parameter};
+use search::find::find_parameter;
 use state::Brief;
 use table::layout::ParameterAt;
 use update::put_updates_to;
 
 // "If the status's datainfo doesn't admit that value, status stays as it is."
-fn admitted(table: &[u8], k: usize, home: usize, q: ParameterAt, text: &[u8]) -> Status
+fn admitted(
+    table: &[u8],
+    k: usize,
+    home: usize,
+    q: ParameterAt,
+    text: &[u8],
+) -> Option<(usize, usize)>
     requires { ReadableAt table.now q.info 4 }
     ensures { Admits (datainfo_at (drop q.info table.now)) text.now k home result }
 {
     let info = q.info;
     if is_fit(verdict(table, info, text)) {
-        return Status::Busy(k, home);
+        return Some((k, home));
     }
-    Status::Stays
+    None
 }
 
 // "a parameter named `target`, in a module with a parameter named `status`": what a change of the parameter of these names sets first
-pub(crate) fn status_of(table: &[u8], module: &[u8], name: &[u8], text: &[u8]) -> Status
+pub(crate) fn status_of(
+    table: &[u8],
+    module: &[u8],
+    name: &[u8],
+    text: &[u8],
+) -> Option<(usize, usize)>
     requires { (table_number table.now ≡ 0) × (text.now ≡ busy) }
     ensures { FindsStatus table.now «module».now name.now result }
 {
     if !same(name, b"target") {
-        return Status::Stays;
+        return None;
     }
-    let FoundParameter::At(k, home, q) = find_parameter(table, module, b"status") else {
-        return Status::Stays;
+    let Some((k, home, q)) = find_parameter(table, module, b"status") else {
+        return None;
     };
     admitted(table, k, home, q, text)
 }
 
 // "shall first store `[300,"target changed"]` there ..": at the front of its place in the values area
-pub(crate) fn store_status(values: &mut [u8], status: Status, text: &[u8])
+pub(crate) fn store_status(values: &mut [u8], status: Option<(usize, usize)>, text: &[u8])
     requires { StatusLow status × ((16384 ≤ length values.old) × (length text.now ≤ 256)) }
     ensures { values.new ≡ with_status values.old status text.now }
 {
     match status {
-        Status::Stays => {}
-        Status::Busy(k, _) => {
+        None => {}
+        Some((k, _)) => {
             put(values, PLACE * k, text);
         }
     }
@@ -65,7 +75,7 @@ pub(crate) fn put_status(
     out: &mut [u8],
     at: usize,
     clients: Brief,
-    status: Status,
+    status: Option<(usize, usize)>,
     module: &[u8],
     text: &[u8],
     time: u64,
@@ -76,8 +86,8 @@ pub(crate) fn put_status(
         out.new result }
 {
     match status {
-        Status::Stays => at,
-        Status::Busy(_, home) => put_updates_to(
+        None => at,
+        Some((_, home)) => put_updates_to(
             out,
             at,
             clients,

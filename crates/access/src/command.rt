@@ -1,6 +1,5 @@
 // A command's argument, and the order to carry it out.
-ghost use Rattle.std.specs.Prelude.{◌≡◌, drop};
-ghost use Rattle.std.proofs.Math.Option.{none};
+ghost use Rattle.std.specs.Prelude.{◌≡◌, drop, None};
 ghost use Rattle.table.specs.Layout.{argument_at};
 ghost use Rattle.table.specs.Clauses.At.{ArgumentReadable};
 ghost use Rattle.fit.specs.Clauses.Verdict.{meaning};
@@ -8,28 +7,33 @@ ghost use Rattle.plain.specs.Answer.{argument_verdict};
 ghost use Rattle.access.specs.Clauses.Argument.{JudgesArgument, Ordered, Reported, PutsOrder, IsOrdered};
 
 use ascii::byte;
-use fit::Verdict;
+use fit::Misfit;
 use form::{put_form, verdict};
 use json_text::read::{is_text, spaces_end};
 use limits::PLACE;
 use outbox::write::{Told, put_final_report, put_order_command};
 
 // "Without a declared argument only `null` is right, else WrongType.": `null` is the only value that begins with an `n`
-fn null_verdict(text: &[u8]) -> Verdict
-    ensures { meaning result ≡ argument_verdict none text.now }
+fn null_verdict(text: &[u8]) -> Result<(), Misfit>
+    ensures { meaning result ≡ argument_verdict None text.now }
 {
     if !is_text(text) {
-        return Verdict::BadJson;
+        return Err(Misfit::BadJson);
     }
     let at = spaces_end(text, 0);
     if byte(text, at) == b'n' {
-        return Verdict::Fits;
+        return Ok(());
     }
-    Verdict::WrongType
+    Err(Misfit::WrongType)
 }
 
 // The verdict on a text by the argument that is declared at `info`, or by none.
-pub(crate) fn argument_verdict(table: &[u8], argument: bool, info: usize, text: &[u8]) -> Verdict
+pub(crate) fn argument_verdict(
+    table: &[u8],
+    argument: bool,
+    info: usize,
+    text: &[u8],
+) -> Result<(), Misfit>
     requires { ArgumentReadable table.now argument info }
     ensures { JudgesArgument (argument_at argument (drop info table.now)) text.now result }
 {

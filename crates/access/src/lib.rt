@@ -17,7 +17,7 @@ ghost use Rattle.outcome.specs.Clauses.Ready.{Lent, Ready};
 ghost use Rattle.outcome.specs.Clauses.Outcome.{OfParameter, OfCommand};
 
 use crate::command::{argument_verdict, order};
-use crate::judge::{Judged, let_in};
+use crate::judge::let_in;
 use crate::whole::{change_whole, check_whole, fill};
 use message::say::Sensor;
 use outbox::write::{Told, put_final_report};
@@ -156,8 +156,8 @@ pub fn execute(
     let argument = q.argument;
     let info = q.info;
     match let_in(argument_verdict(table, argument, info, text)) {
-        Judged::Denied(class) => Outcome::Denied(class),
-        Judged::LetIn => Outcome::Sent(order(
+        Err(class) => Outcome::Denied(class),
+        Ok(()) => Outcome::Sent(order(
             table, info, out, client, time, k, argument, module, name, text,
         )),
     }

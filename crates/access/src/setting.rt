@@ -11,7 +11,7 @@ use form::put_form;
 use limits::PLACE;
 use message::say::Sensor;
 use outbox::write::{Told, put_final_report, put_order_change};
-use outcome::{Outcome, Status};
+use outcome::Outcome;
 use state::Brief;
 use update::put_updates_to;
 
@@ -19,7 +19,7 @@ use update::put_updates_to;
 fn put_set(
     out: &mut [u8],
     clients: Brief,
-    status: Status,
+    status: Option<(usize, usize)>,
     busy: &[u8],
     client: u8,
     time: u64,

@@ -8,7 +8,7 @@ ghost use Rattle.outcome.specs.Clauses.Ready.{Lent, Ready};
 ghost use Rattle.outcome.specs.Clauses.Outcome.{OfParameter};
 ghost use Rattle.access.specs.Clauses.Whole.{changes_whole, checks_whole, Fillable, Fills};
 
-use crate::judge::{Judged, judge_change};
+use crate::judge::judge_change;
 use crate::setting::set;
 use crate::telling::put_checked;
 use form::complete::complete;
@@ -69,8 +69,8 @@ pub(crate) fn change_whole(
         out.new «module».now name.now (λ w n c t. changes_whole w n c t text.now) }
 {
     match judge_change(table, q, text) {
-        Judged::Denied(fault) => Outcome::Denied(fault),
-        Judged::LetIn => {
+        Err(fault) => Outcome::Denied(fault),
+        Ok(()) => {
             let clients = state.clients;
             let info = q.info;
             set(
@@ -99,8 +99,8 @@ pub(crate) fn check_whole(
         «module».now name.now (λ w n c t. checks_whole w n c t text.now) }
 {
     match judge_change(table, q, text) {
-        Judged::Denied(class) => Outcome::Denied(class),
-        Judged::LetIn => {
+        Err(class) => Outcome::Denied(class),
+        Ok(()) => {
             let info = q.info;
             Outcome::Sent(put_checked(table, info, out, client, time, module, name, text))
         }

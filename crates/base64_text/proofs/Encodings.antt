@@ -1,10 +1,10 @@
 -- A text has a size exactly if it is the encoding of so many bytes. Assumes nothing.
+use Rattle.std.specs.Prelude.{Option, Some, None}
 use Prim.Native.Nat.{ℕ, ◌+◌, ◌*◌, ◌/◌, ◌%◌, ◌<◌}
 use native.Mathlib.Omega.{arith}
 use mathlib.Core.Path.{◌≡◌, refl, ap, ◌∙◌}
 use mathlib.Core.Bool.{Bool, true, false, cond, not, ◌&&◌}
 use mathlib.Core.List.{List, [], ◌∷◌, ◌++◌}
-use mathlib.Core.Option.{Option, none, some}
 use lib.Dec.{ltb, eqb, eqb-suc-zero}
 use lib.ListN.{length}
 use borrow.Author.Tests.{lt-ltb, eqb-true}
@@ -48,21 +48,21 @@ module _ (n p q : ℕ) (hp : p < 64) (hq : q < 64) where
 -- ## An encoding has the size of what is encoded
 
 one_sized : (p q : ℕ) → q % 64 % 16 ≡ 0
-    → blob_size (character (p % 64) ∷ character (q % 64) ∷ 61 ∷ 61 ∷ []) ≡ some 1
+    → blob_size (character (p % 64) ∷ character (q % 64) ∷ 61 ∷ 61 ∷ []) ≡ Some 1
 unfolding blob_size is_whole padded
 one_sized p q u = simp (is_sextet_of, sextet_of, pad_no_sextet, u)
 
 two_sized : (p q r : ℕ) → r % 64 % 4 ≡ 0
-    → blob_size (character (p % 64) ∷ character (q % 64) ∷ character (r % 64) ∷ 61 ∷ []) ≡ some 2
+    → blob_size (character (p % 64) ∷ character (q % 64) ∷ character (r % 64) ∷ 61 ∷ []) ≡ Some 2
 unfolding blob_size is_whole padded
 two_sized p q r u = simp (is_sextet_of, sextet_of, pad_no_sextet, no_pad_of, u)
 
-three_sized : (p q r s : ℕ) (xs : List ℕ) (n : ℕ) → blob_size xs ≡ some n
-    → blob_size (character (p % 64) ∷ character (q % 64) ∷ character (r % 64) ∷ character (s % 64) ∷ xs) ≡ some (3 + n)
+three_sized : (p q r s : ℕ) (xs : List ℕ) (n : ℕ) → blob_size xs ≡ Some n
+    → blob_size (character (p % 64) ∷ character (q % 64) ∷ character (r % 64) ∷ character (s % 64) ∷ xs) ≡ Some (3 + n)
 unfolding blob_size is_whole more
 three_sized p q r s xs n e = simp (is_sextet_of, e)
 
-pub encoding_sized : (bs : List ℕ) → blob_size (encode bs) ≡ some (length bs)
+pub encoding_sized : (bs : List ℕ) → blob_size (encode bs) ≡ Some (length bs)
 unfolding blob_size encode groups bytes
 encoding_sized [] = refl
 encoding_sized (a ∷ []) = one_sized (a * 16 / 64) (a * 16 / 1) (omega arith)
@@ -70,15 +70,15 @@ encoding_sized (a ∷ b ∷ []) =
     two_sized ((a * 256 + b) * 4 / 4096) ((a * 256 + b) * 4 / 64) ((a * 256 + b) * 4 / 1) (omega arith)
 encoding_sized (a ∷ b ∷ c ∷ bs) =
     let n = (a * 256 + b) * 256 + c in
-    three_sized (n / 262144) (n / 4096) (n / 64) (n / 1) (encode bs) (length bs) (encoding_sized bs) ∙ ap some (omega arith)
+    three_sized (n / 262144) (n / 4096) (n / 64) (n / 1) (encode bs) (length bs) (encoding_sized bs) ∙ ap Some (omega arith)
 
 -- ## A text that has a size is an encoding
 
-no_size : {A : Type 0} {n : ℕ} → none ≡ some n → A
+no_size : {A : Type 0} {n : ℕ} → None ≡ Some n → A
 no_size e = let z : ◌≡◌ {A = ℕ} 0 1 = cc in absurd (omega arith)
 
 -- what a size under a test says
-under : (t : Bool) {o : Option ℕ} {n : ℕ} → cond t o none ≡ some n → (t ≡ true) × (o ≡ some n)
+under : (t : Bool) {o : Option ℕ} {n : ℕ} → cond t o None ≡ Some n → (t ≡ true) × (o ≡ Some n)
 under true e = (refl, e)
 under false e = no_size e
 
@@ -139,7 +139,7 @@ module _ (a b c d : ℕ) (ha : is_sextet a ≡ true) (hb : is_sextet b ≡ true)
 -- the group of a text that is not whole is its last
 module _ (a b c d : ℕ) where
   pads : (n : ℕ) (t : Bool) → eqb c 61 ≡ t → is_sextet a ≡ true → is_sextet b ≡ true → d ≡ 61
-      → cond t (cond (eqb (sextet b % 16) 0) (some 1) none) (cond (is_sextet c && eqb (sextet c % 4) 0) (some 2) none) ≡ some n
+      → cond t (cond (eqb (sextet b % 16) 0) (Some 1) None) (cond (is_sextet c && eqb (sextet c % 4) 0) (Some 2) None) ≡ Some n
       → Encoded (a ∷ b ∷ c ∷ d ∷ []) n
   pads n true g ha hb hd e =
       let h = under (eqb (sextet b % 16) 0) e in
@@ -151,7 +151,7 @@ module _ (a b c d : ℕ) where
       let k : 2 ≡ n = let l = h.1 in cc in
       rw (← k) (two_bytes_lem a b c d ha hb f.0 (eqb-true _ 0 f.1) hd)
 
-  last : (xs : List ℕ) (n : ℕ) → cond (eqb (length xs) 0) (padded a b c d) none ≡ some n → Encoded (a ∷ b ∷ c ∷ d ∷ xs) n
+  last : (xs : List ℕ) (n : ℕ) → cond (eqb (length xs) 0) (padded a b c d) None ≡ Some n → Encoded (a ∷ b ∷ c ∷ d ∷ xs) n
   unfolding padded
   last [] n e =
       let h = under (is_sextet a && is_sextet b && eqb d 61) e in
@@ -160,11 +160,11 @@ module _ (a b c d : ℕ) where
       pads n (eqb c 61) refl g.0 g.1 (eqb-true d 61 f.1) h.1
   last (x ∷ xs) n e = no_size (rw (eqb-suc-zero (length xs)) at e)
 
-  module _ (xs : List ℕ) (n : ℕ) (inner : (m : ℕ) → blob_size xs ≡ some m → Encoded xs m) where
-    whole : is_whole a b c d ≡ true → (o : Option ℕ) → blob_size xs ≡ o → more 3 o ≡ some n → Encoded (a ∷ b ∷ c ∷ d ∷ xs) n
+  module _ (xs : List ℕ) (n : ℕ) (inner : (m : ℕ) → blob_size xs ≡ Some m → Encoded xs m) where
+    whole : is_whole a b c d ≡ true → (o : Option ℕ) → blob_size xs ≡ o → more 3 o ≡ Some n → Encoded (a ∷ b ∷ c ∷ d ∷ xs) n
     unfolding is_whole more
-    whole w none f e = no_size e
-    whole w (some m) f e =
+    whole w None f e = no_size e
+    whole w (Some m) f e =
         let h = both (is_sextet a && is_sextet b && is_sextet c) w in
         let g = both (is_sextet a && is_sextet b) h.0 in
         let i = both (is_sextet a) g.0 in
@@ -172,11 +172,11 @@ module _ (a b c d : ℕ) where
         rw (← k) (three_bytes a b c d i.0 i.1 g.1 h.1 (inner m f))
 
     group : (t : Bool) → is_whole a b c d ≡ t
-        → cond t (more 3 (blob_size xs)) (cond (eqb (length xs) 0) (padded a b c d) none) ≡ some n → Encoded (a ∷ b ∷ c ∷ d ∷ xs) n
+        → cond t (more 3 (blob_size xs)) (cond (eqb (length xs) 0) (padded a b c d) None) ≡ Some n → Encoded (a ∷ b ∷ c ∷ d ∷ xs) n
     group true w e = whole w (blob_size xs) refl e
     group false w e = last xs n e
 
-pub sized_encoding : (t : List ℕ) (n : ℕ) → blob_size t ≡ some n → Encoded t n
+pub sized_encoding : (t : List ℕ) (n : ℕ) → blob_size t ≡ Some n → Encoded t n
 unfolding blob_size encode
 sized_encoding [] n e = record { of = []; low = low_none; count = cc; is = refl }
 sized_encoding (a ∷ []) n e = no_size e
@@ -184,7 +184,7 @@ sized_encoding (a ∷ b ∷ []) n e = no_size e
 sized_encoding (a ∷ b ∷ c ∷ []) n e = no_size e
 sized_encoding (a ∷ b ∷ c ∷ d ∷ xs) n e = group a b c d xs n (λ m h. sized_encoding xs m h) (is_whole a b c d) refl e
 
-pub encoded_sized : (t : List ℕ) (n : ℕ) → Encoded t n → blob_size t ≡ some n
+pub encoded_sized : (t : List ℕ) (n : ℕ) → Encoded t n → blob_size t ≡ Some n
 encoded_sized t n x = rw (← x.is, ← x.count) (encoding_sized x.of)
 
 -- ## An encoding has no escape
@@ -196,5 +196,5 @@ encoding_plain (a ∷ []) = simp no_backslash_of
 encoding_plain (a ∷ b ∷ []) = simp no_backslash_of
 encoding_plain (a ∷ b ∷ c ∷ bs) = simp (no_backslash_of, encoding_plain bs)
 
-pub sized_plain : (t : List ℕ) (n : ℕ) → blob_size t ≡ some n → all (λ b. not (eqb b 92)) t ≡ true
+pub sized_plain : (t : List ℕ) (n : ℕ) → blob_size t ≡ Some n → all (λ b. not (eqb b 92)) t ≡ true
 sized_plain t n e = let x = sized_encoding t n e in rw (← x.is) (encoding_plain x.of)

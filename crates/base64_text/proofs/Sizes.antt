@@ -1,12 +1,12 @@
 -- Laws of the code that sizes a text, one for each way through a function. A flag or a number that the code has stands before what it is.
 -- Assumes nothing.
+use Rattle.std.specs.Prelude.{Option, Some, None}
 use Prim.Native.Nat.{ℕ, ◌+◌, ◌-◌, ◌%◌, ◌≤◌, ◌<◌}
 use native.Mathlib.Nat.{add-zero, zero-add}
 use native.Mathlib.Omega.{arith}
 use mathlib.Core.Path.{◌≡◌, refl, sym, ap, ◌∙◌}
 use mathlib.Core.Bool.{Bool, true, false, cond, not, ◌&&◌, and-false, false≢true}
 use mathlib.Core.List.{List, [], ◌∷◌}
-use mathlib.Core.Option.{Option, none, some}
 use lib.Dec.{leb, eqb, eqb-suc-zero}
 use lib.ListN.{length, get_or, drop, length-drop}
 use lib.Seq.{get_or-drop, drop-drop}
@@ -16,8 +16,6 @@ use Rattle.ascii.specs.Clauses.Reader.{ByteAt}
 use Rattle.ascii.proofs.Bytes.{head_drop}
 use Rattle.base64_text.specs.Base64.{sextet, is_sextet, is_whole, padded, more, blob_size}
 use Rattle.base64_text.specs.Clauses.Answer.{whole_at, meaning, last_size}
-use Rattle.base64_text.specs.declared.Size.{Size}
-use Rattle.base64_text.specs.declared.Size.TheVariants.{Of, Bad}
 use Rattle.base64_text.proofs.Digits.{both}
 
 -- ## The six bits of a digit
@@ -82,45 +80,45 @@ module _ {t : List ℕ} {i a : ℕ} (xa : ByteAt t i a) {u : Bool} (hu : u ≡ i
 -- ## A padded group
 
 module _ (a b c d : ℕ) {u : Bool} (hu : u ≡ is_sextet a) where
-  pub padded_first : not u ≡ true → none ≡ padded a b c d
+  pub padded_first : not u ≡ true → None ≡ padded a b c d
   unfolding padded
   padded_first h = simp (sym hu ∙ not-true u h)
 
   module _ (nu : not u ≡ false) {v : Bool} (hv : v ≡ is_sextet b) where
-    pub padded_second : not v ≡ true → none ≡ padded a b c d
+    pub padded_second : not v ≡ true → None ≡ padded a b c d
     unfolding padded
     padded_second h = simp (sym hu ∙ not-false u nu, sym hv ∙ not-true v h)
 
     module _ (nv : not v ≡ false) where
-      pub padded_end : (d ≡ 61 → ⊥) → none ≡ padded a b c d
+      pub padded_end : (d ≡ 61 → ⊥) → None ≡ padded a b c d
       unfolding padded
       padded_end h = simp (sym hu ∙ not-false u nu, sym hv ∙ not-false v nv, ne_eqb d 61 h)
 
       module _ (hd : d ≡ 61) where
         module _ (hc : c ≡ 61) {s : ℕ} (hs : s ≡ sextet b) where
-          pub two_pads : s % 16 ≡ 0 → some 1 ≡ padded a b c d
+          pub two_pads : s % 16 ≡ 0 → Some 1 ≡ padded a b c d
           unfolding padded
           two_pads h =
               simp (sym hu ∙ not-false u nu, sym hv ∙ not-false v nv, eq-eqb d 61 hd, eq-eqb c 61 hc, ← hs, eq-eqb (s % 16) 0 h)
 
-          pub two_pads_bad : (s % 16 ≡ 0 → ⊥) → none ≡ padded a b c d
+          pub two_pads_bad : (s % 16 ≡ 0 → ⊥) → None ≡ padded a b c d
           unfolding padded
           two_pads_bad h =
               simp (sym hu ∙ not-false u nu, sym hv ∙ not-false v nv, eq-eqb d 61 hd, eq-eqb c 61 hc, ← hs, ne_eqb (s % 16) 0 h)
 
         module _ (nc : c ≡ 61 → ⊥) {w : Bool} (hw : w ≡ is_sextet c) where
-          pub padded_third : not w ≡ true → none ≡ padded a b c d
+          pub padded_third : not w ≡ true → None ≡ padded a b c d
           unfolding padded
           padded_third h =
               simp (sym hu ∙ not-false u nu, sym hv ∙ not-false v nv, eq-eqb d 61 hd, ne_eqb c 61 nc, sym hw ∙ not-true w h)
 
           module _ (nw : not w ≡ false) {s : ℕ} (hs : s ≡ sextet c) where
-            pub one_pad : s % 4 ≡ 0 → some 2 ≡ padded a b c d
+            pub one_pad : s % 4 ≡ 0 → Some 2 ≡ padded a b c d
             unfolding padded
             one_pad h =
                 simp (sym hu ∙ not-false u nu, sym hv ∙ not-false v nv, eq-eqb d 61 hd, ne_eqb c 61 nc, sym hw ∙ not-false w nw, ← hs, eq-eqb (s % 4) 0 h)
 
-            pub one_pad_bad : (s % 4 ≡ 0 → ⊥) → none ≡ padded a b c d
+            pub one_pad_bad : (s % 4 ≡ 0 → ⊥) → None ≡ padded a b c d
             unfolding padded
             one_pad_bad h =
                 simp (sym hu ∙ not-false u nu, sym hv ∙ not-false v nv, eq-eqb d 61 hd, ne_eqb c 61 nc, sym hw ∙ not-false w nw, ← hs, ne_eqb (s % 4) 0 h)
@@ -128,7 +126,7 @@ module _ (a b c d : ℕ) {u : Bool} (hu : u ≡ is_sextet a) where
 -- ## What follows the whole groups
 
 module _ (t : List ℕ) (i : ℕ) where
-  pub last_none : length t - i ≡ 0 → some 0 ≡ last_size (drop i t)
+  pub last_none : length t - i ≡ 0 → Some 0 ≡ last_size (drop i t)
   unfolding last_size
   last_none h = simp (length-drop, h)
 
@@ -137,14 +135,14 @@ module _ (t : List ℕ) (i : ℕ) where
   unfolding last_size
   last_padded h e = simp (length-drop, h, get_or-drop, add-zero) e
 
-  pub last_bad : (length t - i ≡ 0 → ⊥) → (length t - i ≡ 4 → ⊥) → none ≡ last_size (drop i t)
+  pub last_bad : (length t - i ≡ 0 → ⊥) → (length t - i ≡ 4 → ⊥) → None ≡ last_size (drop i t)
   unfolding last_size
   last_bad h k = simp (length-drop, ne_eqb _ 0 h, ne_eqb _ 4 k)
 
 -- it is two bytes at most
 data Low : Option ℕ → Type 0 where
-  no : Low none
-  yes : {m : ℕ} → m ≤ 2 → Low (some m)
+  no : Low None
+  yes : {m : ℕ} → m ≤ 2 → Low (Some m)
 
 either : (t : Bool) {o p : Option ℕ} → Low o → Low p → Low (cond t o p)
 either true x y = x
@@ -165,23 +163,23 @@ last_size_low xs =
     either (eqb (length xs) 0) (yes (omega arith))
     (either (eqb (length xs) 4) (padded_low (get_or xs 0 0) (get_or xs 1 0) (get_or xs 2 0) (get_or xs 3 0)) no)
 
-few : {m : ℕ} → Low (some m) → m ≤ 2
+few : {m : ℕ} → Low (Some m) → m ≤ 2
 few (yes h) = h
 
-pub last_low : (t : List ℕ) (i : ℕ) {s : Size} → meaning s ≡ last_size (drop i t) → (m : ℕ) → s ≡ Of m → m ≤ 2
+pub last_low : (t : List ℕ) (i : ℕ) {s : Option ℕ} → meaning s ≡ last_size (drop i t) → (m : ℕ) → s ≡ Some m → m ≤ 2
 last_low t i hs m e = few (rw (← hs, e) at (last_size_low (drop i t)))
 
 -- ## The whole groups
 
 more_none : (o : Option ℕ) → more 0 o ≡ o
 unfolding more
-more_none none = refl
-more_none (some m) = ap some (zero-add m)
+more_none None = refl
+more_none (Some m) = ap Some (zero-add m)
 
 more_more : (n k : ℕ) (o : Option ℕ) → more n (more k o) ≡ more (n + k) o
 unfolding more
-more_more n k none = refl
-more_more n k (some m) = ap some (omega arith)
+more_more n k None = refl
+more_more n k (Some m) = ap Some (omega arith)
 
 -- past the end there is no digit
 no_digit : is_sextet 0 ≡ false
@@ -221,12 +219,12 @@ module _ (t : List ℕ) (i : ℕ) {r : Bool} (hr : r ≡ whole_at t i) where
     pub sized_more : r ≡ true → blob_size t ≡ more (n + 3) (blob_size (drop (i + 4) t))
     sized_more h = at ∙ rw ((at_least_four (drop i t) (at_drop t i ∙ sym hr ∙ h)).1, more_more, drop-drop)
 
-    module _ (h : r ≡ false) {s : Size} (hs : meaning s ≡ last_size (drop i t)) where
-      pub sized_bad : s ≡ Bad → none ≡ blob_size t
+    module _ (h : r ≡ false) {s : Option ℕ} (hs : meaning s ≡ last_size (drop i t)) where
+      pub sized_bad : s ≡ None → None ≡ blob_size t
       unfolding more
       sized_bad e = sym (at ∙ rw (no_more (drop i t) (at_drop t i ∙ sym hr ∙ h), ← hs, e))
 
-      pub sized_of : (m : ℕ) → s ≡ Of m → some (n + m) ≡ blob_size t
+      pub sized_of : (m : ℕ) → s ≡ Some m → Some (n + m) ≡ blob_size t
       unfolding more
       sized_of m e = sym (at ∙ rw (no_more (drop i t) (at_drop t i ∙ sym hr ∙ h), ← hs, e))
 

@@ -1,6 +1,5 @@
 -- The size of what a text is the base64 of (RFC 4648, section 4), padded, "unused bits zero" (M-104). Assumes nothing.
-use Rattle.std.specs.Prelude.{ℕ, ◌+◌, ◌-◌, ◌%◌, Bool, cond, ◌&&◌, List, [], ◌∷◌, ltb, eqb, length}
-use Rattle.std.proofs.Math.Option.{Option, none, some}
+use Rattle.std.specs.Prelude.{ℕ, ◌+◌, ◌-◌, ◌%◌, Bool, cond, ◌&&◌, List, [], ◌∷◌, ltb, eqb, length, Option, Some, None}
 use Rattle.ascii.specs.Bytes.{is_in, is_digit}
 
 -- the six bits of a digit: 'A' to 'Z', 'a' to 'z', '0' to '9', '+' (43), '/' (47); 64 for any other byte
@@ -21,20 +20,20 @@ unfoldable pub padded : ℕ → ℕ → ℕ → ℕ → Option ℕ
 padded a b c d =
     cond (is_sextet a && is_sextet b && eqb d 61)
     (cond (eqb c 61)
-    (cond (eqb (sextet b % 16) 0) (some 1) none)
-    (cond (is_sextet c && eqb (sextet c % 4) 0) (some 2) none))
-    none
+    (cond (eqb (sextet b % 16) 0) (Some 1) None)
+    (cond (is_sextet c && eqb (sextet c % 4) 0) (Some 2) None))
+    None
 
 -- n more, where there is a size
 unfoldable pub more : ℕ → Option ℕ → Option ℕ
-more n none = none
-more n (some m) = some (n + m)
+more n None = None
+more n (Some m) = Some (n + m)
 
 -- how many bytes a text is the base64 of; none where it is no base64 [V-13]
 unfoldable pub blob_size : List ℕ → Option ℕ
-blob_size [] = some 0
-blob_size (a ∷ []) = none
-blob_size (a ∷ b ∷ []) = none
-blob_size (a ∷ b ∷ c ∷ []) = none
+blob_size [] = Some 0
+blob_size (a ∷ []) = None
+blob_size (a ∷ b ∷ []) = None
+blob_size (a ∷ b ∷ c ∷ []) = None
 blob_size (a ∷ b ∷ c ∷ d ∷ xs) =
-    cond (is_whole a b c d) (more 3 (blob_size xs)) (cond (eqb (length xs) 0) (padded a b c d) none)
+    cond (is_whole a b c d) (more 3 (blob_size xs)) (cond (eqb (length xs) 0) (padded a b c d) None)

@@ -1,7 +1,6 @@
 -- What is proved of the definitions: a size by `Base64` is that of an encoding by `Encoding`. Assumes nothing.
-use Rattle.std.specs.Prelude.{ℕ, true, not, List, ◌≡◌, ltb, eqb, length}
+use Rattle.std.specs.Prelude.{ℕ, true, not, List, ◌≡◌, ltb, eqb, length, Some}
 use Prim.Native.String.{String}
-use Rattle.std.proofs.Math.Option.{some}
 use Rattle.ascii.specs.Bytes.{all}
 use Rattle.ascii.specs.Text.{bytes}
 use Rattle.base64_text.specs.Base64.{blob_size}
@@ -16,17 +15,17 @@ pub record Encoded (t : List ℕ) (n : ℕ) : Type 0 where
 
 -- A text has a size exactly if it is the encoding of so many bytes.
 pub record SizesAreOfEncodings : Type 0 where
-  pub only : (t : List ℕ) (n : ℕ) → blob_size t ≡ some n → Encoded t n
-  pub each : (t : List ℕ) (n : ℕ) → Encoded t n → blob_size t ≡ some n
+  pub only : (t : List ℕ) (n : ℕ) → blob_size t ≡ Some n → Encoded t n
+  pub each : (t : List ℕ) (n : ℕ) → Encoded t n → blob_size t ≡ Some n
 
 -- A text with a backslash has no size: an escape is never base64.
 abbrev pub SizedHasNoEscape : Type 0
-SizedHasNoEscape = (t : List ℕ) (n : ℕ) → blob_size t ≡ some n → all (λ b. not (eqb b 92)) t ≡ true
+SizedHasNoEscape = (t : List ℕ) (n : ℕ) → blob_size t ≡ Some n → all (λ b. not (eqb b 92)) t ≡ true
 
 -- RFC 4648, section 10: a text, and its encoding, which has the text's size
 pub record Vector (plain coded : String) : Type 0 where
   pub encodes : encode (bytes plain) ≡ bytes coded
-  pub sizes : blob_size (bytes coded) ≡ some (length (bytes plain))
+  pub sizes : blob_size (bytes coded) ≡ Some (length (bytes plain))
 
 pub record VectorsAreRight : Type 0 where
   pub empty : Vector "" ""

@@ -9,13 +9,6 @@ ghost use Rattle.base64_text.specs.Theorems.{SizesAreOfEncodings, SizedHasNoEsca
 
 use ascii::{byte, is_digit, is_in};
 
-// How many bytes, or that the text is no base64.
-#[derive(Clone, Copy)]
-pub enum Size {
-    Of(usize),
-    Bad,
-}
-
 // The six bits of a digit, or 64.
 fn sextet(b: u8) -> u8
     ensures { result ≡ Base64.sextet b }
@@ -62,49 +55,49 @@ fn is_whole(t: &[u8], i: usize) -> bool
 }
 
 // A last group with one or two pads.
-fn padded(a: u8, b: u8, c: u8, d: u8) -> Size
+fn padded(a: u8, b: u8, c: u8, d: u8) -> Option<usize>
     ensures { meaning result ≡ Base64.padded a b c d }
 {
     if !is_sextet(a) {
-        return Size::Bad;
+        return None;
     }
     if !is_sextet(b) {
-        return Size::Bad;
+        return None;
     }
     if d != b'=' {
-        return Size::Bad;
+        return None;
     }
     if c == b'=' {
         if sextet(b) % 16 == 0 {
-            return Size::Of(1);
+            return Some(1);
         }
-        return Size::Bad;
+        return None;
     }
     if !is_sextet(c) {
-        return Size::Bad;
+        return None;
     }
     if sextet(c) % 4 == 0 {
-        return Size::Of(2);
+        return Some(2);
     }
-    Size::Bad
+    None
 }
 
 // What follows the whole groups.
-fn last_size(t: &[u8], i: usize) -> Size
+fn last_size(t: &[u8], i: usize) -> Option<usize>
     requires { i ≤ length t.now }
     ensures { meaning result ≡ last_size (drop i t.now) }
 {
     let left = t.len() - i;
     if left == 0 {
-        return Size::Of(0);
+        return Some(0);
     }
     if left == 4 {
         return padded(t[i], t[i + 1], t[i + 2], t[i + 3]);
     }
-    Size::Bad
+    None
 }
 
-pub fn blob_size(t: &[u8]) -> Size
+pub fn blob_size(t: &[u8]) -> Option<usize>
     ensures { meaning result ≡ blob_size t.now }
 {
     let mut i = 0;
@@ -113,10 +106,10 @@ pub fn blob_size(t: &[u8]) -> Size
         i += 4;
         n += 3;
     }
-    let Size::Of(m) = last_size(t, i) else {
-        return Size::Bad;
+    let Some(m) = last_size(t, i) else {
+        return None;
     };
-    Size::Of(n + m)
+    Some(n + m)
 }
 
 // A text has a size exactly if it is RFC 4648's encoding of so many bytes: nothing is run, the promise is the theorem.

@@ -1,9 +1,9 @@
 -- A history, and one without the chosen lines, are the same for a client that sent none of them. Assumes nothing.
+use Rattle.std.specs.Prelude.{slice_get}
 use Prim.Native.Nat.{ℕ, ◌+◌}
 use mathlib.Core.Bool.{Bool, true, false, cond}
 use mathlib.Core.List.{List, []}
 use mathlib.Core.Path.{◌≡◌, refl, sym, ◌∙◌, ap, subst}
-use lib.ListN.{get_elem?}
 use native.Mathlib.Omega.{arith}
 use Rattle.table.specs.Table.{Table}
 use Rattle.table.specs.Layout.{table_of}
@@ -59,7 +59,7 @@ chatter_does_not_reach table area time e h k c f may is =
     let t = claims w c f may.others x (λ d. 0) n n (near_begin c _ w time)
     (λ d i r q.
     let z : 0 + i ≡ i = omega arith in
-    ap (f d) z ∙ may.unchanged d i r (ap (λ (a : Node × List Record). get_elem? (replies_for d a.1) i) u ∙ q)) in
+    ap (f d) z ∙ may.unchanged d i r (ap (λ (a : Node × List Record). slice_get (replies_for d a.1) i) u ∙ q)) in
     unreached table n c f h k l.accepted
     (subst
     (λ a. Told c f (λ d. false) (λ d. 0) a (finish table n k, sent (answers table n k)))

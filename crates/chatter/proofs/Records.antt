@@ -1,9 +1,9 @@
 -- What a client is sent, and the driver's orders, among records laid end to end and among updates. Assumes nothing.
+use Rattle.std.specs.Prelude.{Option, Some, None}
 use Prim.Native.Nat.{ℕ, suc, ◌+◌}
 use native.Mathlib.Nat.{zero-add}
 use mathlib.Core.Bool.{Bool, true, false, cond, ◌&&◌, false≢true}
 use mathlib.Core.List.{List, [], ◌∷◌, ◌++◌, append_assoc}
-use mathlib.Core.Option.{Option, none, some}
 use mathlib.Core.Path.{◌≡◌, refl, sym, ◌∙◌, ap, ap₂, subst}
 use lib.Dec.{eqb}
 use borrow.Author.Tests.{eqb-true, eq-eqb, ne_eqb}
@@ -135,8 +135,8 @@ change_updates g o t i r = busy_updates g o t ++ updates_to g i r client_numbers
 
 pub change_updates_lem : (g : ℕ → Client) (o : Option (ℕ × Placed Parameter)) (t i : ℕ) (r : DataReport) → Updates (change_updates g o t i r)
 unfolding busy_updates
-change_updates_lem g none t i r = to_updates g i r client_numbers
-change_updates_lem g (some s) t i r = joined (updates_to g s.1.home _ client_numbers) (to_updates g s.1.home _ client_numbers)
+change_updates_lem g None t i r = to_updates g i r client_numbers
+change_updates_lem g (Some s) t i r = joined (updates_to g s.1.home _ client_numbers) (to_updates g s.1.home _ client_numbers)
   where
     joined : (x : List Record) → Updates x → Updates (x ++ updates_to g i r client_numbers)
     joined [] h = to_updates g i r client_numbers
@@ -176,8 +176,8 @@ sent_to_lem c g h s i r (d ∷ cs) =
 pub sent_change : (c : ℕ) (g h : ℕ → Client) → h c ≡ g c → (o : Option (ℕ × Placed Parameter)) (t i : ℕ) (r : DataReport)
     → sent_to c (change_updates h o t i r) ≡ sent_to c (change_updates g o t i r)
 unfolding busy_updates
-sent_change c g h e none t i r = sent_to_lem c g h e i r client_numbers
-sent_change c g h e (some s) t i r =
+sent_change c g h e None t i r = sent_to_lem c g h e i r client_numbers
+sent_change c g h e (Some s) t i r =
     sent_append c (updates_to h s.1.home _ client_numbers) (updates_to h i r client_numbers)
     ∙ ap₂ ◌++◌ (sent_to_lem c g h e s.1.home _ client_numbers) (sent_to_lem c g h e i r client_numbers)
     ∙ sym (sent_append c (updates_to g s.1.home _ client_numbers) (updates_to g i r client_numbers))

@@ -1,11 +1,10 @@
 -- The plain node run on a history's items, and on those that stay: the same for a client that sent none of the others. Assumes nothing.
+use Rattle.std.specs.Prelude.{Option, Some, None, slice_get}
 use Prim.Native.Nat.{ℕ, suc, ◌+◌}
 use mathlib.Core.Bool.{Bool, true, false, cond, not, ◌&&◌, and-eq-true_iff, false≢true}
 use mathlib.Core.List.{List, [], ◌∷◌, ◌++◌, append_assoc}
-use mathlib.Core.Option.{Option, none, some}
 use mathlib.Core.Path.{◌≡◌, refl, sym, ◌∙◌, ap, ap₂, subst}
 use lib.Dec.{eqb}
-use lib.ListN.{get_elem?}
 use native.Mathlib.Omega.{arith}
 use borrow.Author.Tests.{eqb-true, eq-eqb}
 use Rattle.counter.specs.Counts.{no_counts}
@@ -35,18 +34,18 @@ use Rattle.chatter.proofs.Lines.{agree, aside}
 
 -- no chosen line is answered by `changed` among these records, where each client e had k e replies before
 abbrev pub Fine : Choice → (ℕ → ℕ) → List Record → Type 0
-Fine f k rs = (e i : ℕ) (r : DataReport) → get_elem? (replies_for e rs) i ≡ some (changed r) → f e (k e + i) ≡ false
+Fine f k rs = (e i : ℕ) (r : DataReport) → slice_get (replies_for e rs) i ≡ Some (changed r) → f e (k e + i) ≡ false
 
 fine_append : (f : Choice) (k : ℕ → ℕ) (x y : List Record) → NoFinal x → Fine f k (x ++ y) → Fine f k y
 fine_append f k x y q h e i r s =
-    h e i r (ap (λ l. get_elem? l i) (replies_append e x y ∙ ap (◌++ replies_for e y) (no_final_replies e x q)) ∙ s)
+    h e i r (ap (λ l. slice_get l i) (replies_append e x y ∙ ap (◌++ replies_for e y) (no_final_replies e x q)) ∙ s)
 
 module _ (f : Choice) (k : ℕ → ℕ) (d : ℕ) (r : Reply) (y : List Record) (h : Fine f k (final d r ∷ y)) where
   fine_now : (x : DataReport) → r ≡ changed x → f d (k d) ≡ false
   unfolding replies_for
   fine_now x s =
       let z : k d ≡ k d + 0 = omega arith in
-      ap (f d) z ∙ h d 0 x (ap (λ q. get_elem? (cond q (r ∷ []) [] ++ replies_for d y) 0) (eq-eqb d d refl) ∙ ap some s)
+      ap (f d) z ∙ h d 0 x (ap (λ q. slice_get (cond q (r ∷ []) [] ++ replies_for d y) 0) (eq-eqb d d refl) ∙ ap Some s)
 
   fine_later : Fine f (one_more k d) y
   unfolding replies_for put
@@ -57,8 +56,8 @@ module _ (f : Choice) (k : ℕ → ℕ) (d : ℕ) (r : Reply) (y : List Record) 
           let u : e ≡ d = eqb-true e d t in
           let v : k e ≡ k d = ap k u in
           let z : suc (k d) + i ≡ k e + suc i = omega arith in
-          ap (f e) z ∙ h e (suc i) x (ap (λ q. get_elem? (cond q (r ∷ []) [] ++ replies_for e y) (suc i)) t ∙ s)
-      go false t = h e i x (ap (λ q. get_elem? (cond q (r ∷ []) [] ++ replies_for e y) i) t ∙ s)
+          ap (f e) z ∙ h e (suc i) x (ap (λ q. slice_get (cond q (r ∷ []) [] ++ replies_for e y) (suc i)) t ∙ s)
+      go false t = h e i x (ap (λ q. slice_get (cond q (r ∷ []) [] ++ replies_for e y) i) t ∙ s)
 
 -- ## Lines that are left out
 
@@ -162,15 +161,15 @@ module _ (w : Table) (c : ℕ) (f : Choice) (mine : (i : ℕ) → f c i ≡ fals
   claim_reading : (p : ℕ) (bs : List ℕ) (t : ℕ) (k : ℕ → ℕ) (x : List Item) → Claim k x → (o : Option (Placed Parameter))
       → ClaimEffect k x (λ m. reading_effect m p o bs t)
   unfolding reading_effect
-  claim_reading p bs t k x claim none = claim
-  claim_reading p bs t k x claim (some y) = claim_driver p y (valued (stored_form y.it.datainfo bs)) t k x claim
+  claim_reading p bs t k x claim None = claim
+  claim_reading p bs t k x claim (Some y) = claim_driver p y (valued (stored_form y.it.datainfo bs)) t k x claim
 
   claim_unreadable : (p t : ℕ) (k : ℕ → ℕ) (x : List Item) → Claim k x → (o : Option (Placed Parameter)) (z : Option Fault)
       → ClaimEffect k x (λ m. unreadable_effect m p o z t)
   unfolding unreadable_effect
-  claim_unreadable p t k x claim none z = claim
-  claim_unreadable p t k x claim (some y) none = claim
-  claim_unreadable p t k x claim (some y) (some z) = claim_driver p y (failed z) t k x claim
+  claim_unreadable p t k x claim None z = claim
+  claim_unreadable p t k x claim (Some y) None = claim
+  claim_unreadable p t k x claim (Some y) (Some z) = claim_driver p y (failed z) t k x claim
 
   -- ## Lines
 
@@ -301,10 +300,10 @@ module _ (w : Table) (c : ℕ) (f : Choice) (mine : (i : ℕ) → f c i ≡ fals
       claims x k _ _ (near_count c _ _ _ (near_new (opens d t) d fresh k x (λ e. refl) refl m n h) d no_counts no_counts (λ e. (refl, refl))) g
   claims (mark (closes d t) ∷ x) k m n h g = claims x k _ _ (near_new (closes d t) d closed k x (λ e. refl) refl m n h) g
   claims (mark (reads i bs t) ∷ x) k m n h g =
-      claim_reading i bs t k x (claims x k) (get_elem? (parameters w) i) m n
+      claim_reading i bs t k x (claims x k) (slice_get (parameters w) i) m n
       (near_out c _ _ m n (λ e. going_mark f k 0 x (reads i bs t) e refl) h)
       g
   claims (mark (fails i j t) ∷ x) k m n h g =
-      claim_unreadable i t k x (claims x k) (get_elem? (parameters w) i) (fault_of j) m n
+      claim_unreadable i t k x (claims x k) (slice_get (parameters w) i) (fault_of j) m n
       (near_out c _ _ m n (λ e. going_mark f k 0 x (fails i j t) e refl) h)
       g

@@ -1,7 +1,5 @@
 -- Request M-112, "Chatter doesn't reach me", of the plain node. What stands in quotation marks is the request's own. Assumes nothing.
-use Rattle.std.specs.Prelude.{ℕ, false, ◌&&◌, List, [], ◌∷◌, ◌↔◌, ◌≡◌, eqb}
-use Rattle.std.proofs.Math.Option.{some}
-use Rattle.std.proofs.Math.ListN.{get_elem?}
+use Rattle.std.specs.Prelude.{ℕ, false, ◌&&◌, List, [], ◌∷◌, ◌↔◌, ◌≡◌, eqb, Some, slice_get}
 use Rattle.table.specs.Layout.{table_of}
 use Rattle.message.specs.Reply.{DataReport, pong, changed}
 use Rattle.outbox.specs.Outbox.{Record, final, order_change, order_command}
@@ -17,7 +15,7 @@ pub record MayGo (c : ℕ) (f : Choice) (rs : List Record) : Type 0 where
   -- "of other clients": client c's own lines stay [H-12]
   pub others : (i : ℕ) → f c i ≡ false
   -- "that are not accepted changes" [H-12]
-  pub unchanged : (d i : ℕ) (r : DataReport) → get_elem? (replies_for d rs) i ≡ some (changed r) → f d i ≡ false
+  pub unchanged : (d i : ℕ) (r : DataReport) → slice_get (replies_for d rs) i ≡ Some (changed r) → f d i ≡ false
 
 -- What the request says of client c, of the history h, from the node n on, and of k, which has the chosen lines no more. [H-12]
 pub record Unreached (table : List ℕ) (n : Node) (c : ℕ) (f : Choice) (h k : List Call) : Type 0 where

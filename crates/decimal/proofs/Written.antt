@@ -1,9 +1,9 @@
 -- The decimal text of a whole number is a number's token, whole, and its value is that number. Assumes nothing.
+use Rattle.std.specs.Prelude.{Some}
 use Prim.Native.Nat.{ℕ, zero, suc, ◌+◌, ◌*◌, ◌-◌, ◌/◌, ◌%◌, ◌≤◌, ◌<◌}
 use native.Mathlib.Omega.{arith}
 use mathlib.Core.Bool.{Bool, true, false, cond, not, ◌&&◌, ◌||◌}
 use mathlib.Core.List.{List, [], ◌∷◌, ◌++◌, append_assoc, append-nil}
-use mathlib.Core.Option.{some}
 use mathlib.Core.Path.{◌≡◌, refl, ◌∙◌, ap, ap₂}
 use lib.Dec.{ltb, leb, eqb}
 use lib.ListN.{length}
@@ -42,7 +42,7 @@ above_digit b h =
 -- ## The token
 
 -- the digits of n are no minus and a whole number's digits
-decimal_int : (n : ℕ) → (eqb (head (decimal n)) 45 ≡ false) × (int (decimal n) ≡ some [])
+decimal_int : (n : ℕ) → (eqb (head (decimal n)) 45 ≡ false) × (int (decimal n) ≡ Some [])
 unfolding decimal digits_in digit int digits drop_while head tail is_in
 decimal_int zero = (refl, refl)
 decimal_int (suc n) =
@@ -52,7 +52,7 @@ decimal_int (suc n) =
       rw (differs (is_in 49 57) 48 refl (head xs) f, above_digit (head xs) f, dropped is_digit xs (decimal_digits (suc n))),
     )
 
-pub integer_token : (z : ℤ) → number (integer z) ≡ some []
+pub integer_token : (z : ℤ) → number (integer z) ≡ Some []
 unfolding integer bytes number minus frac exp head tail
 integer_token (pos n) = let h = decimal_int n in rw (h.0, h.1)
 integer_token (negsuc n) = rw (decimal_int (suc n)).1

@@ -1,13 +1,11 @@
 -- Laws of the accessibles and modules that are written, and of the whole report, one for each way through a function. Assumes nothing.
+use Rattle.std.specs.Prelude.{Option, Some, None}
 use Prim.Native.Nat.{ℕ, ◌≤◌}
 use native.Mathlib.Omega.{arith}
 use mathlib.Core.Path.{◌≡◌, refl, sym, ap, ◌∙◌}
 use mathlib.Core.Bool.{Bool, true, false, cond}
 use mathlib.Core.List.{List, [], ◌∷◌, ◌++◌, append_assoc, append-nil}
-use mathlib.Core.Option.{Option, none, some}
 use lib.ListN.{length, drop}
-use Rattle.ascii.specs.declared.Next.{Next}
-use Rattle.ascii.specs.declared.Next.TheVariants.{At, Bad}
 use Rattle.ascii.specs.Text.{bytes}
 use Rattle.ascii.specs.Bytes.{◌>>=◌}
 use Rattle.ascii.specs.Clauses.Reader.{Ends, rest}
@@ -22,9 +20,7 @@ use Rattle.table.specs.declared.layout.ParameterAt.{ParameterAt}
 use Rattle.table.specs.declared.layout.CommandAt.{CommandAt}
 use Rattle.table.specs.declared.layout.ModuleAt.{ModuleAt}
 use Rattle.table.specs.declared.layout.Accessible as A
-use Rattle.table.specs.declared.layout.Heading as H
 use Rattle.table.specs.declared.layout.HeadAt.{HeadAt}
-use Rattle.table.specs.declared.layout.Head as Head
 use Rattle.table.proofs.Enough.{before, accessibles_stop, accessibles_more, modules_stop, modules_more}
 use Rattle.table.proofs.Modules.{with_accessibles, module_is}
 use Rattle.table.proofs.Whole.{opened, unread, readable_whole, members_headless}
@@ -88,28 +84,28 @@ module _ (s : List ℕ) (i : ℕ) (has : Bool) {d : List ℕ} {at : ℕ} where
 
   pub argument_some : has ≡ true → {e f : List ℕ} {p r : ℕ} → Emits d at (bytes ",\"argument\":") e p → Says (told datainfo_text (datainfo_in 4 (drop i s))) e p f r → Says (told argument_text (argument_at has (drop i s))) d at f r
   unfolding argument_at argument_text argument_member more_members datainfo_text quoted bytes
-  argument_some z x y = rw z (mapped datainfo_text some argument_text (datainfo_in 4 (drop i s)) (λ a u. both x (both u (after u))) y)
+  argument_some z x y = rw z (mapped datainfo_text Some argument_text (datainfo_in 4 (drop i s)) (λ a u. both x (both u (after u))) y)
 
 -- which of both it is
-module _ (s : List ℕ) (i : ℕ) (r : A.Accessible) (h : AccessibleIs s r (accessible_at (length s) (drop i s))) {d e : List ℕ} {at z : ℕ} where
-  pub accessible_parameter : (q : ParameterAt) → r ≡ A.TheVariants.Parameter q → Says (told (λ a. accessible_text (Table.parameter (parameter_of s q a))) (datainfo_in 4 (drop q.info s))) d at e z → Says (told accessible_text (accessible_at (length s) (drop i s))) d at e z
+module _ (s : List ℕ) (i : ℕ) (r : Option A.Accessible) (h : AccessibleIs s r (accessible_at (length s) (drop i s))) {d e : List ℕ} {at z : ℕ} where
+  pub accessible_parameter : (q : ParameterAt) → r ≡ Some (A.TheVariants.Parameter q) → Says (told (λ a. accessible_text (Table.parameter (parameter_of s q a))) (datainfo_in 4 (drop q.info s))) d at e z → Says (told accessible_text (accessible_at (length s) (drop i s))) d at e z
   accessible_parameter q k y =
       let x = rw k at h in
       says_text (ap (told accessible_text) x.is) (y.is (ap (told (λ a. accessible_text (Table.parameter (parameter_of s q a)))) x.info))
 
-  pub accessible_command : (q : CommandAt) → r ≡ A.TheVariants.Command q → Says (told (λ a. accessible_text (Table.command (command_of s q a))) (argument_at q.argument (drop q.info s))) d at e z → Says (told accessible_text (accessible_at (length s) (drop i s))) d at e z
+  pub accessible_command : (q : CommandAt) → r ≡ Some (A.TheVariants.Command q) → Says (told (λ a. accessible_text (Table.command (command_of s q a))) (argument_at q.argument (drop q.info s))) d at e z → Says (told accessible_text (accessible_at (length s) (drop i s))) d at e z
   accessible_command q k y =
       let x = rw k at h in
       says_text (ap (told accessible_text) x.is) (y.is (ap (told (λ a. accessible_text (Table.command (command_of s q a)))) x.info))
 
-  pub accessible_bad : r ≡ A.TheVariants.Bad → Says (told accessible_text (accessible_at (length s) (drop i s))) d at e z
+  pub accessible_bad : r ≡ None → Says (told accessible_text (accessible_at (length s) (drop i s))) d at e z
   accessible_bad k = says_nothing (ap (told accessible_text) (rw k at h))
 
-module _ (s : List ℕ) (r : A.Accessible) (o : Option (Table.Accessible × List ℕ)) (h : AccessibleIs s r o) where
-  pub parameter_name_lem : (q : ParameterAt) → r ≡ A.TheVariants.Parameter q → Inside s q.name
+module _ (s : List ℕ) (r : Option A.Accessible) (o : Option (Table.Accessible × List ℕ)) (h : AccessibleIs s r o) where
+  pub parameter_name_lem : (q : ParameterAt) → r ≡ Some (A.TheVariants.Parameter q) → Inside s q.name
   parameter_name_lem q e = (rw e at h).name
 
-  pub command_name_lem : (q : CommandAt) → r ≡ A.TheVariants.Command q → Inside s q.name
+  pub command_name_lem : (q : CommandAt) → r ≡ Some (A.TheVariants.Command q) → Inside s q.name
   command_name_lem q e = (rw e at h).name
 
 -- ## As many records as follow
@@ -119,10 +115,10 @@ module _ {X : Type 0} (f : X → List ℕ) (g : Bool → List X → List ℕ) (s
   as_parts : (told f one >>= λ a. told (λ t. comma first ++ a.0 ++ t) (told (g false) (more a.1))) ≡ told (g first) (one >>= λ a. before a.0 (more a.1))
   as_parts = list_step first f (g first) (g false) (λ x xs. x ∷ xs) (same first) more (λ xs. told (g false) (more xs)) (λ xs. refl) one
 
-  records_bad : rest one ≡ none → {h : List ℕ} {r : ℕ} → Says o d at h r
+  records_bad : rest one ≡ None → {h : List ℕ} {r : ℕ} → Says o d at h r
   records_bad z = go.says (says_nothing (sym as_parts ∙ parts_none first (told f one) (λ xs. told (g false) (more xs)) (rest_told f one ∙ z)))
 
-  records_more : (left : List ℕ) → rest one ≡ some left → {e h : List ℕ} {p1 p2 : ℕ} → Emits d' p (comma first) e p1 → Says (told f one) e p1 h p2 → Leads o d at (told (g false) (more left)) h p2
+  records_more : (left : List ℕ) → rest one ≡ Some left → {e h : List ℕ} {p1 p2 : ℕ} → Emits d' p (comma first) e p1 → Says (told f one) e p1 h p2 → Leads o d at (told (g false) (more left)) h p2
   records_more left z x y =
       record { says = λ u. go.says (rw (← as_parts) ((parts_more first (told f one) (λ xs. told (g false) (more xs)) (rest_told f one ∙ z) x y).says u)) }
 
@@ -162,14 +158,14 @@ module _ (s : List ℕ) (j : ℕ) (first : Bool) (o : Option (List ℕ × List �
     unfolding listed accessible_members
     accessibles_end z w = go.says (rw (accessibles_stop s j (sym hb ∙ z)) (says_text refl (nothing d' p w)))
 
-    module _ (z : b ≡ true) (q : Next) (e : Ends s q (rest (accessible_at (length s) (drop j s)))) where
+    module _ (z : b ≡ true) (q : Option ℕ) (e : Ends s q (rest (accessible_at (length s) (drop j s)))) where
       onward : Leads o d at (told (accessibles_listed first) (accessible_at (length s) (drop j s) >>= λ a. before a.0 (accessibles_at (length s) (length a.1) a.1))) d' p
       onward = rw (accessibles_more s j (sym hb ∙ z)) at go
 
-      pub accessibles_bad : q ≡ Bad → {h : List ℕ} {r : ℕ} → Says o d at h r
+      pub accessibles_bad : q ≡ None → {h : List ℕ} {r : ℕ} → Says o d at h r
       accessibles_bad k = records_bad accessible_text accessibles_listed accessibles_same (λ xs. accessibles_at (length s) (length xs) xs) (accessible_at (length s) (drop j s)) first o d d' at p onward (rw k at e)
 
-      pub accessibles_next : (j' : ℕ) → q ≡ At j' → {f h : List ℕ} {p1 p2 : ℕ} → Emits d' p (comma first) f p1 → Says (told accessible_text (accessible_at (length s) (drop j s))) f p1 h p2 → Leads o d at (accessibles_to_come s false j') h p2
+      pub accessibles_next : (j' : ℕ) → q ≡ Some j' → {f h : List ℕ} {p1 p2 : ℕ} → Emits d' p (comma first) f p1 → Says (told accessible_text (accessible_at (length s) (drop j s))) f p1 h p2 → Leads o d at (accessibles_to_come s false j') h p2
       accessibles_next j' k x y = records_more accessible_text accessibles_listed accessibles_same (λ xs. accessibles_at (length s) (length xs) xs) (accessible_at (length s) (drop j s)) first o d d' at p onward (drop j' s) (rw k at e).0 x y
 
   module _ (go : Leads o d at (modules_to_come s first j) d' p) (b : Bool) (hb : b ≡ begins (bytes "MO") (drop j s)) where
@@ -177,14 +173,14 @@ module _ (s : List ℕ) (j : ℕ) (first : Bool) (o : Option (List ℕ × List �
     unfolding listed module_members
     modules_end z w = go.says (rw (modules_stop s j (sym hb ∙ z)) (says_text refl (nothing d' p w)))
 
-    module _ (z : b ≡ true) (q : Next) (e : Ends s q (rest (module_at (length s) (drop j s)))) where
+    module _ (z : b ≡ true) (q : Option ℕ) (e : Ends s q (rest (module_at (length s) (drop j s)))) where
       onwards : Leads o d at (told (modules_listed first) (module_at (length s) (drop j s) >>= λ a. before a.0 (modules_at (length s) (length a.1) a.1))) d' p
       onwards = rw (modules_more s j (sym hb ∙ z)) at go
 
-      pub modules_bad : q ≡ Bad → {h : List ℕ} {r : ℕ} → Says o d at h r
+      pub modules_bad : q ≡ None → {h : List ℕ} {r : ℕ} → Says o d at h r
       modules_bad k = records_bad module_text modules_listed modules_same (λ xs. modules_at (length s) (length xs) xs) (module_at (length s) (drop j s)) first o d d' at p onwards (rw k at e)
 
-      pub modules_next : (j' : ℕ) → q ≡ At j' → {f h : List ℕ} {p1 p2 : ℕ} → Emits d' p (comma first) f p1 → Says (told module_text (module_at (length s) (drop j s))) f p1 h p2 → Leads o d at (modules_to_come s false j') h p2
+      pub modules_next : (j' : ℕ) → q ≡ Some j' → {f h : List ℕ} {p1 p2 : ℕ} → Emits d' p (comma first) f p1 → Says (told module_text (module_at (length s) (drop j s))) f p1 h p2 → Leads o d at (modules_to_come s false j') h p2
       modules_next j' k x y = records_more module_text modules_listed modules_same (λ xs. modules_at (length s) (length xs) xs) (module_at (length s) (drop j s)) first o d d' at p onwards (drop j' s) (rw k at e).0 x y
 
 -- ## Modules
@@ -201,11 +197,11 @@ module _ {d0 d1 d2 d3 d4 : List ℕ} {p0 p1 p2 p3 p4 : ℕ} where
   module_text_lem m w x y v =
       module_join (quoted m.name ++ bytes ":") (bytes "{\"interface_classes\":[],\"description\":") (quoted m.description) (bytes ",\"accessibles\":{") (accessibles_text m.accessibles) (bytes "}") (bytes "}") w x y v
 
-module _ (s : List ℕ) (i : ℕ) (h : H.Heading) (hh : HeadingIs s h (heading_at (drop i s))) where
-  pub module_bad : {d e : List ℕ} {at r : ℕ} → h ≡ H.TheVariants.Bad → Says (told module_text (module_at (length s) (drop i s))) d at e r
+module _ (s : List ℕ) (i : ℕ) (h : Option ModuleAt) (hh : HeadingIs s h (heading_at (drop i s))) where
+  pub module_bad : {d e : List ℕ} {at r : ℕ} → h ≡ None → Says (told module_text (module_at (length s) (drop i s))) d at e r
   module_bad z = says_nothing (ap (told module_text) (members_headless s i h hh z))
 
-  module _ (m : ModuleAt) (z : h ≡ H.TheVariants.Read m) where
+  module _ (m : ModuleAt) (z : h ≡ Some m) where
     pub module_name_lem : Inside s m.name
     module_name_lem = (rw z at hh).name
 
@@ -238,11 +234,11 @@ module _ {d0 d1 d2 d3 : List ℕ} {p0 p1 p2 p3 : ℕ} where
   unfolding report report_value modules_text texts_text compact compact_members more_members quoted bytes
   report_text_lem t x y z = report_join (bytes "{\"modules\":{") (modules_text t.modules) (bytes "}") (bytes ",\"equipment_id\":") (quoted t.equipment_id) (bytes ",\"description\":") (quoted t.description) (bytes "}") x y z
 
-module _ (s : List ℕ) (g : Readable s) (r : Head.Head) (h : HeadRead s r) {d0 d3 : List ℕ} {p0 p3 : ℕ} where
-  pub report_none : r ≡ Head.TheVariants.Bad → Emits d0 p0 (report (table_of s)) d3 p3
+module _ (s : List ℕ) (g : Readable s) (r : Option HeadAt) (h : HeadRead s r) {d0 d3 : List ℕ} {p0 p3 : ℕ} where
+  pub report_none : r ≡ None → Emits d0 p0 (report (table_of s)) d3 p3
   report_none e = absurd (unread s r h (table_of s) (readable_whole s g) e)
 
-  pub report_told : (q : HeadAt) → r ≡ Head.TheVariants.Read q → {d1 d2 : List ℕ} {p1 p2 : ℕ} → Emits d0 p0 (bytes "{\"modules\":{") d1 p1 → Says (told modules_text (modules_from s q.first)) d1 p1 d2 p2 → Emits d2 p2 (texts_text (bytes_of s q.id) (bytes_of s q.description)) d3 p3 → Emits d0 p0 (report (table_of s)) d3 p3
+  pub report_told : (q : HeadAt) → r ≡ Some q → {d1 d2 : List ℕ} {p1 p2 : ℕ} → Emits d0 p0 (bytes "{\"modules\":{") d1 p1 → Says (told modules_text (modules_from s q.first)) d1 p1 d2 p2 → Emits d2 p2 (texts_text (bytes_of s q.id) (bytes_of s q.description)) d3 p3 → Emits d0 p0 (report (table_of s)) d3 p3
   report_told q e x y z =
       let o = opened s r h (table_of s) (readable_whole s g) q e in
       report_text_lem (table_of s) x (y.is (ap (told modules_text) o.modules)) (rw (o.id, o.description) z)

@@ -12,12 +12,11 @@ ghost use Rattle.emit.specs.Clauses.Emitted.{capped, Emits, told, Says};
 ghost use Rattle.describe.specs.Clauses.Texts.{readonly_text, argument_text, accessible_text, accessibles_text, module_text, modules_text, texts_text};
 ghost use Rattle.describe.specs.Clauses.Room.{RoomFor};
 
-use ascii::Next;
 use emit::{emit, emit_comma, emit_key, emit_string};
 use infos::{emit_datainfo, emit_own};
 use limits::DATAINFO_LEVELS;
 use table::layout::{
-    Accessible, CommandAt, Head, Heading, ParameterAt, Part, accessible_at, accessible_end,
+    Accessible, CommandAt, ParameterAt, Part, accessible_at, accessible_end,
     head_at, heading_at, is_accessible, is_module, module_end,
 };
 
@@ -122,9 +121,9 @@ fn emit_accessible(out: &mut [u8], at: usize, s: &[u8], i: usize) -> usize
     ensures { Says (told accessible_text (accessible_at (length s.now) (drop i s.now))) out.old at out.new result }
 {
     match accessible_at(s, i) {
-        Accessible::Parameter(q) => emit_parameter(out, at, s, q),
-        Accessible::Command(q) => emit_command(out, at, s, q),
-        Accessible::Bad => at,
+        Some(Accessible::Parameter(q)) => emit_parameter(out, at, s, q),
+        Some(Accessible::Command(q)) => emit_command(out, at, s, q),
+        None => at,
     }
 }
 
@@ -137,7 +136,7 @@ fn emit_accessibles(out: &mut [u8], at: usize, s: &[u8], i: usize) -> usize
     let mut j = i;
     let mut first = true;
     while is_accessible(s, j) {
-        let Next::At(e) = accessible_end(s, j) else {
+        let Some(e) = accessible_end(s, j) else {
             return p;
         };
         let c = emit_comma(out, p, first);
@@ -153,7 +152,7 @@ fn emit_module(out: &mut [u8], at: usize, s: &[u8], i: usize) -> usize
     requires { i ≤ length s.now }
     ensures { Says (told module_text (module_at (length s.now) (drop i s.now))) out.old at out.new result }
 {
-    let Heading::Read(m) = heading_at(s, i) else {
+    let Some(m) = heading_at(s, i) else {
         return at;
     };
     let name = m.name;
@@ -175,7 +174,7 @@ fn emit_modules(out: &mut [u8], at: usize, s: &[u8], i: usize) -> usize
     let mut j = i;
     let mut first = true;
     while is_module(s, j) {
-        let Next::At(e) = module_end(s, j) else {
+        let Some(e) = module_end(s, j) else {
             return p;
         };
         let c = emit_comma(out, p, first);
@@ -201,7 +200,7 @@ fn emit_report(out: &mut [u8], at: usize, s: &[u8]) -> usize
     requires { Readable s.now }
     ensures { Emits out.old at (report (table_of s.now)) out.new result }
 {
-    let Head::Read(h) = head_at(s) else {
+    let Some(h) = head_at(s) else {
         return at;
     };
     let id = h.id;

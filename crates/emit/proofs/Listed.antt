@@ -1,9 +1,9 @@
 -- Laws of lists that are written with commas between their parts: members and items of JSON, and what is read part by part. Assumes nothing.
+use Rattle.std.specs.Prelude.{Option, Some, None}
 use Prim.Native.Nat.{ℕ}
 use mathlib.Core.Path.{◌≡◌, refl}
 use mathlib.Core.Bool.{Bool, true, false}
 use mathlib.Core.List.{List, [], ◌++◌, append-nil}
-use mathlib.Core.Option.{Option, none, some}
 use Rattle.ascii.specs.Text.{bytes}
 use Rattle.ascii.specs.Bytes.{◌>>=◌}
 use Rattle.json_text.specs.Json.{Json, Items, no_items, item, Members, no_members, member, quoted, compact, compact_items, more_items, compact_members, more_members}
@@ -51,14 +51,14 @@ items_more (item v is) = refl
 
 -- o reads the first part and `more` the others; `others` reads the texts of these
 module _ {A B : Type 0} (first : Bool) (f : A → List ℕ) (g g' : B → List ℕ) (cons : A → B → B) (same : (a : A) (b : B) → g (cons a b) ≡ comma first ++ f a ++ g' b) (more : List ℕ → Option (B × List ℕ)) (others : List ℕ → Option (List ℕ × List ℕ)) (are : (xs : List ℕ) → others xs ≡ told g' (more xs)) where
-  pub list_step : (o : Option (A × List ℕ)) → (told f o >>= λ p. told (λ t. comma first ++ p.0 ++ t) (others p.1)) ≡ told g (o >>= λ a. more a.1 >>= λ b. some (cons a.0 b.0, b.1))
-  list_step none = refl
-  list_step (some a) = rw (are a.1) (go (more a.1))
+  pub list_step : (o : Option (A × List ℕ)) → (told f o >>= λ p. told (λ t. comma first ++ p.0 ++ t) (others p.1)) ≡ told g (o >>= λ a. more a.1 >>= λ b. Some (cons a.0 b.0, b.1))
+  list_step None = refl
+  list_step (Some a) = rw (are a.1) (go (more a.1))
     where
-      go : (q : Option (B × List ℕ)) → told (λ t. comma first ++ f a.0 ++ t) (told g' q) ≡ told g (q >>= λ b. some (cons a.0 b.0, b.1))
-      go none = refl
-      go (some b) = rw (same a.0 b.0)
+      go : (q : Option (B × List ℕ)) → told (λ t. comma first ++ f a.0 ++ t) (told g' q) ≡ told g (q >>= λ b. Some (cons a.0 b.0, b.1))
+      go None = refl
+      go (Some b) = rw (same a.0 b.0)
 
 pub told_told : {A : Type 0} (f : List ℕ → List ℕ) (g : A → List ℕ) (o : Option (A × List ℕ)) → told f (told g o) ≡ told (λ a. f (g a)) o
-told_told f g none = refl
-told_told f g (some a) = refl
+told_told f g None = refl
+told_told f g (Some a) = refl

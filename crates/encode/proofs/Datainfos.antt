@@ -1,10 +1,10 @@
 -- A datainfo that is written is read. Assumes nothing.
+use Rattle.std.specs.Prelude.{Option, Some}
 use Prim.Native.Nat.{ℕ, zero, suc, ◌≤◌}
 use native.Mathlib.Omega.{arith}
 use mathlib.Core.Path.{◌≡◌, refl, ◌∙◌}
 use mathlib.Core.Bool.{Bool, true, false, cond, ◌&&◌, false≢true}
 use mathlib.Core.List.{List, [], ◌∷◌, ◌++◌, append_assoc}
-use mathlib.Core.Option.{Option, some}
 use lib.Dec.{leb}
 use lib.IntN.{ℤ, pos, negsuc}
 use lib.ListN.{length}
@@ -35,39 +35,39 @@ power_fits a h = go a.power h
     go (pos n) e = let l = leb-true n 30 (both (le_z (negsuc 29) (pos n)) (le_z (pos n) (pos 30)) e).1 in lt-ltb n 128 (omega arith)
     go (negsuc n) e = let l = leb-true n 29 (both (le_z (negsuc 29) (negsuc n)) (le_z (negsuc n) (pos 30)) e).0 in lt-ltb n 128 (omega arith)
 
-limit_back : (a : Decimal) (r : List ℕ) → limit_fits a ≡ true → power_good a ≡ true → limit (limit_bytes a ++ r) ≡ some (a, r)
+limit_back : (a : Decimal) (r : List ℕ) → limit_fits a ≡ true → power_good a ≡ true → limit (limit_bytes a ++ r) ≡ Some (a, r)
 unfolding limit limit_bytes limit_fits
 limit_back a r f p =
     rw (append_assoc, signed_back 8 a.whole (signed_bytes 1 a.power ++ r) (omega arith) f, signed_back 1 a.power r (omega arith) (power_fits a p))
 
-two_back : (n : ℕ) (r : List ℕ) → unsigned_fits 2 n ≡ true → unsigned 2 (unsigned_bytes 2 n ++ r) ≡ some (n, r)
+two_back : (n : ℕ) (r : List ℕ) → unsigned_fits 2 n ≡ true → unsigned 2 (unsigned_bytes 2 n ++ r) ≡ Some (n, r)
 unfolding unsigned_fits
 two_back n r f = unsigned_back 2 n r (ltb-true n 65536 f)
 
 -- ## Plain types, after the type byte
 
 double_back : (lo hi : Decimal) (r : List ℕ) → limit_fits lo ≡ true → limit_fits hi ≡ true → power_good lo ≡ true → power_good hi ≡ true
-    → double_at ((limit_bytes lo ++ limit_bytes hi) ++ r) ≡ some (double lo hi, r)
+    → double_at ((limit_bytes lo ++ limit_bytes hi) ++ r) ≡ Some (double lo hi, r)
 unfolding double_at
 double_back lo hi r f g p q = rw (append_assoc, limit_back lo (limit_bytes hi ++ r) f p, limit_back hi r g q)
 
 int_back : (lo hi : ℤ) (r : List ℕ) → signed_fits 8 lo ≡ true → signed_fits 8 hi ≡ true
-    → int_at ((signed_bytes 8 lo ++ signed_bytes 8 hi) ++ r) ≡ some (int lo hi, r)
+    → int_at ((signed_bytes 8 lo ++ signed_bytes 8 hi) ++ r) ≡ Some (int lo hi, r)
 unfolding int_at
 int_back lo hi r f g = rw (append_assoc, signed_back 8 lo (signed_bytes 8 hi ++ r) (omega arith) f, signed_back 8 hi r (omega arith) g)
 
 string_back : (lo hi : ℕ) (r : List ℕ) → unsigned_fits 2 lo ≡ true → unsigned_fits 2 hi ≡ true
-    → string_at ((unsigned_bytes 2 lo ++ unsigned_bytes 2 hi) ++ r) ≡ some (string lo hi, r)
+    → string_at ((unsigned_bytes 2 lo ++ unsigned_bytes 2 hi) ++ r) ≡ Some (string lo hi, r)
 unfolding string_at
 string_back lo hi r f g = rw (append_assoc, two_back lo (unsigned_bytes 2 hi ++ r) f, two_back hi r g)
 
 blob_back : (lo hi : ℕ) (r : List ℕ) → unsigned_fits 2 lo ≡ true → unsigned_fits 2 hi ≡ true
-    → blob_at ((unsigned_bytes 2 lo ++ unsigned_bytes 2 hi) ++ r) ≡ some (blob lo hi, r)
+    → blob_at ((unsigned_bytes 2 lo ++ unsigned_bytes 2 hi) ++ r) ≡ Some (blob lo hi, r)
 unfolding blob_at
 blob_back lo hi r f g = rw (append_assoc, two_back lo (unsigned_bytes 2 hi ++ r) f, two_back hi r g)
 
 scaled_back : (s : Decimal) (lo hi : ℤ) (r : List ℕ) → limit_fits s ≡ true → power_good s ≡ true → signed_fits 8 lo ≡ true → signed_fits 8 hi ≡ true
-    → scaled_at ((limit_bytes s ++ signed_bytes 8 lo ++ signed_bytes 8 hi) ++ r) ≡ some (scaled s lo hi, r)
+    → scaled_at ((limit_bytes s ++ signed_bytes 8 lo ++ signed_bytes 8 hi) ++ r) ≡ Some (scaled s lo hi, r)
 unfolding scaled_at
 scaled_back s lo hi r f p g h =
     let y = signed_bytes 8 hi ++ r in
@@ -75,7 +75,7 @@ scaled_back s lo hi r f p g h =
     simp append_assoc (rw (limit_back s (signed_bytes 8 lo ++ y) f p, signed_back 8 lo y (omega arith) g, ends))
 
 variants_back : (vs : List Variant) (r : List ℕ) → all (λ (v : Variant). signed_fits 4 v.number) vs ≡ true
-    → variants (length vs) (variants_bytes vs ++ r) ≡ some (vs, r)
+    → variants (length vs) (variants_bytes vs ++ r) ≡ Some (vs, r)
 unfolding variants variants_bytes
 variants_back [] r f = refl
 variants_back (v ∷ vs) r f =
@@ -85,7 +85,7 @@ variants_back (v ∷ vs) r f =
     simp append_assoc (rw (text_back v.name (signed_bytes 4 v.number ++ y), number, variants_back vs r g.1))
 
 enum_back : (vs : List Variant) (r : List ℕ) → all (λ (v : Variant). signed_fits 4 v.number) vs ≡ true
-    → enum_at (length vs ∷ variants_bytes vs ++ r) ≡ some (enum vs, r)
+    → enum_at (length vs ∷ variants_bytes vs ++ r) ≡ Some (enum vs, r)
 unfolding enum_at
 enum_back vs r f = rw (byte_back (length vs) (variants_bytes vs ++ r), variants_back vs r f)
 
@@ -106,58 +106,58 @@ no_names [] h = refl
 no_names (n ∷ ns) h = absurd (false≢true h)
 
 -- a member's flag, name, and datainfo
-entry_plain : (k r : List ℕ) → entry 8 (text_bytes k ++ r) ≡ some ((false, k), r)
+entry_plain : (k r : List ℕ) → entry 8 (text_bytes k ++ r) ≡ Some ((false, k), r)
 unfolding entry flagged
 entry_plain k r = rw (text_back k r)
 
-entry_flagged : (b : Bool) (k r : List ℕ) → entry 11 (flag_byte b ∷ text_bytes k ++ r) ≡ some ((b, k), r)
+entry_flagged : (b : Bool) (k r : List ℕ) → entry 11 (flag_byte b ∷ text_bytes k ++ r) ≡ Some ((b, k), r)
 unfolding entry flagged
 entry_flagged b k r = rw (flag_back b (text_bytes k ++ r), text_back k r)
 
 -- ## Types with datainfos inside, read by f: x and y are the bytes of what is inside
 
 module _ (f : List ℕ → Option (Datainfo × List ℕ)) where
-  array_back : (lo hi : ℕ) (d : Datainfo) (x r : List ℕ) → unsigned_fits 2 lo ≡ true → unsigned_fits 2 hi ≡ true → f (x ++ r) ≡ some (d, r)
-      → array_at f (((unsigned_bytes 2 lo ++ unsigned_bytes 2 hi) ++ x) ++ r) ≡ some (array lo hi d, r)
+  array_back : (lo hi : ℕ) (d : Datainfo) (x r : List ℕ) → unsigned_fits 2 lo ≡ true → unsigned_fits 2 hi ≡ true → f (x ++ r) ≡ Some (d, r)
+      → array_at f (((unsigned_bytes 2 lo ++ unsigned_bytes 2 hi) ++ x) ++ r) ≡ Some (array lo hi d, r)
   unfolding array_at
   array_back lo hi d x r g h e =
       simp append_assoc (rw (two_back lo (unsigned_bytes 2 hi ++ (x ++ r)) g, two_back hi (x ++ r) h, e))
 
-  none_back : (r : List ℕ) → elements f 0 r ≡ some (no_elements, r)
+  none_back : (r : List ℕ) → elements f 0 r ≡ Some (no_elements, r)
   unfolding elements
   none_back r = refl
 
-  no_fields_back : (k : ℕ) (r : List ℕ) → fields f k 0 r ≡ some (([], no_fields), r)
+  no_fields_back : (k : ℕ) (r : List ℕ) → fields f k 0 r ≡ Some (([], no_fields), r)
   unfolding fields
   no_fields_back k r = refl
 
-  element_back : (n : ℕ) (d : Datainfo) (ds : Elements) (x y r : List ℕ) → f (x ++ (y ++ r)) ≡ some (d, y ++ r) → elements f n (y ++ r) ≡ some (ds, r)
-      → elements f (suc n) ((x ++ y) ++ r) ≡ some (element d ds, r)
+  element_back : (n : ℕ) (d : Datainfo) (ds : Elements) (x y r : List ℕ) → f (x ++ (y ++ r)) ≡ Some (d, y ++ r) → elements f n (y ++ r) ≡ Some (ds, r)
+      → elements f (suc n) ((x ++ y) ++ r) ≡ Some (element d ds, r)
   unfolding elements
   element_back n d ds x y r e g = rw (append_assoc, e, g)
 
-  tuple_back : (n : ℕ) (ds : Elements) (x r : List ℕ) → elements f n (x ++ r) ≡ some (ds, r) → tuple_at f (n ∷ x ++ r) ≡ some (tuple ds, r)
+  tuple_back : (n : ℕ) (ds : Elements) (x r : List ℕ) → elements f n (x ++ r) ≡ Some (ds, r) → tuple_at f (n ∷ x ++ r) ≡ Some (tuple ds, r)
   unfolding tuple_at
   tuple_back n ds x r e = rw (byte_back n (x ++ r), e)
 
-  field_back : (n : ℕ) (k : List ℕ) (d : Datainfo) (fs : Fields) (x y r : List ℕ) → f (x ++ (y ++ r)) ≡ some (d, y ++ r)
-      → fields f 8 n (y ++ r) ≡ some (([], fs), r) → fields f 8 (suc n) (((text_bytes k ++ x) ++ y) ++ r) ≡ some (([], field k d fs), r)
+  field_back : (n : ℕ) (k : List ℕ) (d : Datainfo) (fs : Fields) (x y r : List ℕ) → f (x ++ (y ++ r)) ≡ Some (d, y ++ r)
+      → fields f 8 n (y ++ r) ≡ Some (([], fs), r) → fields f 8 (suc n) (((text_bytes k ++ x) ++ y) ++ r) ≡ Some (([], field k d fs), r)
   unfolding fields joined
   field_back n k d fs x y r e g = simp append_assoc (rw (entry_plain k (x ++ (y ++ r)), e, g))
 
-  struct_back : (n : ℕ) (fs : Fields) (x r : List ℕ) → fields f 8 n (x ++ r) ≡ some (([], fs), r) → struct_at f (n ∷ x ++ r) ≡ some (struct fs, r)
+  struct_back : (n : ℕ) (fs : Fields) (x r : List ℕ) → fields f 8 n (x ++ r) ≡ Some (([], fs), r) → struct_at f (n ∷ x ++ r) ≡ Some (struct fs, r)
   unfolding struct_at
   struct_back n fs x r e = rw (byte_back n (x ++ r), e)
 
-  flag_field_back : (n : ℕ) (ns : List (List ℕ)) (k : List ℕ) (d : Datainfo) (fs : Fields) (x y r : List ℕ) → f (x ++ (y ++ r)) ≡ some (d, y ++ r)
-      → fields f 11 n (y ++ r) ≡ some ((after_next k ns, fs), r)
-      → fields f 11 (suc n) (flag_byte (is_next k ns) ∷ ((text_bytes k ++ x) ++ y) ++ r) ≡ some ((ns, field k d fs), r)
+  flag_field_back : (n : ℕ) (ns : List (List ℕ)) (k : List ℕ) (d : Datainfo) (fs : Fields) (x y r : List ℕ) → f (x ++ (y ++ r)) ≡ Some (d, y ++ r)
+      → fields f 11 n (y ++ r) ≡ Some ((after_next k ns, fs), r)
+      → fields f 11 (suc n) (flag_byte (is_next k ns) ∷ ((text_bytes k ++ x) ++ y) ++ r) ≡ Some ((ns, field k d fs), r)
   unfolding fields joined
   flag_field_back n ns k d fs x y r e g =
       simp append_assoc (rw (entry_flagged (is_next k ns) k (x ++ (y ++ r)), e, g, next_again k ns))
 
-  partial_back : (n : ℕ) (ns : List (List ℕ)) (fs : Fields) (x r : List ℕ) → fields f 11 n (x ++ r) ≡ some ((ns, fs), r)
-      → partial_at f (n ∷ x ++ r) ≡ some (partial ns fs, r)
+  partial_back : (n : ℕ) (ns : List (List ℕ)) (fs : Fields) (x r : List ℕ) → fields f 11 n (x ++ r) ≡ Some ((ns, fs), r)
+      → partial_at f (n ∷ x ++ r) ≡ Some (partial ns fs, r)
   unfolding partial_at
   partial_back n ns fs x r e = rw (byte_back n (x ++ r), e)
 
@@ -172,7 +172,7 @@ mutual
   unfolding numbers_fit rules_kept levels datainfo_bytes typed element_count field_names scale_good in_order
 
   pub datainfo_back : (d : Datainfo) (n : ℕ) (r : List ℕ) → numbers_fit d ≡ true → rules_kept d ≡ true → levels d ≤ n
-      → datainfo_in n (datainfo_bytes d ++ r) ≡ some (d, r)
+      → datainfo_in n (datainfo_bytes d ++ r) ≡ Some (d, r)
   datainfo_back (double lo hi) zero r f k l = absurd (omega arith)
   datainfo_back (double lo hi) (suc n) r f k l =
       let g = both (limit_fits lo) (limit_fits hi) f in
@@ -217,7 +217,7 @@ mutual
       opened n 11 _ ∙ partial_back (datainfo_in n) (length (field_names fs)) ns fs (flagged_bytes ns fs) r inner
 
   elements_back : (ds : Elements) (n : ℕ) (r : List ℕ) → elements_fit ds ≡ true → elements_rules_kept ds ≡ true → elements_levels ds ≤ n
-      → elements (datainfo_in n) (element_count ds) (elements_bytes ds ++ r) ≡ some (ds, r)
+      → elements (datainfo_in n) (element_count ds) (elements_bytes ds ++ r) ≡ Some (ds, r)
   elements_back no_elements n r f k l = none_back (datainfo_in n) r
   elements_back (element d ds) n r f k l =
       let g = both (numbers_fit d) (elements_fit ds) f in
@@ -226,7 +226,7 @@ mutual
       (datainfo_back d n (elements_bytes ds ++ r) g.0 h.0 (omega arith)) (elements_back ds n r g.1 h.1 (omega arith))
 
   fields_back : (fs : Fields) (n : ℕ) (r : List ℕ) → fields_fit fs ≡ true → fields_rules_kept fs ≡ true → fields_levels fs ≤ n
-      → fields (datainfo_in n) 8 (length (field_names fs)) (fields_bytes fs ++ r) ≡ some (([], fs), r)
+      → fields (datainfo_in n) 8 (length (field_names fs)) (fields_bytes fs ++ r) ≡ Some (([], fs), r)
   fields_back no_fields n r f k l = no_fields_back (datainfo_in n) 8 r
   fields_back (field x d fs) n r f k l =
       let g = both (numbers_fit d) (fields_fit fs) f in
@@ -235,7 +235,7 @@ mutual
       (datainfo_back d n (fields_bytes fs ++ r) g.0 h.0 (omega arith)) (fields_back fs n r g.1 h.1 (omega arith))
 
   flagged_back : (fs : Fields) (ns : List (List ℕ)) (n : ℕ) (r : List ℕ) → in_order (field_names fs) ns ≡ true → fields_fit fs ≡ true → fields_rules_kept fs ≡ true
-      → fields_levels fs ≤ n → fields (datainfo_in n) 11 (length (field_names fs)) (flagged_bytes ns fs ++ r) ≡ some ((ns, fs), r)
+      → fields_levels fs ≤ n → fields (datainfo_in n) 11 (length (field_names fs)) (flagged_bytes ns fs ++ r) ≡ Some ((ns, fs), r)
   flagged_back no_fields ns n r o f k l = rw (no_names ns o) (no_fields_back (datainfo_in n) 11 r)
   flagged_back (field x d fs) ns n r o f k l =
       let g = both (numbers_fit d) (fields_fit fs) f in

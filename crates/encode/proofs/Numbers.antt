@@ -1,11 +1,11 @@
 -- Numbers, texts and flags: what is written is read, and what is read is what was written. Assumes nothing.
+use Rattle.std.specs.Prelude.{Option, Some, None}
 use Prim.Native.Nat.{ℕ, zero, suc, ◌+◌, ◌*◌, ◌-◌, ◌/◌, ◌%◌, ◌^◌, ◌≤◌, ◌<◌}
 use native.Mathlib.Nat.{two-pow-succ}
 use native.Mathlib.Omega.{arith}
 use mathlib.Core.Path.{◌≡◌, refl, sym, ap, ap₂, ◌∙◌}
 use mathlib.Core.Bool.{Bool, true, false, cond, ◌&&◌}
 use mathlib.Core.List.{List, [], ◌∷◌, ◌++◌, append_assoc}
-use mathlib.Core.Option.{Option, none, some}
 use lib.Dec.{ltb, leb, eqb}
 use lib.IntN.{ℤ, pos, negsuc}
 use lib.ListN.{length, get_or, take, drop, length-append, take-append-drop}
@@ -40,7 +40,7 @@ bytes_parts (x ∷ a) b h =
 
 -- ## Parts
 
-pub part_back : (a r : List ℕ) (k : ℕ) → length a ≡ k → part k (a ++ r) ≡ some (a, r)
+pub part_back : (a r : List ℕ) (k : ℕ) → length a ≡ k → part k (a ++ r) ≡ Some (a, r)
 unfolding part
 part_back a r k e =
     let h : k ≤ length (a ++ r) = rw length-append (omega arith) in
@@ -63,11 +63,11 @@ chain {a = a} {b = b} {z = z} e f = record { whole = e.whole ∙ ap (λ (u : Lis
 pub along : {e f x y z : List ℕ} {p q : Bool} → Got e p x y → Got f q y z → Got (e ++ f) (p && q) x z
 along s t = record { is = chain s.is t.is; fits = ap₂ ◌&&◌ s.fits t.fits; left = t.left }
 
-pub part_from : (k : ℕ) (xs a r : List ℕ) → part k xs ≡ some (a, r) → (xs ≡ a ++ r) × (length a ≡ k)
+pub part_from : (k : ℕ) (xs a r : List ℕ) → part k xs ≡ Some (a, r) → (xs ≡ a ++ r) × (length a ≡ k)
 unfolding part
 part_from k xs a r = go (leb k (length xs)) refl
   where
-    go : (b : Bool) → leb k (length xs) ≡ b → cond {A = Option (List ℕ × List ℕ)} b (some (take k xs, drop k xs)) none ≡ some (a, r)
+    go : (b : Bool) → leb k (length xs) ≡ b → cond {A = Option (List ℕ × List ℕ)} b (Some (take k xs, drop k xs)) None ≡ Some (a, r)
         → (xs ≡ a ++ r) × (length a ≡ k)
     go true h e =
         let q = just e in
@@ -95,7 +95,7 @@ unsigned_value (suc k) n h =
     let l : n / 256 < 2 ^ (8 * k) = omega arith in
     from_last 0 (unsigned_bytes k (n / 256)) (n % 256) ∙ rw (unsigned_value k (n / 256) l) (omega arith)
 
-pub unsigned_back : (k n : ℕ) (r : List ℕ) → n < 2 ^ (8 * k) → unsigned k (unsigned_bytes k n ++ r) ≡ some (n, r)
+pub unsigned_back : (k n : ℕ) (r : List ℕ) → n < 2 ^ (8 * k) → unsigned k (unsigned_bytes k n ++ r) ≡ Some (n, r)
 unfolding unsigned
 unsigned_back k n r h = rw (part_back (unsigned_bytes k n) r k (unsigned_length k n), unsigned_value k n h)
 
@@ -126,7 +126,7 @@ number_is_lem (suc k) bs e h =
       low = rw (v, wider k) (digits_lt n.low l);
     }
 
-pub unsigned_from : (k n : ℕ) (xs r : List ℕ) → are_bytes xs ≡ true → unsigned k xs ≡ some (n, r) → Got (unsigned_bytes k n) (unsigned_fits k n) xs r
+pub unsigned_from : (k n : ℕ) (xs r : List ℕ) → are_bytes xs ≡ true → unsigned k xs ≡ Some (n, r) → Got (unsigned_bytes k n) (unsigned_fits k n) xs r
 unfolding unsigned unsigned_fits
 unsigned_from k n xs r h e =
     steps (part k xs) _ e
@@ -147,7 +147,7 @@ unsigned_from k n xs r h e =
 twice : (k : ℕ) → 1 ≤ k → 2 ^ (8 * k) ≡ 2 * 2 ^ (8 * k - 1)
 twice k h = let e : 8 * k ≡ suc (8 * k - 1) = omega arith in ap (λ (j : ℕ). 2 ^ j) e ∙ two-pow-succ (8 * k - 1) ∙ omega arith
 
-pub signed_back : (k : ℕ) (z : ℤ) (r : List ℕ) → 1 ≤ k → signed_fits k z ≡ true → signed k (signed_bytes k z ++ r) ≡ some (z, r)
+pub signed_back : (k : ℕ) (z : ℤ) (r : List ℕ) → 1 ≤ k → signed_fits k z ≡ true → signed k (signed_bytes k z ++ r) ≡ Some (z, r)
 unfolding signed signed_bytes signed_fits twos_complement
 signed_back k (pos n) r o h =
     let l = ltb-true n (2 ^ (8 * k - 1)) h in
@@ -158,7 +158,7 @@ signed_back k (negsuc n) r o h =
     let t = twice k o in
     let m = 2 ^ (8 * k) - 1 - n in
     rw (part_back (unsigned_bytes k m) r k (unsigned_length k m), unsigned_value k m (omega arith), le-ltb m (2 ^ (8 * k - 1)) (omega arith))
-    (ap (λ (j : ℕ). some (negsuc j, r)) (omega arith))
+    (ap (λ (j : ℕ). Some (negsuc j, r)) (omega arith))
 
 pub signed_bytes_lem : (k : ℕ) (z : ℤ) → are_bytes (signed_bytes k z) ≡ true
 unfolding signed_bytes
@@ -180,7 +180,7 @@ complement k n o l = go (ltb n (2 ^ (8 * k - 1))) refl
         let t = twice k o in
         record { again = ap (unsigned_bytes k) (omega arith); fits = lt-ltb (2 ^ (8 * k) - 1 - n) (2 ^ (8 * k - 1)) (omega arith) }
 
-pub signed_from : (k : ℕ) (z : ℤ) (xs r : List ℕ) → 1 ≤ k → are_bytes xs ≡ true → signed k xs ≡ some (z, r) → Got (signed_bytes k z) (signed_fits k z) xs r
+pub signed_from : (k : ℕ) (z : ℤ) (xs r : List ℕ) → 1 ≤ k → are_bytes xs ≡ true → signed k xs ≡ Some (z, r) → Got (signed_bytes k z) (signed_fits k z) xs r
 unfolding signed
 signed_from k z xs r o h e =
     steps (part k xs) _ e
@@ -195,9 +195,9 @@ signed_from k z xs r o h e =
 
 -- ## A byte, a text, a flag
 
-pub byte_back : (b : ℕ) (r : List ℕ) → unsigned 1 (b ∷ r) ≡ some (b, r)
+pub byte_back : (b : ℕ) (r : List ℕ) → unsigned 1 (b ∷ r) ≡ Some (b, r)
 unfolding unsigned big_endian big_endian_from
-byte_back b r = rw (part_back (b ∷ []) r 1 refl) (ap (λ (n : ℕ). some (n, r)) (omega arith))
+byte_back b r = rw (part_back (b ∷ []) r 1 refl) (ap (λ (n : ℕ). Some (n, r)) (omega arith))
 
 pub record Byte (b : ℕ) (xs r : List ℕ) : Type 0 where
   pub is : xs ≡ b ∷ r
@@ -209,7 +209,7 @@ pub counts : {c n : ℕ} {x y e r : List ℕ} {p : Bool} → Byte c x y → n �
 counts b i g =
     record { is = record { whole = b.is ∙ ap₂ (λ (k : ℕ) (u : List ℕ). k ∷ u) (sym i) g.is.whole }; fits = g.fits; left = g.left }
 
-pub byte_from : (b : ℕ) (xs r : List ℕ) → are_bytes xs ≡ true → unsigned 1 xs ≡ some (b, r) → Byte b xs r
+pub byte_from : (b : ℕ) (xs r : List ℕ) → are_bytes xs ≡ true → unsigned 1 xs ≡ Some (b, r) → Byte b xs r
 unfolding unsigned part
 byte_from b [] r h e = absurd (nothing e)
 byte_from b (x ∷ xs) r h e =
@@ -219,7 +219,7 @@ byte_from b (x ∷ xs) r h e =
     let g : xs ≡ r = ap (λ a. a.1) q in
     record { is = rw (f, g); low = rw (← f) z.0; left = rw (← g) z.1 }
 
-pub text_back : (x r : List ℕ) → counted (text_bytes x ++ r) ≡ some (x, r)
+pub text_back : (x r : List ℕ) → counted (text_bytes x ++ r) ≡ Some (x, r)
 unfolding counted text_bytes
 text_back x r = rw (byte_back (length x) (x ++ r), part_back x r (length x) refl)
 
@@ -227,7 +227,7 @@ pub text_bytes_lem : (x : List ℕ) → length x ≤ 255 → are_bytes x ≡ tru
 unfolding text_bytes
 text_bytes_lem x l h = rw (lt-ltb (length x) 256 (omega arith)) h
 
-pub text_from : (x xs r : List ℕ) → are_bytes xs ≡ true → counted xs ≡ some (x, r) → Got (text_bytes x) (text_fits x) xs r
+pub text_from : (x xs r : List ℕ) → are_bytes xs ≡ true → counted xs ≡ Some (x, r) → Got (text_bytes x) (text_fits x) xs r
 unfolding counted text_bytes text_fits
 text_from x xs r h e =
     steps (unsigned 1 xs) _ e
@@ -240,7 +240,7 @@ text_from x xs r h e =
       left = (bytes_parts x r (rw s.0 at b.left)).1;
     })
 
-pub flag_back : (b : Bool) (r : List ℕ) → flag (flag_byte b ∷ r) ≡ some (b, r)
+pub flag_back : (b : Bool) (r : List ℕ) → flag (flag_byte b ∷ r) ≡ Some (b, r)
 unfolding flag flag_byte
 flag_back true r = rw (byte_back 1 r)
 flag_back false r = rw (byte_back 0 r)
@@ -250,13 +250,13 @@ unfolding flag_byte
 flag_bytes true xs h = h
 flag_bytes false xs h = h
 
-pub flag_from : (b : Bool) (xs r : List ℕ) → are_bytes xs ≡ true → flag xs ≡ some (b, r) → Got (flag_byte b ∷ []) true xs r
+pub flag_from : (b : Bool) (xs r : List ℕ) → are_bytes xs ≡ true → flag xs ≡ Some (b, r) → Got (flag_byte b ∷ []) true xs r
 unfolding flag flag_byte
 flag_from b xs r h e =
     steps (unsigned 1 xs) _ e
     (λ p q f. let c = byte_from p.0 xs p.1 h q in go p.0 p.1 c f)
   where
-    go : (n : ℕ) (y : List ℕ) → Byte n xs y → cond {A = Option (Bool × List ℕ)} (leb n 1) (some (eqb n 1, y)) none ≡ some (b, r)
+    go : (n : ℕ) (y : List ℕ) → Byte n xs y → cond {A = Option (Bool × List ℕ)} (leb n 1) (Some (eqb n 1, y)) None ≡ Some (b, r)
         → Got (flag_byte b ∷ []) true xs r
     go zero y c f =
         let v : false ≡ b = ap (λ a. a.0) (just f) in

@@ -1,10 +1,10 @@
 -- A datainfo that is read was written so: the bytes that it is read from are its encoding. Assumes nothing.
+use Rattle.std.specs.Prelude.{Option, Some}
 use Prim.Native.Nat.{ℕ, zero, suc, ◌≤◌}
 use native.Mathlib.Omega.{arith}
 use mathlib.Core.Path.{◌≡◌, refl, sym, ap, ap₂, ◌∙◌}
 use mathlib.Core.Bool.{Bool, true, false, cond, not, ◌&&◌, false≢true}
 use mathlib.Core.List.{List, [], ◌∷◌, ◌++◌}
-use mathlib.Core.Option.{Option, some}
 use lib.ListN.{length}
 use lib.Pow.{are_bytes}
 use borrow.Author.Tests.{not-true}
@@ -25,12 +25,12 @@ use Rattle.encode.specs.Fits.{text_fits, signed_fits, limit_fits, in_order, leve
 use Rattle.encode.proofs.Numbers.{Got, chain, along, counts, unsigned_from, signed_from, byte_from, text_from, flag_from}
 
 -- what was read and what is left
-pub parts : {A : Type 0} {p q : A × List ℕ} → some p ≡ some q → (p.0 ≡ q.0) × (p.1 ≡ q.1)
+pub parts : {A : Type 0} {p q : A × List ℕ} → Some p ≡ Some q → (p.0 ≡ q.0) × (p.1 ≡ q.1)
 parts e = let z = just e in (ap (λ p. p.0) z, ap (λ p. p.1) z)
 
 -- ## Limits and numbers
 
-limit_from : (a : Decimal) (xs r : List ℕ) → are_bytes xs ≡ true → limit xs ≡ some (a, r) → Got (limit_bytes a) (limit_fits a) xs r
+limit_from : (a : Decimal) (xs r : List ℕ) → are_bytes xs ≡ true → limit xs ≡ Some (a, r) → Got (limit_bytes a) (limit_fits a) xs r
 unfolding limit limit_bytes limit_fits
 limit_from a xs r h e =
     steps (signed 8 xs) _ e
@@ -76,7 +76,7 @@ came {r = r} k g b f l =
     }
 
 module _ (n : ℕ) (d : Datainfo) (xs r : List ℕ) (h : are_bytes xs ≡ true) where
-  double_from : double_at xs ≡ some (d, r) → Came (suc n) d (1 ∷ xs) r
+  double_from : double_at xs ≡ Some (d, r) → Came (suc n) d (1 ∷ xs) r
   unfolding double_at datainfo_bytes numbers_fit levels
   double_from e =
       steps (limit xs) _ e
@@ -87,7 +87,7 @@ module _ (n : ℕ) (d : Datainfo) (xs r : List ℕ) (h : are_bytes xs ≡ true) 
       rw (← z.0, ← z.1)
       (came 1 (along s t) refl refl (omega arith))))
 
-  int_from : int_at xs ≡ some (d, r) → Came (suc n) d (2 ∷ xs) r
+  int_from : int_at xs ≡ Some (d, r) → Came (suc n) d (2 ∷ xs) r
   unfolding int_at datainfo_bytes numbers_fit levels
   int_from e =
       steps (signed 8 xs) _ e
@@ -98,11 +98,11 @@ module _ (n : ℕ) (d : Datainfo) (xs r : List ℕ) (h : are_bytes xs ≡ true) 
       rw (← z.0, ← z.1)
       (came 2 (along s t) refl refl (omega arith))))
 
-  bool_from : ◌≡◌ {A = Option (Datainfo × List ℕ)} (some (bool, xs)) (some (d, r)) → Came (suc n) d (3 ∷ xs) r
+  bool_from : ◌≡◌ {A = Option (Datainfo × List ℕ)} (Some (bool, xs)) (Some (d, r)) → Came (suc n) d (3 ∷ xs) r
   unfolding datainfo_bytes numbers_fit levels
   bool_from e = let z = parts e in rw (← z.0, ← z.1) (came 3 (nothing_read h) refl refl (omega arith))
 
-  string_from : string_at xs ≡ some (d, r) → Came (suc n) d (5 ∷ xs) r
+  string_from : string_at xs ≡ Some (d, r) → Came (suc n) d (5 ∷ xs) r
   unfolding string_at datainfo_bytes numbers_fit levels
   string_from e =
       steps (unsigned 2 xs) _ e
@@ -113,7 +113,7 @@ module _ (n : ℕ) (d : Datainfo) (xs r : List ℕ) (h : are_bytes xs ≡ true) 
       rw (← z.0, ← z.1)
       (came 5 (along s t) refl refl (omega arith))))
 
-  blob_from : blob_at xs ≡ some (d, r) → Came (suc n) d (10 ∷ xs) r
+  blob_from : blob_at xs ≡ Some (d, r) → Came (suc n) d (10 ∷ xs) r
   unfolding blob_at datainfo_bytes numbers_fit levels
   blob_from e =
       steps (unsigned 2 xs) _ e
@@ -124,7 +124,7 @@ module _ (n : ℕ) (d : Datainfo) (xs r : List ℕ) (h : are_bytes xs ≡ true) 
       rw (← z.0, ← z.1)
       (came 10 (along s t) refl refl (omega arith))))
 
-  scaled_from : scaled_at xs ≡ some (d, r) → Came (suc n) d (9 ∷ xs) r
+  scaled_from : scaled_at xs ≡ Some (d, r) → Came (suc n) d (9 ∷ xs) r
   unfolding scaled_at datainfo_bytes numbers_fit levels
   scaled_from e =
       steps (limit xs) _ e
@@ -146,7 +146,7 @@ record CameVariants (n : ℕ) (vs : List Variant) (xs r : List ℕ) : Type 0 whe
   count : length vs ≡ n
   got : Got (variants_bytes vs) (all is_wide vs) xs r
 
-variants_from_lem : (n : ℕ) (vs : List Variant) (xs r : List ℕ) → are_bytes xs ≡ true → variants n xs ≡ some (vs, r) → CameVariants n vs xs r
+variants_from_lem : (n : ℕ) (vs : List Variant) (xs r : List ℕ) → are_bytes xs ≡ true → variants n xs ≡ Some (vs, r) → CameVariants n vs xs r
 unfolding variants variants_bytes all
 variants_from_lem zero vs xs r h e = let z = parts e in rw (← z.0, ← z.1) (record { count = refl; got = nothing_read h })
 variants_from_lem (suc n) vs xs r h e =
@@ -160,7 +160,7 @@ variants_from_lem (suc n) vs xs r h e =
     rw (← z.0, ← z.1)
     (record { count = ap suc t.count; got = member k s t.got }))))
 
-enum_from : (n : ℕ) (d : Datainfo) (xs r : List ℕ) → are_bytes xs ≡ true → enum_at xs ≡ some (d, r) → Came (suc n) d (4 ∷ xs) r
+enum_from : (n : ℕ) (d : Datainfo) (xs r : List ℕ) → are_bytes xs ≡ true → enum_at xs ≡ Some (d, r) → Came (suc n) d (4 ∷ xs) r
 unfolding enum_at datainfo_bytes numbers_fit levels
 enum_from n d xs r h e =
     steps (unsigned 1 xs) _ e
@@ -207,8 +207,8 @@ order_field b k ks ns h o = ap (in_order ks) (next_kept b k ns h).1 ∙ o
 -- ## Types with datainfos inside, read by f, of at most n levels
 
 module _ (n : ℕ) (f : List ℕ → Option (Datainfo × List ℕ))
-    (inner : (d : Datainfo) (xs r : List ℕ) → are_bytes xs ≡ true → f xs ≡ some (d, r) → names_good d ≡ true → Came n d xs r) where
-  array_from : (d : Datainfo) (xs r : List ℕ) → are_bytes xs ≡ true → array_at f xs ≡ some (d, r) → names_good d ≡ true → Came (suc n) d (6 ∷ xs) r
+    (inner : (d : Datainfo) (xs r : List ℕ) → are_bytes xs ≡ true → f xs ≡ Some (d, r) → names_good d ≡ true → Came n d xs r) where
+  array_from : (d : Datainfo) (xs r : List ℕ) → are_bytes xs ≡ true → array_at f xs ≡ Some (d, r) → names_good d ≡ true → Came (suc n) d (6 ∷ xs) r
   unfolding array_at datainfo_bytes numbers_fit levels names_good
   array_from d xs r h e m =
       steps (unsigned 2 xs) _ e
@@ -226,7 +226,7 @@ module _ (n : ℕ) (f : List ℕ → Option (Datainfo × List ℕ))
     deep : elements_levels ds ≤ n
     got : Got (elements_bytes ds) (elements_fit ds) xs r
 
-  elements_from_lem : (k : ℕ) (ds : Elements) (xs r : List ℕ) → are_bytes xs ≡ true → elements f k xs ≡ some (ds, r) → elements_names_good ds ≡ true
+  elements_from_lem : (k : ℕ) (ds : Elements) (xs r : List ℕ) → are_bytes xs ≡ true → elements f k xs ≡ Some (ds, r) → elements_names_good ds ≡ true
       → CameElements k ds xs r
   unfolding elements datainfo_bytes numbers_fit levels names_good element_count
   elements_from_lem zero ds xs r h e m =
@@ -242,7 +242,7 @@ module _ (n : ℕ) (f : List ℕ → Option (Datainfo × List ℕ))
       rw (← z.0, ← z.1)
       (record { count = ap suc t.count; deep = omega (arith, s.deep, t.deep); got = along s.got t.got })))
 
-  tuple_from : (d : Datainfo) (xs r : List ℕ) → are_bytes xs ≡ true → tuple_at f xs ≡ some (d, r) → names_good d ≡ true → Came (suc n) d (7 ∷ xs) r
+  tuple_from : (d : Datainfo) (xs r : List ℕ) → are_bytes xs ≡ true → tuple_at f xs ≡ Some (d, r) → names_good d ≡ true → Came (suc n) d (7 ∷ xs) r
   unfolding tuple_at datainfo_bytes numbers_fit levels names_good
   tuple_from d xs r h e m =
       steps (unsigned 1 xs) _ e
@@ -258,7 +258,7 @@ module _ (n : ℕ) (f : List ℕ → Option (Datainfo × List ℕ))
     deep : fields_levels fs ≤ n
     got : Got (fields_bytes fs) (fields_fit fs) xs r
 
-  fields_from_lem : (k : ℕ) (m : Parts) (xs r : List ℕ) → are_bytes xs ≡ true → fields f 8 k xs ≡ some (m, r) → fields_names_good m.1 ≡ true
+  fields_from_lem : (k : ℕ) (m : Parts) (xs r : List ℕ) → are_bytes xs ≡ true → fields f 8 k xs ≡ Some (m, r) → fields_names_good m.1 ≡ true
       → CameFields k m.1 xs r
   unfolding fields entry flagged joined datainfo_bytes numbers_fit levels names_good field_names
   fields_from_lem zero m xs r h e g =
@@ -280,7 +280,7 @@ module _ (n : ℕ) (f : List ℕ → Option (Datainfo × List ℕ))
       rw (← z.0, ← z.1, name)
       (record { count = ap suc t.count; deep = omega (arith, s.deep, t.deep); got = member a s.got t.got })))))
 
-  struct_from : (d : Datainfo) (xs r : List ℕ) → are_bytes xs ≡ true → struct_at f xs ≡ some (d, r) → names_good d ≡ true → Came (suc n) d (8 ∷ xs) r
+  struct_from : (d : Datainfo) (xs r : List ℕ) → are_bytes xs ≡ true → struct_at f xs ≡ Some (d, r) → names_good d ≡ true → Came (suc n) d (8 ∷ xs) r
   unfolding struct_at datainfo_bytes numbers_fit levels names_good
   struct_from d xs r h e m =
       steps (unsigned 1 xs) _ e
@@ -293,7 +293,7 @@ module _ (n : ℕ) (f : List ℕ → Option (Datainfo × List ℕ))
       (came 8 (counts b t.count t.got) refl refl (omega (arith, t.deep)))))
 
   -- with a flag before each name
-  entry_from : (o : Bool × List ℕ) (xs r : List ℕ) → are_bytes xs ≡ true → entry 11 xs ≡ some (o, r)
+  entry_from : (o : Bool × List ℕ) (xs r : List ℕ) → are_bytes xs ≡ true → entry 11 xs ≡ Some (o, r)
       → Got ((flag_byte o.0 ∷ []) ++ text_bytes o.1) (text_fits o.1) xs r
   unfolding entry flagged
   entry_from o xs r h e =
@@ -310,7 +310,7 @@ module _ (n : ℕ) (f : List ℕ → Option (Datainfo × List ℕ))
     deep : fields_levels m.1 ≤ n
     got : Got (flagged_bytes m.0 m.1) (fields_fit m.1) xs r
 
-  flagged_from : (k : ℕ) (m : Parts) (xs r : List ℕ) → are_bytes xs ≡ true → fields f 11 k xs ≡ some (m, r) → fields_names_good m.1 ≡ true
+  flagged_from : (k : ℕ) (m : Parts) (xs r : List ℕ) → are_bytes xs ≡ true → fields f 11 k xs ≡ Some (m, r) → fields_names_good m.1 ≡ true
       → distinct (field_names m.1) ≡ true → CameFlagged k m xs r
   unfolding fields joined datainfo_bytes numbers_fit levels names_good field_names distinct in_order
   flagged_from zero m xs r h e g c =
@@ -336,7 +336,7 @@ module _ (n : ℕ) (f : List ℕ → Option (Datainfo × List ℕ))
         got = rewritten same_bytes (member a s.got t.got);
       }))))
 
-  partial_from : (d : Datainfo) (xs r : List ℕ) → are_bytes xs ≡ true → partial_at f xs ≡ some (d, r) → names_good d ≡ true → Came (suc n) d (11 ∷ xs) r
+  partial_from : (d : Datainfo) (xs r : List ℕ) → are_bytes xs ≡ true → partial_at f xs ≡ Some (d, r) → names_good d ≡ true → Came (suc n) d (11 ∷ xs) r
   unfolding partial_at datainfo_bytes numbers_fit levels names_good
   partial_from d xs r h e m =
       steps (unsigned 1 xs) _ e
@@ -352,7 +352,7 @@ module _ (n : ℕ) (f : List ℕ → Option (Datainfo × List ℕ))
 
   -- ## Any type: k is the type byte
 
-  typed_from : (k : ℕ) (d : Datainfo) (xs r : List ℕ) → are_bytes xs ≡ true → typed f k xs ≡ some (d, r) → names_good d ≡ true → Came (suc n) d (k ∷ xs) r
+  typed_from : (k : ℕ) (d : Datainfo) (xs r : List ℕ) → are_bytes xs ≡ true → typed f k xs ≡ Some (d, r) → names_good d ≡ true → Came (suc n) d (k ∷ xs) r
   unfolding typed
   typed_from k d xs r h e m =
       either k 1 _ _ e (λ q g. rw q (double_from n d xs r h g))
@@ -368,7 +368,7 @@ module _ (n : ℕ) (f : List ℕ → Option (Datainfo × List ℕ))
       (λ o10 e10. either k 11 _ _ e10 (λ q g. rw q (partial_from d xs r h g m))
       (λ o11 e11. absurd (nothing e11))))))))))))
 
-pub datainfo_from : (n : ℕ) (d : Datainfo) (xs r : List ℕ) → are_bytes xs ≡ true → datainfo_in n xs ≡ some (d, r) → names_good d ≡ true → Came n d xs r
+pub datainfo_from : (n : ℕ) (d : Datainfo) (xs r : List ℕ) → are_bytes xs ≡ true → datainfo_in n xs ≡ Some (d, r) → names_good d ≡ true → Came n d xs r
 unfolding datainfo_in
 datainfo_from zero d xs r h e m = absurd (nothing e)
 datainfo_from (suc n) d xs r h e m =

@@ -1,10 +1,10 @@
 -- A table that is read was written so: the bytes that it is read from are its encoding. Assumes nothing.
+use Rattle.std.specs.Prelude.{Option, Some, None}
 use Prim.Native.Nat.{ℕ, zero, suc}
 use native.Mathlib.Omega.{arith}
 use mathlib.Core.Path.{◌≡◌, refl, ap₂}
 use mathlib.Core.Bool.{Bool, true, false, cond, ◌&&◌, ◌||◌}
 use mathlib.Core.List.{List, [], ◌∷◌, append-nil, map}
-use mathlib.Core.Option.{Option, none, some}
 use lib.Dec.{eqb}
 use lib.ListN.{length}
 use lib.Pow.{are_bytes}
@@ -29,7 +29,7 @@ use Rattle.encode.proofs.Numbers.{Front, Got, chain, along, bytes_parts, part_fr
 use Rattle.encode.proofs.Read.{parts, nothing_read, datainfo_from}
 
 -- one way or the other
-branch : {A S : Type 0} (b : Bool) (x z : Option A) {r : A} → cond b x z ≡ some r → (x ≡ some r → S) → (z ≡ some r → S) → S
+branch : {A S : Type 0} (b : Bool) (x z : Option A) {r : A} → cond b x z ≡ Some r → (x ≡ Some r → S) → (z ≡ Some r → S) → S
 branch true x z e f g = f e
 branch false x z e f g = g e
 
@@ -39,14 +39,14 @@ rest_bytes {a = a} {r = r} e h = (bytes_parts a r (rw e.whole at h)).1
 
 -- ## Marks
 
-after_from : (m xs r : List ℕ) → after m xs ≡ some r → Front xs m r
+after_from : (m xs r : List ℕ) → after m xs ≡ Some r → Front xs m r
 unfolding after
 after_from [] xs r e = record { whole = just e }
 after_from (w ∷ m) [] r e = absurd (nothing e)
 after_from (w ∷ m) (x ∷ xs) r e =
     either x w _ _ e (λ q g. record { whole = ap₂ (λ (b : ℕ) (u : List ℕ). b ∷ u) q (after_from m xs r g).whole }) (λ q g. absurd (nothing g))
 
-marked_from : (m : List ℕ) (o : Option (List ℕ)) (xs r : List ℕ) → are_bytes xs ≡ true → marked_at m xs ≡ some (o, r)
+marked_from : (m : List ℕ) (o : Option (List ℕ)) (xs r : List ℕ) → are_bytes xs ≡ true → marked_at m xs ≡ Some (o, r)
     → Got (marked_bytes m o) (option_fits o) xs r
 unfolding marked_at marked_bytes option_fits
 marked_from m o xs r h e =
@@ -61,14 +61,14 @@ marked_from m o xs r h e =
 
 -- ## Parameters and commands
 
-kept_from : (d : Datainfo) (xs r : List ℕ) → are_bytes xs ≡ true → datainfo_at xs ≡ some (d, r) → Datainfo.names_good d ≡ true
+kept_from : (d : Datainfo) (xs r : List ℕ) → are_bytes xs ≡ true → datainfo_at xs ≡ Some (d, r) → Datainfo.names_good d ≡ true
     → Got (datainfo_bytes d) (datainfo_fits d) xs r
 unfolding datainfo_fits
 kept_from d xs r h e m =
     let c = datainfo_from 4 d xs r h e m in
     record { is = c.got.is; fits = ap₂ ◌&&◌ c.got.fits (le-leb (levels d) 4 c.deep); left = c.got.left }
 
-parameter_from : (n : ℕ) (a : Accessible) (xs r : List ℕ) → are_bytes xs ≡ true → parameter_at n xs ≡ some (a, r) → accessible_names_good a ≡ true
+parameter_from : (n : ℕ) (a : Accessible) (xs r : List ℕ) → are_bytes xs ≡ true → parameter_at n xs ≡ Some (a, r) → accessible_names_good a ≡ true
     → Got (accessible_bytes a) (accessible_fits a) xs r
 unfolding parameter_at accessible_bytes parameter_bytes before_initial accessible_fits accessible_names_good
 parameter_from n a xs r h e m =
@@ -97,7 +97,7 @@ parameter_from n a xs r h e m =
       left = rest_bytes value s2.left;
     }))))))))
 
-argument_from_lem : (b : Bool) (o : Option Datainfo) (xs y r : List ℕ) → Front xs (flag_byte b ∷ []) y → are_bytes y ≡ true → argument_at b y ≡ some (o, r)
+argument_from_lem : (b : Bool) (o : Option Datainfo) (xs y r : List ℕ) → Front xs (flag_byte b ∷ []) y → are_bytes y ≡ true → argument_at b y ≡ Some (o, r)
     → if_any Datainfo.names_good o ≡ true → Got (argument_bytes o) (if_any datainfo_fits o) xs r
 unfolding argument_at argument_bytes if_any
 argument_from_lem false o xs y r f h e m = let z = parts e in rw (← z.0, ← z.1) (record { is = f; fits = refl; left = h })
@@ -107,7 +107,7 @@ argument_from_lem true o xs y r f h e m =
     let t = kept_from d.0 y d.1 h q (rw (← z.0) at m) in
     rw (← z.0, ← z.1) (record { is = chain f t.is; fits = t.fits; left = t.left }))
 
-command_from : (a : Accessible) (xs r : List ℕ) → are_bytes xs ≡ true → command_at xs ≡ some (a, r) → accessible_names_good a ≡ true
+command_from : (a : Accessible) (xs r : List ℕ) → are_bytes xs ≡ true → command_at xs ≡ Some (a, r) → accessible_names_good a ≡ true
     → Got (accessible_bytes a) (accessible_fits a) xs r
 unfolding command_at accessible_bytes command_bytes accessible_fits accessible_names_good
 command_from a xs r h e m =
@@ -128,7 +128,7 @@ command_from a xs r h e m =
 
 -- ## Accessibles, modules
 
-accessibles_from_lem : (n k : ℕ) (l : List Accessible) (xs r : List ℕ) → are_bytes xs ≡ true → accessibles_at n k xs ≡ some (l, r)
+accessibles_from_lem : (n k : ℕ) (l : List Accessible) (xs r : List ℕ) → are_bytes xs ≡ true → accessibles_at n k xs ≡ Some (l, r)
     → all accessible_names_good l ≡ true → Got (accessibles_bytes l) (all accessible_fits l) xs r
 unfolding accessibles_at accessibles_bytes all
 accessibles_from_lem n zero l xs r h e m = let z = parts e in rw (← z.0, ← z.1) (nothing_read h)
@@ -144,7 +144,7 @@ accessibles_from_lem n (suc k) l xs r h e m =
     rw (← z.0, ← z.1) (along s t))))
     (λ e2. let z = parts e2 in rw (← z.0, ← z.1) (nothing_read h))
 
-module_from : (n : ℕ) (m : Module) (xs r : List ℕ) → are_bytes xs ≡ true → module_at n xs ≡ some (m, r) → module_names_good m ≡ true
+module_from : (n : ℕ) (m : Module) (xs r : List ℕ) → are_bytes xs ≡ true → module_at n xs ≡ Some (m, r) → module_names_good m ≡ true
     → Got (module_bytes m) (module_fits m) xs r
 unfolding module_at module_bytes heading_bytes module_fits module_names_good
 module_from n m xs r h e g =
@@ -167,7 +167,7 @@ module_from n m xs r h e g =
       left = l2.left;
     }))))))
 
-modules_from_lem : (n k : ℕ) (ms : List Module) (xs r : List ℕ) → are_bytes xs ≡ true → modules_at n k xs ≡ some (ms, r) → all module_names_good ms ≡ true
+modules_from_lem : (n k : ℕ) (ms : List Module) (xs r : List ℕ) → are_bytes xs ≡ true → modules_at n k xs ≡ Some (ms, r) → all module_names_good ms ≡ true
     → Got (modules_bytes ms) (all module_fits ms) xs r
 unfolding modules_at modules_bytes all
 modules_from_lem n zero ms xs r h e m = let z = parts e in rw (← z.0, ← z.1) (nothing_read h)
@@ -184,7 +184,7 @@ modules_from_lem n (suc k) ms xs r h e m =
 
 -- ## The whole table
 
-head_from : (t : Table) (xs r : List ℕ) → are_bytes xs ≡ true → head_at xs ≡ some (t, r) → Got (head_bytes t) (head_fits t) xs r
+head_from : (t : Table) (xs r : List ℕ) → are_bytes xs ≡ true → head_at xs ≡ Some (t, r) → Got (head_bytes t) (head_fits t) xs r
 unfolding head_at head_bytes head_fits
 head_from t xs r h e =
     steps (after (bytes "ND") xs) _ e
@@ -209,14 +209,14 @@ no_bytes [] h = refl
 no_bytes (x ∷ xs) h = let z = eqb-true (length (x ∷ xs)) 0 h in absurd (omega arith)
 
 -- the end, and nothing after it
-ended : (t : Table) (c : List ℕ) {u : Table} → cond (eqb (length c) 0) (some u) none ≡ some t → (c ≡ []) × (u ≡ t)
+ended : (t : Table) (c : List ℕ) {u : Table} → cond (eqb (length c) 0) (Some u) None ≡ Some t → (c ≡ []) × (u ≡ t)
 ended t c {u} e = go (eqb (length c) 0) refl e
   where
-    go : (b : Bool) → eqb (length c) 0 ≡ b → cond b (some u) none ≡ some t → (c ≡ []) × (u ≡ t)
+    go : (b : Bool) → eqb (length c) 0 ≡ b → cond b (Some u) None ≡ Some t → (c ≡ []) × (u ≡ t)
     go true q e = (no_bytes c q, just e)
     go false q e = absurd (nothing e)
 
-pub table_from : (t : Table) (xs : List ℕ) → are_bytes xs ≡ true → whole_table xs ≡ some t → all module_names_good t.modules ≡ true → CameTable t xs
+pub table_from : (t : Table) (xs : List ℕ) → are_bytes xs ≡ true → whole_table xs ≡ Some t → all module_names_good t.modules ≡ true → CameTable t xs
 unfolding whole_table encode head_bytes head_fits
 table_from t xs h e g =
     steps (head_at xs) _ e

@@ -1,10 +1,10 @@
 -- A table that is written is read. Assumes nothing.
+use Rattle.std.specs.Prelude.{Option, Some, None}
 use Prim.Native.Nat.{ℕ, zero, suc, ◌+◌, ◌-◌, ◌≤◌}
 use native.Mathlib.Omega.{arith}
 use mathlib.Core.Path.{◌≡◌, refl, sym, ap, ◌∙◌}
 use mathlib.Core.Bool.{true, false}
 use mathlib.Core.List.{List, [], ◌∷◌, ◌++◌, append_assoc}
-use mathlib.Core.Option.{Option, none, some}
 use lib.Dec.{leb}
 use lib.ListN.{length, length-append}
 use borrow.Author.Tests.{leb-true, eq-eqb}
@@ -28,7 +28,7 @@ use Rattle.encode.proofs.Datainfos.{datainfo_back}
 
 -- ## Marks
 
-after_back : (m xs : List ℕ) → after m (m ++ xs) ≡ some xs
+after_back : (m xs : List ℕ) → after m (m ++ xs) ≡ Some xs
 unfolding after
 after_back [] xs = refl
 after_back (w ∷ m) xs = rw (eq-eqb w w refl) (after_back m xs)
@@ -38,14 +38,14 @@ unfolding begins
 begins_back m xs = rw (after_back m xs)
 
 -- a text after a mark, or none, before bytes that don't begin with the mark
-marked_back : (m : List ℕ) (o : Option (List ℕ)) (r : List ℕ) → begins m r ≡ false → marked_at m (marked_bytes m o ++ r) ≡ some (o, r)
+marked_back : (m : List ℕ) (o : Option (List ℕ)) (r : List ℕ) → begins m r ≡ false → marked_at m (marked_bytes m o ++ r) ≡ Some (o, r)
 unfolding marked_at marked_bytes
-marked_back m none r h = rw h
-marked_back m (some x) r h = rw (append_assoc, begins_back m (text_bytes x ++ r), after_back m (text_bytes x ++ r), text_back x r)
+marked_back m None r h = rw h
+marked_back m (Some x) r h = rw (append_assoc, begins_back m (text_bytes x ++ r), after_back m (text_bytes x ++ r), text_back x r)
 
 -- ## Parameters and commands, in a table of n bytes
 
-kept_back : (d : Datainfo) (r : List ℕ) → datainfo_fits d ≡ true → Datainfo.rules_kept d ≡ true → datainfo_at (datainfo_bytes d ++ r) ≡ some (d, r)
+kept_back : (d : Datainfo) (r : List ℕ) → datainfo_fits d ≡ true → Datainfo.rules_kept d ≡ true → datainfo_at (datainfo_bytes d ++ r) ≡ Some (d, r)
 unfolding datainfo_fits
 kept_back d r f k = let g = both (numbers_fit d) (leb (levels d) 4) f in datainfo_back d 4 r g.0 k (leb-true (levels d) 4 g.1)
 
@@ -76,7 +76,7 @@ lies p r n at e =
 
 parameter_back : (n at : ℕ) (p : Parameter) (r : List ℕ) → accessible_fits (parameter p) ≡ true → rules_kept (parameter p) ≡ true
     → initial_good (parameter p) ≡ true → at + length (parameter_bytes p ++ r) ≡ n
-    → parameter_at n (parameter_bytes p ++ r) ≡ some (placed_accessible at (parameter p), r)
+    → parameter_at n (parameter_bytes p ++ r) ≡ Some (placed_accessible at (parameter p), r)
 unfolding parameter_at parameter_rest placed_accessible accessible_fits rules_kept initial_good
 parameter_back n at p r f k i e =
     let g = (both (text_fits p.description) (datainfo_fits p.datainfo) f).1 in
@@ -89,14 +89,14 @@ parameter_back n at p r f k i e =
     rw (parameter_front p r, after_back (bytes "PA") (parameter_rest p r), text_back p.name (text_bytes p.description ++ b))
     (rw (text_back p.description b, flag_back p.readonly d, kept_back p.datainfo u g k, size)
     (rw (part_back p.initial r (length p.initial) refl)
-    (ap (λ (j : ℕ). some (parameter (with_place p j), r)) (lies p r n at e))))
+    (ap (λ (j : ℕ). Some (parameter (with_place p j), r)) (lies p r n at e))))
 
 -- a command whose argument is read
 abbrev finish : Command → Option Datainfo × List ℕ → Option (Accessible × List ℕ)
-finish c q = some (command (record { name = c.name; description = c.description; argument = q.0 }), q.1)
+finish c q = Some (command (record { name = c.name; description = c.description; argument = q.0 }), q.1)
 
 command_back : (c : Command) (r : List ℕ) → accessible_fits (command c) ≡ true → rules_kept (command c) ≡ true
-    → command_at (command_bytes c ++ r) ≡ some (command c, r)
+    → command_at (command_bytes c ++ r) ≡ Some (command c, r)
 unfolding command_at command_rest accessible_fits rules_kept argument_bytes argument_at if_any
 command_back c r f k =
     let g = (both (text_fits c.description) (if_any datainfo_fits c.argument) f).1 in
@@ -106,8 +106,8 @@ command_back c r f k =
   where
     go : (o : Option Datainfo) → if_any datainfo_fits o ≡ true → if_any Datainfo.rules_kept o ≡ true
         → (flag (argument_bytes o ++ r) >>= λ p. argument_at p.0 p.1 >>= finish c) ≡ finish c (o, r)
-    go none f k = rw (flag_back false r)
-    go (some d) f k = rw (flag_back true (datainfo_bytes d ++ r), kept_back d r f k)
+    go None f k = rw (flag_back false r)
+    go (Some d) f k = rw (flag_back true (datainfo_bytes d ++ r), kept_back d r f k)
 
 -- ## What may follow the records of a module
 
@@ -161,25 +161,25 @@ longer (command c ∷ l) r = counted_bytes (length l) (command_bytes c) (accessi
 
 module _ (n : ℕ) where
   accessible_next : (k : ℕ) (xs ys r : List ℕ) (a : Accessible) (l : List Accessible) → accessible_begins xs ≡ true
-      → accessible_at n xs ≡ some (a, ys) → accessibles_at n k ys ≡ some (l, r)
-      → accessibles_at n (suc k) xs ≡ some (a ∷ l, r)
+      → accessible_at n xs ≡ Some (a, ys) → accessibles_at n k ys ≡ Some (l, r)
+      → accessibles_at n (suc k) xs ≡ Some (a ∷ l, r)
   unfolding accessibles_at accessible_at
   accessible_next k xs ys r a l h e g = rw (h, e, g)
 
-  accessible_none : (k : ℕ) (r : List ℕ) → Ends r → accessibles_at n k r ≡ some ([], r)
+  accessible_none : (k : ℕ) (r : List ℕ) → Ends r → accessibles_at n k r ≡ Some ([], r)
   unfolding accessibles_at
   accessible_none zero r h = refl
   accessible_none (suc k) r h = rw (h.parameters, h.commands)
 
   parameter_reads : (at : ℕ) (p : Parameter) (r : List ℕ) → accessible_fits (parameter p) ≡ true → rules_kept (parameter p) ≡ true
       → initial_good (parameter p) ≡ true → at + length (parameter_bytes p ++ r) ≡ n
-      → accessible_at n (parameter_bytes p ++ r) ≡ some (placed_accessible at (parameter p), r)
+      → accessible_at n (parameter_bytes p ++ r) ≡ Some (placed_accessible at (parameter p), r)
   unfolding accessible_at
   parameter_reads at p r f k i e =
       rw (ap (begins (bytes "PA")) (parameter_front p r) ∙ begins_back (bytes "PA") (parameter_rest p r)) (parameter_back n at p r f k i e)
 
   command_reads : (at : ℕ) (c : Command) (r : List ℕ) → accessible_fits (command c) ≡ true → rules_kept (command c) ≡ true
-      → accessible_at n (command_bytes c ++ r) ≡ some (placed_accessible at (command c), r)
+      → accessible_at n (command_bytes c ++ r) ≡ Some (placed_accessible at (command c), r)
   unfolding accessible_at placed_accessible
   command_reads at c r f k =
       rw (ap (begins (bytes "PA")) (command_front c r) ∙ command_other (command_rest c r)) (command_back c r f k)
@@ -194,7 +194,7 @@ module _ (n : ℕ) where
 
   accessibles_back : (l : List Accessible) (k at : ℕ) (r : List ℕ) → length l ≤ k → all accessible_fits l ≡ true → all rules_kept l ≡ true
       → all initial_good l ≡ true → Ends r → at + length (accessibles_bytes l ++ r) ≡ n
-      → accessibles_at n k (accessibles_bytes l ++ r) ≡ some (placed_accessibles at l, r)
+      → accessibles_at n k (accessibles_bytes l ++ r) ≡ Some (placed_accessibles at l, r)
   unfolding accessibles_bytes accessible_bytes placed_accessibles
   accessibles_back [] k at r h f g i o e = accessible_none k r o
   accessibles_back (a ∷ l) zero at r h f g i o e = absurd (omega arith)
@@ -285,7 +285,7 @@ pub data AllGood : List Module → Type 0 where
 
 module _ (n : ℕ) where
   module_back : (m : Module) (at : ℕ) (r : List ℕ) → Good m → Ends r → at + length (module_bytes m ++ r) ≡ n
-      → module_at n (module_bytes m ++ r) ≡ some (placed_module at m, r)
+      → module_at n (module_bytes m ++ r) ≡ Some (placed_module at m, r)
   unfolding module_at module_rest placed_module
   module_back m at r g o e =
       let l = m.accessibles in
@@ -296,18 +296,18 @@ module _ (n : ℕ) where
       rw (module_front m r, after_back (bytes "MO") (module_rest m y), text_back m.name (text_bytes m.description ++ a), text_back m.description a)
       (rw (marked_back (bytes "NO") m.note y (note_ends l r o), inner))
 
-  modules_next : (k : ℕ) (xs ys r : List ℕ) (m : Module) (ms : List Module) → begins (bytes "MO") xs ≡ true → module_at n xs ≡ some (m, ys)
-      → modules_at n k ys ≡ some (ms, r) → modules_at n (suc k) xs ≡ some (m ∷ ms, r)
+  modules_next : (k : ℕ) (xs ys r : List ℕ) (m : Module) (ms : List Module) → begins (bytes "MO") xs ≡ true → module_at n xs ≡ Some (m, ys)
+      → modules_at n k ys ≡ Some (ms, r) → modules_at n (suc k) xs ≡ Some (m ∷ ms, r)
   unfolding modules_at
   modules_next k xs ys r m ms h e g = rw (h, e, g)
 
-  modules_none : (k : ℕ) → modules_at n k (bytes "EN") ≡ some ([], bytes "EN")
+  modules_none : (k : ℕ) → modules_at n k (bytes "EN") ≡ Some ([], bytes "EN")
   unfolding modules_at
   modules_none zero = refl
   modules_none (suc k) = rw end_no_module
 
   modules_back : (ms : List Module) (k at : ℕ) → length ms ≤ k → AllGood ms → at + length (modules_bytes ms ++ bytes "EN") ≡ n
-      → modules_at n k (modules_bytes ms ++ bytes "EN") ≡ some (placed_modules at ms, bytes "EN")
+      → modules_at n k (modules_bytes ms ++ bytes "EN") ≡ Some (placed_modules at ms, bytes "EN")
   unfolding modules_bytes placed_modules
   modules_back [] k at h g e = modules_none k
   modules_back (m ∷ ms) zero at h g e = absurd (omega arith)
@@ -332,18 +332,18 @@ head_front : (t : Table) (y : List ℕ) → head_bytes t ++ y ≡ bytes "ND" ++ 
 unfolding head_bytes head_rest
 head_front t y = simp append_assoc
 
-head_back : (t : Table) (y : List ℕ) → Ends y → head_at (head_bytes t ++ y) ≡ some (with_modules t [], y)
+head_back : (t : Table) (y : List ℕ) → Ends y → head_at (head_bytes t ++ y) ≡ Some (with_modules t [], y)
 unfolding head_at head_rest
 head_back t y o =
     let a = marked_bytes (bytes "ED") t.edition ++ y in
     rw (head_front t y, after_back (bytes "ND") (head_rest t y), text_back t.equipment_id (text_bytes t.description ++ a), text_back t.description a)
     (rw (marked_back (bytes "ED") t.edition y o.editions))
 
-end_back : after (bytes "EN") (bytes "EN") ≡ some []
+end_back : after (bytes "EN") (bytes "EN") ≡ Some []
 unfolding after bytes
 end_back = refl
 
-pub table_back : (t : Table) → AllGood t.modules → whole_table (encode t) ≡ some (placed t)
+pub table_back : (t : Table) → AllGood t.modules → whole_table (encode t) ≡ Some (placed t)
 unfolding whole_table encode placed
 table_back t g =
     let ms = t.modules in

@@ -1,9 +1,9 @@
 -- The theorems. Assumes nothing.
+use Rattle.std.specs.Prelude.{Some, None}
 use Prim.Native.Nat.{ℕ}
 use mathlib.Core.Path.{◌≡◌, refl, sym, ap, ap₂, ◌∙◌}
 use mathlib.Core.Bool.{Bool, true, false, cond, not, ◌&&◌}
 use mathlib.Core.List.{List, [], ◌∷◌, map}
-use mathlib.Core.Option.{none, some}
 use lib.Dec.{leb}
 use lib.ListN.{length}
 use borrow.Author.Tests.{not-false}
@@ -74,7 +74,7 @@ all_good (m ∷ ms) f k i =
 
 -- ## An encoded table is read back
 
-read_back_lem : (t : Table) → tree_number t ≡ 0 → has_layout t ≡ true → read_table (encode t) ≡ some (placed t)
+read_back_lem : (t : Table) → tree_number t ≡ 0 → has_layout t ≡ true → read_table (encode t) ≡ Some (placed t)
 unfolding read_table datainfos_good initials_good
 read_back_lem t e h = rw (is_short_lem t h) (table_back t (all_good t.modules (modules_fit t h) (datainfos t e) (initials t e)))
 
@@ -90,11 +90,11 @@ encoded_tables_are_read_back t e h =
 -- ## Accepted bytes are an encoding
 
 -- readable bytes are not too many
-readable : (xs : List ℕ) (t : Table) → read_table xs ≡ some t → (leb (length xs) 16384 ≡ true) × (whole_table xs ≡ some t)
+readable : (xs : List ℕ) (t : Table) → read_table xs ≡ Some t → (leb (length xs) 16384 ≡ true) × (whole_table xs ≡ Some t)
 unfolding read_table
 readable xs t e = go (leb (length xs) 16384) refl e
   where
-    go : (b : Bool) → leb (length xs) 16384 ≡ b → cond b (whole_table xs) none ≡ some t → (b ≡ true) × (whole_table xs ≡ some t)
+    go : (b : Bool) → leb (length xs) 16384 ≡ b → cond b (whole_table xs) None ≡ Some t → (b ≡ true) × (whole_table xs ≡ Some t)
     go true q e = (refl, e)
     go false q e = absurd (nothing e)
 
@@ -104,7 +104,7 @@ accepted_bytes_are_encoded xs t b r e =
     let s = readable xs t r in
     let c = table_from t xs b s.1 (module_names t e) in
     let fits : has_layout t ≡ true = ap₂ ◌&&◌ (ap₂ ◌&&◌ c.head c.modules) (rw c.is at s.0) in
-    let back : read_table xs ≡ some (placed t) = ap read_table c.is ∙ read_back_lem t e fits in
+    let back : read_table xs ≡ Some (placed t) = ap read_table c.is ∙ read_back_lem t e fits in
     record { is = sym c.is; fits = fits; places = just (sym back ∙ r) }
 
 pub tables_have_one_layout : TablesHaveOneLayout

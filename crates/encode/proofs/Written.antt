@@ -1,10 +1,10 @@
 -- What is written of an accepted table is bytes. Assumes nothing.
+use Rattle.std.specs.Prelude.{Option, Some, None}
 use Prim.Native.Nat.{ℕ, ◌≤◌}
 use native.Mathlib.Omega.{arith}
 use mathlib.Core.Path.{◌≡◌, refl}
 use mathlib.Core.Bool.{true, false, not, ◌&&◌, false≢true}
 use mathlib.Core.List.{List, [], ◌∷◌, ◌++◌, map}
-use mathlib.Core.Option.{Option, none, some}
 use lib.Dec.{leb}
 use lib.ListN.{length}
 use lib.Pow.{are_bytes}
@@ -65,8 +65,8 @@ unfolding verdict verdict_of is_fit severity
 initial_written d x h = go (text x) refl (stored_fits d x h)
   where
     go : (o : Option Json) → text x ≡ o → is_fit (verdict_of d o) ≡ true → are_bytes x ≡ true
-    go none q e = absurd (false≢true e)
-    go (some v) q e = printed_bytes x (texts_are_printable x v q)
+    go None q e = absurd (false≢true e)
+    go (Some v) q e = printed_bytes x (texts_are_printable x v q)
 
 -- ## Datainfos
 
@@ -177,8 +177,8 @@ parameter_written p n h f k i =
 
 argument_written : (o : Option Datainfo) → if_any Datainfo.names_good o ≡ true → if_any Datainfo.rules_kept o ≡ true → are_bytes (argument_bytes o) ≡ true
 unfolding argument_bytes if_any
-argument_written none h k = flag_bytes false [] refl
-argument_written (some d) h k = flag_bytes true (datainfo_bytes d) (datainfo_written d h k)
+argument_written None h k = flag_bytes false [] refl
+argument_written (Some d) h k = flag_bytes true (datainfo_bytes d) (datainfo_written d h k)
 
 command_written : (c : Command) → is_name c.name ≡ true → accessible_names_good (command c) ≡ true → accessible_fits (command c) ≡ true
     → rules_kept (command c) ≡ true → are_bytes (command_bytes c) ≡ true
@@ -212,13 +212,13 @@ accessibles_written (a ∷ l) n h f k i =
 -- a text after a mark that is bytes
 note_written : (o : Option (List ℕ)) → note_good o ≡ true → option_fits o ≡ true → are_bytes (marked_bytes (bytes "NO") o) ≡ true
 unfolding marked_bytes bytes note_good option_fits
-note_written none h f = refl
-note_written (some x) h f = text_written x h f
+note_written None h f = refl
+note_written (Some x) h f = text_written x h f
 
 edition_written : (o : Option (List ℕ)) → edition_good o ≡ true → option_fits o ≡ true → are_bytes (marked_bytes (bytes "ED") o) ≡ true
 unfolding marked_bytes bytes edition_good option_fits
-edition_written none h f = refl
-edition_written (some x) h f = text_written x (both (is_text x) _ h).0 f
+edition_written None h f = refl
+edition_written (Some x) h f = text_written x (both (is_text x) _ h).0 f
 
 texts_written : (a b m : List ℕ) → are_bytes (text_bytes a) ≡ true → are_bytes (text_bytes b) ≡ true → are_bytes m ≡ true
     → are_bytes ((text_bytes a ++ text_bytes b) ++ m) ≡ true

@@ -1,7 +1,6 @@
 -- How a table is written in bytes: the layout that `table/Layout` reads, as an encoder (document 01, "The table"; M-104, M-107, M-113).
 -- Assumes nothing.
-use Rattle.std.specs.Prelude.{ℕ, zero, suc, ◌+◌, ◌*◌, ◌-◌, ◌/◌, ◌%◌, ◌^◌, Bool, true, false, cond, List, [], ◌∷◌, ◌++◌, ℤ, pos, negsuc, length, drop}
-use Rattle.std.proofs.Math.Option.{Option, none, some}
+use Rattle.std.specs.Prelude.{ℕ, zero, suc, ◌+◌, ◌*◌, ◌-◌, ◌/◌, ◌%◌, ◌^◌, Bool, true, false, cond, List, [], ◌∷◌, ◌++◌, ℤ, pos, negsuc, length, drop, Option, Some, None}
 use Rattle.ascii.specs.Text.{bytes}
 use Rattle.ascii.specs.Bytes.{same}
 use Rattle.decimal.specs.Decimal.{Decimal}
@@ -98,8 +97,8 @@ parameter_bytes p = before_initial p ++ p.initial
 
 -- "byte 0 or 1, and a datainfo for the argument if 1"
 unfoldable pub argument_bytes : Option Datainfo → List ℕ
-argument_bytes none = flag_byte false ∷ []
-argument_bytes (some d) = flag_byte true ∷ datainfo_bytes d
+argument_bytes None = flag_byte false ∷ []
+argument_bytes (Some d) = flag_byte true ∷ datainfo_bytes d
 
 -- "`CM`: name, text description", and so on
 unfoldable pub command_bytes : Command → List ℕ
@@ -115,8 +114,8 @@ accessibles_bytes (a ∷ rest) = accessible_bytes a ++ accessibles_bytes rest
 
 -- a text after a mark, if there is one
 unfoldable pub marked_bytes : List ℕ → Option (List ℕ) → List ℕ
-marked_bytes mark none = []
-marked_bytes mark (some x) = mark ++ text_bytes x
+marked_bytes mark None = []
+marked_bytes mark (Some x) = mark ++ text_bytes x
 
 -- "`MO`: name, text description.", and "`NO`: text, a note. At most one, straight after an `MO`."
 unfoldable pub heading_bytes : Module → List ℕ

@@ -1,7 +1,6 @@
 -- Tables and their bytes, worked out by hand from the documents. Assumes nothing.
-use Rattle.std.specs.Prelude.{ℕ, Bool, true, false, List, [], ◌∷◌, ◌++◌, ◌≡◌, pos, negsuc}
+use Rattle.std.specs.Prelude.{ℕ, Bool, true, false, List, [], ◌∷◌, ◌++◌, ◌≡◌, pos, negsuc, Some, None}
 use Prim.Native.String.{String}
-use Rattle.std.proofs.Math.Option.{none, some}
 use Rattle.ascii.specs.Text.{bytes}
 use Rattle.ascii.specs.Bytes.{is_some}
 use Rattle.decimal.specs.Decimal.{from_integer}
@@ -30,17 +29,17 @@ demo =
     record {
       equipment_id = bytes "demo";
       description = bytes "one stage";
-      edition = none;
+      edition = None;
       modules =
           record {
             name = bytes "t1";
             description = bytes "stage";
-            note = none;
+            note = None;
             accessibles =
                 shown "value" "reading" true (double (from_integer (pos 0)) (from_integer (pos 300))) "0"
                 ∷ shown "mode" "heater" false
                 (enum (record { name = bytes "off"; number = pos 0 } ∷ record { name = bytes "on"; number = pos 1 } ∷ [])) "0"
-                ∷ command (record { name = bytes "stop"; description = bytes "stop"; argument = none })
+                ∷ command (record { name = bytes "stop"; description = bytes "stop"; argument = None })
                 ∷ [];
           }
           ∷ [];
@@ -59,12 +58,12 @@ rich =
     record {
       equipment_id = bytes "all";
       description = [];
-      edition = some (bytes "ISSE,SECoP,x");
+      edition = Some (bytes "ISSE,SECoP,x");
       modules =
           record {
             name = bytes "m";
             description = [];
-            note = some (bytes "n");
+            note = Some (bytes "n");
             accessibles =
                 shown "s" "" false
                 (partial (bytes "b" ∷ [])
@@ -75,7 +74,7 @@ rich =
                 ∷ command (record {
                   name = bytes "go";
                   description = [];
-                  argument = some (struct (field (bytes "k") (int (negsuc 1) (pos 2)) no_fields));
+                  argument = Some (struct (field (bytes "k") (int (negsuc 1) (pos 2)) no_fields));
                 })
                 ∷ [];
           }

@@ -1,8 +1,7 @@
 -- Which trees the layout has room for: what number 1 asks, of a tree. A tree that the rules of its own accept (numbers 2 to 6) may still have a
 -- text, a number or a level for which no bytes stand. Each test is the width of a field; where a rule is narrower (names, counts, powers, initial
 -- values) there is none. Assumes nothing.
-use Rattle.std.specs.Prelude.{ℕ, suc, max, ◌*◌, ◌-◌, ◌^◌, Bool, true, false, ◌&&◌, List, [], ◌∷◌, leb, ltb, ℤ, pos, negsuc, length}
-use Rattle.std.proofs.Math.Option.{Option, none, some}
+use Rattle.std.specs.Prelude.{ℕ, suc, max, ◌*◌, ◌-◌, ◌^◌, Bool, true, false, ◌&&◌, List, [], ◌∷◌, leb, ltb, ℤ, pos, negsuc, length, Option, Some, None}
 use Rattle.ascii.specs.Bytes.{all}
 use Rattle.decimal.specs.Decimal.{Decimal}
 use Rattle.datainfo.specs.Datainfo.{Variant, Datainfo, double, int, bool, enum, string, array, tuple, struct, scaled, blob, partial, Elements, no_elements}
@@ -16,8 +15,8 @@ unfoldable pub text_fits : List ℕ → Bool
 text_fits xs = leb (length xs) 255
 
 unfoldable pub option_fits : Option (List ℕ) → Bool
-option_fits none = true
-option_fits (some x) = text_fits x
+option_fits None = true
+option_fits (Some x) = text_fits x
 
 -- a number of k bytes, unsigned (u16) or signed (i64, i32)
 unfoldable pub unsigned_fits : ℕ → ℕ → Bool

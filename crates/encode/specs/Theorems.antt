@@ -1,7 +1,6 @@
 -- What is proved of the layout: an encoded table is read back, and bytes that are accepted are the encoding of the table that they are read as. So
 -- accepted bytes and accepted trees stand for each other, one to one. Assumes nothing.
-use Rattle.std.specs.Prelude.{ℕ, true, List, ◌≡◌}
-use Rattle.std.proofs.Math.Option.{some}
+use Rattle.std.specs.Prelude.{ℕ, true, List, ◌≡◌, Some}
 use Rattle.std.proofs.Math.Pow.{are_bytes}
 use Rattle.table.specs.Table.{Table}
 use Rattle.table.specs.Layout.{read_table}
@@ -13,7 +12,7 @@ use Rattle.encode.specs.Fits.{has_layout}
 -- value), and they are accepted.
 pub record ReadBack (t : Table) : Type 0 where
   pub bytes : are_bytes (encode t) ≡ true
-  pub read : read_table (encode t) ≡ some (placed t)
+  pub read : read_table (encode t) ≡ Some (placed t)
   pub accepted : table_number (encode t) ≡ 0
 
 -- Reading an encoded table gives it back, for every table that the rules accept: numbers 2 to 6 by `tree_number`, number 1 by `has_layout`.
@@ -28,9 +27,9 @@ pub record EncodedAgain (xs : List ℕ) (t : Table) : Type 0 where
 
 -- Accepted bytes are the encoding of the table that they are read as. So `has_layout` asks for nothing that an accepted table might lack.
 abbrev pub AcceptedBytesAreEncoded : Type 0
-AcceptedBytesAreEncoded = (xs : List ℕ) (t : Table) → are_bytes xs ≡ true → read_table xs ≡ some t → tree_number t ≡ 0 → EncodedAgain xs t
+AcceptedBytesAreEncoded = (xs : List ℕ) (t : Table) → are_bytes xs ≡ true → read_table xs ≡ Some t → tree_number t ≡ 0 → EncodedAgain xs t
 
 -- So no two tables' bytes are read as one accepted table.
 abbrev pub TablesHaveOneLayout : Type 0
 TablesHaveOneLayout = (xs ys : List ℕ) (t : Table) → are_bytes xs ≡ true → are_bytes ys ≡ true → tree_number t ≡ 0
-    → read_table xs ≡ some t → read_table ys ≡ some t → xs ≡ ys
+    → read_table xs ≡ Some t → read_table ys ≡ Some t → xs ≡ ys

@@ -1,10 +1,10 @@
 -- Laws of the code that reads a number and a datainfo's limits. Assumes nothing.
+use Rattle.std.specs.Prelude.{Option, Some, None}
 use Prim.Native.Nat.{ℕ, suc, ◌+◌, ◌*◌, ◌-◌, ◌^◌, ◌≤◌, ◌<◌}
 use native.Mathlib.Numerals.{add-one}
 use native.Mathlib.Omega.{arith}
 use mathlib.Core.Bool.{Bool, true, false, cond, not, ◌&&◌, false≢true}
 use mathlib.Core.List.{List, [], ◌∷◌}
-use mathlib.Core.Option.{Option, some}
 use mathlib.Core.Path.{◌≡◌, refl, sym, ap, ◌∙◌}
 use lib.IntN.{ℤ, pos, negsuc}
 use lib.ListN.{length, get_or, drop, drop_of_length-le}
@@ -14,20 +14,14 @@ use mir.Syntax.{w64}
 use mir.Val.{hbits, to_z, of_z, SFits}
 use mir.Facts.{to_z-of_z}
 use borrow.Author.Tests.{ltb-true, ltb-false, le-leb, lt-leb}
-use Rattle.ascii.specs.declared.Unsigned as U
-use Rattle.ascii.specs.declared.Unsigned.{Unsigned}
-use Rattle.ascii.specs.declared.Signed as S
-use Rattle.ascii.specs.declared.Signed.{Signed}
 use Rattle.ascii.specs.Bytes.{is_digit}
 use Rattle.ascii.specs.Numbers.{unsigned, signed}
-use Rattle.ascii.specs.Clauses.Read.{ReadsUnsigned, ReadsSigned}
+use Rattle.ascii.specs.Clauses.Read.{ReadsValue}
 use Rattle.decimal.specs.Decimal.{numeral_from, numeral}
 use Rattle.datainfo.specs.Datainfo.{Datainfo}
 use Rattle.datainfo.specs.Layout.{limit, double_at, int_at, enum_at, string_at, array_at, tuple_at, struct_at, scaled_at, blob_at, partial_at, variants, elements}
 use Rattle.datainfo.specs.Layout.{fields, typed, datainfo_in}
 use Rattle.datainfo.specs.Clauses.Obeyed.{ReadsLimit}
-use Rattle.datainfo.specs.declared.rules.Limit as L
-use Rattle.datainfo.specs.declared.rules.Limit.{Limit}
 use Rattle.fit.proofs.Shapes.{nothing, just, either, steps}
 use Rattle.figures.specs.Figures.{is_narrow, is_summed}
 use Rattle.figures.specs.Clauses.Tally.{Small, LimitsNarrow, ScaledNarrow, TellsSummed, SetTo, Marks, mark_of, above}
@@ -101,12 +95,12 @@ module _ (lo hi : ℤ) (f : mag lo < 2 ^ hbits w64) where
       ap (λ z. le_z z (pos 2147483647)) same
       ∙ sym (ap (λ b. b && le_z hi (pos 2147483647)) (below lo false (rw same_lo at h)))
 
-module _ (s : List ℕ) (at : ℕ) (r : Bool) (u : Signed) (k : ReadsSigned s u (signed 8 (drop at s))) where
-  pub limits_1 : u ≡ S.TheVariants.Short → LimitsNarrow (drop at s) r
+module _ (s : List ℕ) (at : ℕ) (r : Bool) (u : Option (ℤ × ℕ)) (k : ReadsValue s u (signed 8 (drop at s))) where
+  pub limits_1 : u ≡ None → LimitsNarrow (drop at s) r
   limits_1 e = record { is = λ a b. absurd (nothing (sym (rw e at k) ∙ a)) }
 
-  module _ (lo : ℤ) (a : ℕ) (e : u ≡ S.TheVariants.Read lo a) (w : Signed) (l : ReadsSigned s w (signed 8 (drop a s))) where
-    pub limits_2 : w ≡ S.TheVariants.Short → LimitsNarrow (drop at s) r
+  module _ (lo : ℤ) (a : ℕ) (e : u ≡ Some (lo, a)) (w : Option (ℤ × ℕ)) (l : ReadsValue s w (signed 8 (drop a s))) where
+    pub limits_2 : w ≡ None → LimitsNarrow (drop at s) r
     limits_2 f =
         record {
           is = λ x y.
@@ -114,7 +108,7 @@ module _ (s : List ℕ) (at : ℕ) (r : Bool) (u : Signed) (k : ReadsSigned s u 
               absurd (nothing (sym (rw f at l) ∙ ap (signed 8) (ap (λ q. q.1) p) ∙ y));
         }
 
-    pub limits_good : (hi : ℤ) (b : ℕ) → w ≡ S.TheVariants.Read hi b → SFits w64 lo → SFits w64 hi
+    pub limits_good : (hi : ℤ) (b : ℕ) → w ≡ Some (hi, b) → SFits w64 lo → SFits w64 hi
         → r ≡ is_narrow (to_z w64 (of_z w64 lo)) (to_z w64 (of_z w64 hi)) → LimitsNarrow (drop at s) r
     limits_good hi b f i1 i2 h =
         record {
@@ -124,18 +118,18 @@ module _ (s : List ℕ) (at : ℕ) (r : Bool) (u : Signed) (k : ReadsSigned s u 
               rw (to_z-of_z i1, to_z-of_z i2) at h ∙ (λ i. is_narrow (p i).0 (q i).0);
         }
 
-module _ (s : List ℕ) (at : ℕ) (r : Bool) (u : Limit) (k : ReadsLimit s u (limit (drop at s))) where
-  pub scaled_1 : u ≡ L.TheVariants.Short → ScaledNarrow (drop at s) r
+module _ (s : List ℕ) (at : ℕ) (r : Bool) (u : Option (ℤ × ℤ × ℕ)) (k : ReadsLimit s u (limit (drop at s))) where
+  pub scaled_1 : u ≡ None → ScaledNarrow (drop at s) r
   scaled_1 e = record { is = λ a. absurd (nothing (sym (rw e at k) ∙ a)) }
 
-  pub scaled_good : (m p : ℤ) (a : ℕ) → u ≡ L.TheVariants.Read m p a → LimitsNarrow (drop a s) r → ScaledNarrow (drop at s) r
+  pub scaled_good : (m p : ℤ) (a : ℕ) → u ≡ Some (m, p, a) → LimitsNarrow (drop a s) r → ScaledNarrow (drop at s) r
   scaled_good m p a e h =
       record { is = λ x. let q = just (sym (rw e at k).0 ∙ x) in rw (← ap (λ z. z.1) q) h }
 
 -- ## Which datainfos are summed
 
 abbrev Summed : Option (Datainfo × List ℕ) → Bool → Type 0
-Summed o r = (d : Datainfo) (x : List ℕ) → o ≡ some (d, x) → r ≡ is_summed d
+Summed o r = (d : Datainfo) (x : List ℕ) → o ≡ Some (d, x) → r ≡ is_summed d
 
 int_summed : (xs : List ℕ) (r : Bool) → LimitsNarrow xs r → Summed (int_at xs) r
 unfolding int_at is_summed
@@ -154,7 +148,7 @@ module _ (inner : List ℕ → Option (Datainfo × List ℕ)) (xs : List ℕ) wh
   unfolding double_at is_summed
   double_not d x e = steps (limit xs) _ e λ o a e. steps (limit o.1) _ e λ p b e. ap is_summed (ap (λ q. q.0) (just e))
 
-  bool_not : Summed (some (Datainfo.bool, xs)) false
+  bool_not : Summed (Some (Datainfo.bool, xs)) false
   unfolding is_summed
   bool_not d x e = ap is_summed (ap (λ q. q.0) (just e))
 
@@ -193,7 +187,7 @@ module _ (inner : List ℕ → Option (Datainfo × List ℕ)) (xs : List ℕ) wh
   typed_not k i s d x e =
       either k 1 (double_at xs) _ e (λ n. double_not d x) λ n e.
       either k 2 (int_at xs) _ e (λ n. absurd (i n)) λ n e.
-      either k 3 (some (Datainfo.bool, xs)) _ e (λ n. bool_not d x) λ n e.
+      either k 3 (Some (Datainfo.bool, xs)) _ e (λ n. bool_not d x) λ n e.
       either k 4 (enum_at xs) _ e (λ n. enum_not d x) λ n e.
       either k 5 (string_at xs) _ e (λ n. string_not d x) λ n e.
       either k 6 (array_at inner xs) _ e (λ n. array_not d x) λ n e.
@@ -205,12 +199,12 @@ module _ (inner : List ℕ → Option (Datainfo × List ℕ)) (xs : List ℕ) wh
       absurd (nothing e)
 
 -- the code's ways: by the type byte
-module _ (s : List ℕ) (info : ℕ) (r : Bool) (u : Unsigned) (h : ReadsUnsigned s u (unsigned 1 (drop info s))) where
-  pub summed_short : u ≡ U.TheVariants.Short → TellsSummed s info r
+module _ (s : List ℕ) (info : ℕ) (r : Bool) (u : Option (ℕ × ℕ)) (h : ReadsValue s u (unsigned 1 (drop info s))) where
+  pub summed_short : u ≡ None → TellsSummed s info r
   unfolding datainfo_in
   summed_short e = record { is = λ x. steps (unsigned 1 (drop info s)) _ x λ o a f. absurd (nothing (sym (rw e at h) ∙ a)) }
 
-  module _ (k at : ℕ) (e : u ≡ U.TheVariants.Read k at) where
+  module _ (k at : ℕ) (e : u ≡ Some (k, at)) where
     by_type : Summed (typed (datainfo_in 3) k (drop at s)) r → TellsSummed s info r
     unfolding datainfo_in
     by_type f =

@@ -1,10 +1,10 @@
 -- A text that is in stored form for a narrow int or scaled is a small number's token. Assumes nothing.
+use Rattle.std.specs.Prelude.{Option, Some, None}
 use Prim.Native.Nat.{ℕ, zero, suc, ◌≤◌}
 use native.Mathlib.Nat.{mul-one}
 use native.Mathlib.Omega.{arith}
 use mathlib.Core.Bool.{Bool, true, false, cond, not, ◌&&◌, ◌||◌, false≢true}
 use mathlib.Core.List.{List, [], ◌∷◌}
-use mathlib.Core.Option.{Option, none, some}
 use mathlib.Core.Path.{◌≡◌, refl, sym, ap, ap₂, ◌∙◌}
 use lib.Dec.{eqb}
 use lib.IntN.{ℤ, pos, negsuc, neg_ℤ, nat_abs, ◌*ℤ◌}
@@ -134,8 +134,8 @@ value_small (partial ns fs) v xs s e f = absurd (false≢true s)
 
 read_small : (d : Datainfo) (o : Option Json) (xs : List ℕ) → is_summed d ≡ true → verdict_of d o ≡ fits → form_of d o ≡ xs → Small xs
 unfolding verdict_of value_verdict form_of
-read_small d none xs s e f = let z : ◌≡◌ {A = ℕ} 0 1 = cc in absurd (omega arith)
-read_small d (some v) xs s e f = value_small d v xs s (worse_both (fit d v) _ e).0 f
+read_small d None xs s e f = let z : ◌≡◌ {A = ℕ} 0 1 = cc in absurd (omega arith)
+read_small d (Some v) xs s e f = value_small d v xs s (worse_both (fit d v) _ e).0 f
 
 pub stored_small : (d : Datainfo) (xs : List ℕ) → is_summed d ≡ true → is_stored d xs ≡ true → Small xs
 unfolding is_stored verdict stored_form

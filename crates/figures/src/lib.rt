@@ -15,8 +15,8 @@ ghost use Rattle.figures.specs.Clauses.Tally.{TellsSummed, LimitsNarrow, ScaledN
 ghost use Rattle.figures.specs.Theorems.{FiguresAreExact};
 
 use ascii::numbers::{signed, unsigned};
-use ascii::{Signed, Unsigned, byte, is_digit};
-use datainfo::rules::{Limit, limit_at};
+use ascii::{byte, is_digit};
+use datainfo::rules::{limit_at};
 use emit::{emit, emit_decimal, emit_labelled_decimal};
 use limits::ACCESSIBLES;
 
@@ -93,10 +93,10 @@ fn limits_narrow(s: &[u8], at: usize) -> bool
     requires { at ≤ length s.now }
     ensures { LimitsNarrow (drop at s.now) result }
 {
-    let Signed::Read(lo, a) = signed(s, at, 8) else {
+    let Some((lo, a)) = signed(s, at, 8) else {
         return false;
     };
-    let Signed::Read(hi, _) = signed(s, a, 8) else {
+    let Some((hi, _)) = signed(s, a, 8) else {
         return false;
     };
     is_narrow(lo, hi)
@@ -106,7 +106,7 @@ fn scaled_narrow(s: &[u8], at: usize) -> bool
     requires { at ≤ length s.now }
     ensures { ScaledNarrow (drop at s.now) result }
 {
-    let Limit::Read(_, _, limits) = limit_at(s, at) else {
+    let Some((_, _, limits)) = limit_at(s, at) else {
         return false;
     };
     limits_narrow(s, limits)
@@ -117,7 +117,7 @@ pub fn is_summed(s: &[u8], info: usize) -> bool
     requires { info ≤ length s.now }
     ensures { TellsSummed s.now info result }
 {
-    let Unsigned::Read(k, at) = unsigned(s, info, 1) else {
+    let Some((k, at)) = unsigned(s, info, 1) else {
         return false;
     };
     if k == 2 {

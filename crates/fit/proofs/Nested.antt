@@ -1,4 +1,5 @@
 -- Laws of arrays and tuples: what holds while the code walks over the items. Assumes nothing.
+use Rattle.std.specs.Prelude.{Option, Some, None, Result, Ok, Err}
 use Prim.Native.Nat.{ℕ, zero, suc, ◌+◌, ◌-◌, ◌≤◌, ◌<◌}
 use native.Mathlib.Nat.{zero-add, add-zero}
 use native.Mathlib.Numerals.{sub-one}
@@ -6,19 +7,14 @@ use native.Mathlib.Omega.{arith}
 use mathlib.Core.Path.{◌≡◌, refl, sym, ap, ◌∙◌}
 use mathlib.Core.Bool.{Bool, true, false, cond}
 use mathlib.Core.List.{List}
-use mathlib.Core.Option.{Option, none, some}
 use lib.ListN.{length, take, drop, length-drop}
 use lib.Seq.{drop-drop}
 use lib.Dec.{leb}
 use borrow.Author.Tests.{leb-true, le-leb}
-use Rattle.ascii.specs.declared.Next.{Next}
-use Rattle.ascii.specs.declared.Next.TheVariants.{At, Bad}
-use Rattle.ascii.specs.declared.Unsigned as U
-use Rattle.ascii.specs.declared.Unsigned.{Unsigned}
 use Rattle.ascii.specs.Bytes.{head, part}
 use Rattle.ascii.specs.Numbers.{unsigned}
 use Rattle.ascii.specs.Clauses.Reader.{ByteAt, Left, Ends, rest}
-use Rattle.ascii.specs.Clauses.Read.{ReadsUnsigned}
+use Rattle.ascii.specs.Clauses.Read.{ReadsValue}
 use Rattle.ascii.proofs.Bytes.{tail_drop}
 use Rattle.json_text.specs.Json.{Json, Items, no_items, item, skip, bare}
 use Rattle.datainfo.specs.Datainfo.{Datainfo, array, tuple, Elements, no_elements, element}
@@ -28,29 +24,29 @@ use Rattle.fit.specs.Fit.{fits, wrongType, in_range, expect, worse, item_count, 
 use Rattle.fit.specs.Fit as Fit
 use Rattle.fit.specs.Clauses.Verdict.{meaning, Judges, Limits}
 use Rattle.fit.specs.Clauses.Walk.{first, after_item}
-use Rattle.fit.specs.declared.Verdict.{Verdict}
-use Rattle.fit.specs.declared.Verdict.TheVariants.{Fits, WrongType}
 use Rattle.fit.proofs.Judged.{worse_fits, fits_worse, worse_worse, same_read, same_left}
 use Rattle.fit.proofs.Shapes.{nothing, just, steps, shape, tells_yes, tells_no, as_array_lem}
 use Rattle.fit.proofs.Items.{ItemsAt, items_first, items_next, items_none, items_some, items_turns, unspaced}
+use Rattle.fit.specs.declared.Misfit.{Misfit}
+use Rattle.fit.specs.declared.Misfit.TheVariants.{WrongType}
 
 -- ## Parts of the table
 
 -- a part of n bytes, and what is left
-part_some : (n : ℕ) (xs : List ℕ) {t y : List ℕ} → part n xs ≡ some (t, y) → (n ≤ length xs) × (y ≡ drop n xs)
+part_some : (n : ℕ) (xs : List ℕ) {t y : List ℕ} → part n xs ≡ Some (t, y) → (n ≤ length xs) × (y ≡ drop n xs)
 unfolding part
 part_some n xs {t} {y} e = go (leb n (length xs)) refl e
   where
-    go : (b : Bool) → leb n (length xs) ≡ b → cond {A = Option (List ℕ × List ℕ)} b (some (take n xs, drop n xs)) none ≡ some (t, y) → (n ≤ length xs) × (y ≡ drop n xs)
+    go : (b : Bool) → leb n (length xs) ≡ b → cond {A = Option (List ℕ × List ℕ)} b (Some (take n xs, drop n xs)) None ≡ Some (t, y) → (n ≤ length xs) × (y ≡ drop n xs)
     go true h e = (leb-true n (length xs) h, sym (ap (λ p. p.1) (just e)))
     go false h e = absurd (nothing e)
 
-unsigned_some : (n : ℕ) (xs : List ℕ) {m : ℕ} {y : List ℕ} → unsigned n xs ≡ some (m, y) → (n ≤ length xs) × (y ≡ drop n xs)
+unsigned_some : (n : ℕ) (xs : List ℕ) {m : ℕ} {y : List ℕ} → unsigned n xs ≡ Some (m, y) → (n ≤ length xs) × (y ≡ drop n xs)
 unfolding unsigned
 unsigned_some n xs e = steps (part n xs) _ e λ p a e. let h = part_some n xs a in (h.0, sym (ap (λ p. p.1) (just e)) ∙ h.1)
 
 -- two limits are four bytes
-pub limits_part : (xs : List ℕ) {lo hi : ℕ} {y z : List ℕ} → unsigned 2 xs ≡ some (lo, y) → unsigned 2 y ≡ some (hi, z) → rest (part 4 xs) ≡ some z
+pub limits_part : (xs : List ℕ) {lo hi : ℕ} {y z : List ℕ} → unsigned 2 xs ≡ Some (lo, y) → unsigned 2 y ≡ Some (hi, z) → rest (part 4 xs) ≡ Some z
 unfolding part
 limits_part xs {lo} {hi} {y} e f =
     let a = unsigned_some 2 xs e in
@@ -58,50 +54,50 @@ limits_part xs {lo} {hi} {y} e f =
     let n : 2 ≤ length xs - 2 = rw (a.1, length-drop) at b.0 in
     rw (le-leb 4 (length xs) (omega arith), b.1, a.1, drop-drop)
 
-pub array_some : {S : Type 0} (f : List ℕ → Option (Datainfo × List ℕ)) (xs : List ℕ) {o : Datainfo} {x : List ℕ} → array_at f xs ≡ some (o, x)
-    → ((lo hi : ℕ) (y z : List ℕ) (d : Datainfo) → unsigned 2 xs ≡ some (lo, y) → unsigned 2 y ≡ some (hi, z) → f z ≡ some (d, x) → o ≡ array lo hi d → S) → S
+pub array_some : {S : Type 0} (f : List ℕ → Option (Datainfo × List ℕ)) (xs : List ℕ) {o : Datainfo} {x : List ℕ} → array_at f xs ≡ Some (o, x)
+    → ((lo hi : ℕ) (y z : List ℕ) (d : Datainfo) → unsigned 2 xs ≡ Some (lo, y) → unsigned 2 y ≡ Some (hi, z) → f z ≡ Some (d, x) → o ≡ array lo hi d → S) → S
 unfolding array_at
 array_some f xs e g = steps (unsigned 2 xs) _ e λ p a e. steps (unsigned 2 p.1) _ e λ q b e. steps (f q.1) _ e λ w c e.
-    g p.0 q.0 p.1 q.1 w.0 a b (c ∙ ap (λ y. some (w.0, y)) (ap (λ p. p.1) (just e))) (sym (ap (λ p. p.0) (just e)))
+    g p.0 q.0 p.1 q.1 w.0 a b (c ∙ ap (λ y. Some (w.0, y)) (ap (λ p. p.1) (just e))) (sym (ap (λ p. p.0) (just e)))
 
 -- ## Arrays
 
 -- a value j for an array o with these limits: items are left where a walk stands, after n whose worst verdict is w
-pub record ItemsLeft (o : Datainfo) (j : Json) (limits : List ℕ) (inner : Option (Datainfo × List ℕ)) (d : ℕ) (v : List ℕ) (w : Fit.Verdict) (n : ℕ) (at : Next) (left : ℕ) : Type 0 where
+pub record ItemsLeft (o : Datainfo) (j : Json) (limits : List ℕ) (inner : Option (Datainfo × List ℕ)) (d : ℕ) (v : List ℕ) (w : Fit.Verdict) (n : ℕ) (at : Option ℕ) (left : ℕ) : Type 0 where
   pub lo : ℕ
   pub hi : ℕ
   pub y : List ℕ
   pub z : List ℕ
-  pub low : unsigned 2 limits ≡ some (lo, y)
-  pub high : unsigned 2 y ≡ some (hi, z)
+  pub low : unsigned 2 limits ≡ Some (lo, y)
+  pub high : unsigned 2 y ≡ Some (hi, z)
   pub one : Datainfo
   pub x : List ℕ
-  pub reads : inner ≡ some (one, x)
+  pub reads : inner ≡ Some (one, x)
   pub is : Items
   pub still : ItemsAt d v left is at
   pub fits : fit o j ≡ worse (in_range (is_between lo hi (n + item_count is))) (worse w (worst_item (λ v. fit one v) is))
 
-pub record ArrayAt (s : List ℕ) (at levels : ℕ) (v : List ℕ) (p depth inner : ℕ) (worst : Verdict) (n : ℕ) (item : Next) (left : ℕ) : Type 0 where
-  pub from : {o : Datainfo} {x : List ℕ} {j : Json} {y : List ℕ} → array_at (datainfo_in levels) (drop at s) ≡ some (o, x) → bare depth (drop p v) ≡ some (j, y)
+pub record ArrayAt (s : List ℕ) (at levels : ℕ) (v : List ℕ) (p depth inner : ℕ) (worst : Result Unit Misfit) (n : ℕ) (item : Option ℕ) (left : ℕ) : Type 0 where
+  pub from : {o : Datainfo} {x : List ℕ} {j : Json} {y : List ℕ} → array_at (datainfo_in levels) (drop at s) ≡ Some (o, x) → bare depth (drop p v) ≡ Some (j, y)
       → ItemsLeft o j (drop at s) (datainfo_in levels (drop inner s)) (depth - 1) v (meaning worst) n item left
 
 module _ (s : List ℕ) (at levels : ℕ) (v : List ℕ) (p depth : ℕ) where
-  array_wrong : ((0 < depth) × (head (drop p v) ≡ 91) → ⊥) → Judges (array_at (datainfo_in levels) (drop at s)) (bare depth (drop p v)) WrongType
+  array_wrong : ((0 < depth) × (head (drop p v) ≡ 91) → ⊥) → Judges (array_at (datainfo_in levels) (drop at s)) (bare depth (drop p v)) (Err WrongType)
   unfolding fit expect
   array_wrong h = record { is = λ e f. array_some (datainfo_in levels) (drop at s) e λ lo hi y z d a b c o. rw (o, tells_no (as_array_lem (shape depth (drop p v) f)) h) }
 
-  pub array_shallow : depth ≡ 0 → Judges (array_at (datainfo_in levels) (drop at s)) (bare depth (drop p v)) WrongType
+  pub array_shallow : depth ≡ 0 → Judges (array_at (datainfo_in levels) (drop at s)) (bare depth (drop p v)) (Err WrongType)
   array_shallow e = array_wrong λ h. omega arith
 
   module _ (b : ℕ) (x : ByteAt v p b) where
-    pub array_other : (b ≡ 91 → ⊥) → Judges (array_at (datainfo_in levels) (drop at s)) (bare depth (drop p v)) WrongType
+    pub array_other : (b ≡ 91 → ⊥) → Judges (array_at (datainfo_in levels) (drop at s)) (bare depth (drop p v)) (Err WrongType)
     array_other h = array_wrong λ g. h (x.is ∙ g.1)
 
-    module _ (q : Next) (k : Ends s q (rest (part 4 (drop at s)))) where
-      pub array_short : q ≡ Bad → (r : Verdict) → Judges (array_at (datainfo_in levels) (drop at s)) (bare depth (drop p v)) r
+    module _ (q : Option ℕ) (k : Ends s q (rest (part 4 (drop at s)))) where
+      pub array_short : q ≡ None → (r : Result Unit Misfit) → Judges (array_at (datainfo_in levels) (drop at s)) (bare depth (drop p v)) r
       array_short z r = record { is = λ e f. array_some (datainfo_in levels) (drop at s) e λ lo hi y' z' d a b c o. absurd (nothing (sym (rw z at k) ∙ limits_part (drop at s) a b)) }
 
-      pub array_first : (depth ≡ 0 → ⊥) → b ≡ 91 → (i : ℕ) → q ≡ At i → (item : Next) → Ends v item (first 93 (drop (p + 1) v)) → ArrayAt s at levels v p depth i Fits 0 item (length v - p)
+      pub array_first : (depth ≡ 0 → ⊥) → b ≡ 91 → (i : ℕ) → q ≡ Some i → (item : Option ℕ) → Ends v item (first 93 (drop (p + 1) v)) → ArrayAt s at levels v p depth i (Ok tt) 0 item (length v - p)
       unfolding fit expect
       array_first h g i z m f = record {
         from = λ e c. array_some (datainfo_in levels) (drop at s) e λ lo hi y' z' d l1 l2 r o.
@@ -135,17 +131,17 @@ array_end_lem : (a b n : ℕ) (w : Fit.Verdict) (d : Datainfo) (is : Items) → 
 unfolding item_count worst_item
 array_end_lem a b n w d is e = rw (e, add-zero, fits_worse)
 
-module _ (s : List ℕ) (at levels : ℕ) (v : List ℕ) (p depth inner : ℕ) (worst : Verdict) (n : ℕ) (item : Next) (left : ℕ) (c : ArrayAt s at levels v p depth inner worst n item left) where
-  pub array_over : item ≡ Bad → (r t : Verdict) → Limits (drop at s) n r → meaning t ≡ worse (meaning r) (meaning worst) → Judges (array_at (datainfo_in levels) (drop at s)) (bare depth (drop p v)) t
+module _ (s : List ℕ) (at levels : ℕ) (v : List ℕ) (p depth inner : ℕ) (worst : Result Unit Misfit) (n : ℕ) (item : Option ℕ) (left : ℕ) (c : ArrayAt s at levels v p depth inner worst n item left) where
+  pub array_over : item ≡ None → (r t : Result Unit Misfit) → Limits (drop at s) n r → meaning t ≡ worse (meaning r) (meaning worst) → Judges (array_at (datainfo_in levels) (drop at s)) (bare depth (drop p v)) t
   array_over z r t l h = record {
     is = λ e f. let q = c.from e f in
         h ∙ rw (l.is q.low q.high) (sym (q.fits ∙ array_end_lem q.lo q.hi n (meaning worst) q.one q.is (items_none q.still z)));
   }
 
-  pub array_cut : left ≤ 0 → (r : Verdict) → Judges (array_at (datainfo_in levels) (drop at s)) (bare depth (drop p v)) r
+  pub array_cut : left ≤ 0 → (r : Result Unit Misfit) → Judges (array_at (datainfo_in levels) (drop at s)) (bare depth (drop p v)) r
   array_cut z r = record { is = λ e f. let h = items_turns (c.from e f).still in absurd (omega arith) }
 
-  pub array_more : (i f : ℕ) (r w : Verdict) (next : Next) → item ≡ At i → Left v f (skip (drop i v)) → Judges (datainfo_in levels (drop inner s)) (bare (depth - 1) (drop f v)) r
+  pub array_more : (i f : ℕ) (r w : Result Unit Misfit) (next : Option ℕ) → item ≡ Some i → Left v f (skip (drop i v)) → Judges (datainfo_in levels (drop inner s)) (bare (depth - 1) (drop f v)) r
       → meaning w ≡ worse (meaning worst) (meaning r) → Ends v next (after_item (depth - 1) (drop i v)) → ArrayAt s at levels v p depth inner w (n + 1) next (left - 1)
   array_more i f r w next z l g h k = record {
     from = λ e a.
@@ -169,54 +165,54 @@ module _ (s : List ℕ) (at levels : ℕ) (v : List ℕ) (p depth inner : ℕ) (
 
 -- ## Tuples
 
-pub elements_some : {S : Type 0} (f : List ℕ → Option (Datainfo × List ℕ)) (n : ℕ) (xs : List ℕ) {ds : Elements} {x : List ℕ} → 0 < n → elements f n xs ≡ some (ds, x)
-    → ((d : Datainfo) (r : List ℕ) (es : Elements) → f xs ≡ some (d, r) → elements f (n - 1) r ≡ some (es, x) → ds ≡ element d es → S) → S
+pub elements_some : {S : Type 0} (f : List ℕ → Option (Datainfo × List ℕ)) (n : ℕ) (xs : List ℕ) {ds : Elements} {x : List ℕ} → 0 < n → elements f n xs ≡ Some (ds, x)
+    → ((d : Datainfo) (r : List ℕ) (es : Elements) → f xs ≡ Some (d, r) → elements f (n - 1) r ≡ Some (es, x) → ds ≡ element d es → S) → S
 unfolding elements
 elements_some f zero xs h e g = absurd (omega arith)
 elements_some f (suc n) xs h e g = steps (f xs) _ e λ p a e. steps (elements f n p.1) _ e λ q b e.
-    g p.0 p.1 q.0 a (rw (sub-one (suc n)) (b ∙ ap (λ y. some (q.0, y)) (ap (λ p. p.1) (just e)))) (sym (ap (λ p. p.0) (just e)))
+    g p.0 p.1 q.0 a (rw (sub-one (suc n)) (b ∙ ap (λ y. Some (q.0, y)) (ap (λ p. p.1) (just e)))) (sym (ap (λ p. p.0) (just e)))
 
-pub elements_none : (f : List ℕ → Option (Datainfo × List ℕ)) (n : ℕ) (xs : List ℕ) {ds : Elements} {x : List ℕ} → n ≡ 0 → elements f n xs ≡ some (ds, x) → ds ≡ no_elements
+pub elements_none : (f : List ℕ → Option (Datainfo × List ℕ)) (n : ℕ) (xs : List ℕ) {ds : Elements} {x : List ℕ} → n ≡ 0 → elements f n xs ≡ Some (ds, x) → ds ≡ no_elements
 unfolding elements
 elements_none f n xs z e = sym (ap (λ p. p.0) (just (rw z at e)))
 
-pub tuple_some : {S : Type 0} (f : List ℕ → Option (Datainfo × List ℕ)) (xs : List ℕ) {o : Datainfo} {x : List ℕ} → tuple_at f xs ≡ some (o, x)
-    → ((n : ℕ) (r : List ℕ) (ds : Elements) → unsigned 1 xs ≡ some (n, r) → elements f n r ≡ some (ds, x) → o ≡ tuple ds → S) → S
+pub tuple_some : {S : Type 0} (f : List ℕ → Option (Datainfo × List ℕ)) (xs : List ℕ) {o : Datainfo} {x : List ℕ} → tuple_at f xs ≡ Some (o, x)
+    → ((n : ℕ) (r : List ℕ) (ds : Elements) → unsigned 1 xs ≡ Some (n, r) → elements f n r ≡ Some (ds, x) → o ≡ tuple ds → S) → S
 unfolding tuple_at
 tuple_some f xs e g = steps (unsigned 1 xs) _ e λ p a e. steps (elements f p.0 p.1) _ e λ q b e.
-    g p.0 p.1 q.0 a (b ∙ ap (λ y. some (q.0, y)) (ap (λ p. p.1) (just e))) (sym (ap (λ p. p.0) (just e)))
+    g p.0 p.1 q.0 a (b ∙ ap (λ y. Some (q.0, y)) (ap (λ p. p.1) (just e))) (sym (ap (λ p. p.0) (just e)))
 
 -- a value j for a tuple o: elements are left from a position on, and items where a walk stands, after those whose worst verdict is w
-pub record ElementsLeft (o : Datainfo) (j : Json) (levels : ℕ) (s : List ℕ) (d : ℕ) (v : List ℕ) (w : Fit.Verdict) (at left : ℕ) (item : Next) : Type 0 where
+pub record ElementsLeft (o : Datainfo) (j : Json) (levels : ℕ) (s : List ℕ) (d : ℕ) (v : List ℕ) (w : Fit.Verdict) (at left : ℕ) (item : Option ℕ) : Type 0 where
   pub ds : Elements
   pub x : List ℕ
-  pub reads : elements (datainfo_in levels) left (drop at s) ≡ some (ds, x)
+  pub reads : elements (datainfo_in levels) left (drop at s) ≡ Some (ds, x)
   pub n : ℕ
   pub is : Items
   pub still : ItemsAt d v n is item
   pub fits : fit o j ≡ worse w (elements_fit ds is)
 
-pub record TupleAt (s : List ℕ) (at levels : ℕ) (v : List ℕ) (p depth : ℕ) (worst : Verdict) (element left : ℕ) (item : Next) : Type 0 where
-  pub from : {o : Datainfo} {x : List ℕ} {j : Json} {y : List ℕ} → tuple_at (datainfo_in levels) (drop at s) ≡ some (o, x) → bare depth (drop p v) ≡ some (j, y)
+pub record TupleAt (s : List ℕ) (at levels : ℕ) (v : List ℕ) (p depth : ℕ) (worst : Result Unit Misfit) (element left : ℕ) (item : Option ℕ) : Type 0 where
+  pub from : {o : Datainfo} {x : List ℕ} {j : Json} {y : List ℕ} → tuple_at (datainfo_in levels) (drop at s) ≡ Some (o, x) → bare depth (drop p v) ≡ Some (j, y)
       → ElementsLeft o j levels s (depth - 1) v (meaning worst) element left item
 
 module _ (s : List ℕ) (at levels : ℕ) (v : List ℕ) (p depth : ℕ) where
-  tuple_wrong : ((0 < depth) × (head (drop p v) ≡ 91) → ⊥) → Judges (tuple_at (datainfo_in levels) (drop at s)) (bare depth (drop p v)) WrongType
+  tuple_wrong : ((0 < depth) × (head (drop p v) ≡ 91) → ⊥) → Judges (tuple_at (datainfo_in levels) (drop at s)) (bare depth (drop p v)) (Err WrongType)
   unfolding fit expect
   tuple_wrong h = record { is = λ e f. tuple_some (datainfo_in levels) (drop at s) e λ n r ds a b o. rw (o, tells_no (as_array_lem (shape depth (drop p v) f)) h) }
 
-  pub tuple_shallow : depth ≡ 0 → Judges (tuple_at (datainfo_in levels) (drop at s)) (bare depth (drop p v)) WrongType
+  pub tuple_shallow : depth ≡ 0 → Judges (tuple_at (datainfo_in levels) (drop at s)) (bare depth (drop p v)) (Err WrongType)
   tuple_shallow e = tuple_wrong λ h. omega arith
 
   module _ (b : ℕ) (x : ByteAt v p b) where
-    pub tuple_other : (b ≡ 91 → ⊥) → Judges (tuple_at (datainfo_in levels) (drop at s)) (bare depth (drop p v)) WrongType
+    pub tuple_other : (b ≡ 91 → ⊥) → Judges (tuple_at (datainfo_in levels) (drop at s)) (bare depth (drop p v)) (Err WrongType)
     tuple_other h = tuple_wrong λ g. h (x.is ∙ g.1)
 
-    module _ (u : Unsigned) (k : ReadsUnsigned s u (unsigned 1 (drop at s))) where
-      pub tuple_short : u ≡ U.TheVariants.Short → (r : Verdict) → Judges (tuple_at (datainfo_in levels) (drop at s)) (bare depth (drop p v)) r
+    module _ (u : Option (ℕ × ℕ)) (k : ReadsValue s u (unsigned 1 (drop at s))) where
+      pub tuple_short : u ≡ None → (r : Result Unit Misfit) → Judges (tuple_at (datainfo_in levels) (drop at s)) (bare depth (drop p v)) r
       tuple_short z r = record { is = λ e f. tuple_some (datainfo_in levels) (drop at s) e λ n y ds a b o. absurd (nothing (sym (rw z at k) ∙ a)) }
 
-      pub tuple_first : (depth ≡ 0 → ⊥) → b ≡ 91 → (n i : ℕ) → u ≡ U.TheVariants.Read n i → (item : Next) → Ends v item (first 93 (drop (p + 1) v)) → TupleAt s at levels v p depth Fits i n item
+      pub tuple_first : (depth ≡ 0 → ⊥) → b ≡ 91 → (n i : ℕ) → u ≡ Some (n, i) → (item : Option ℕ) → Ends v item (first 93 (drop (p + 1) v)) → TupleAt s at levels v p depth (Ok tt) i n item
       unfolding fit expect
       tuple_first h g n i z m f = record {
         from = λ e c. tuple_some (datainfo_in levels) (drop at s) e λ n' r ds a b o.
@@ -249,33 +245,33 @@ tuple_end : (w : Fit.Verdict) (ds : Elements) (is : Items) → ds ≡ no_element
 unfolding elements_fit
 tuple_end w ds is a e = rw (a, e) (fits_worse w)
 
-module _ (s : List ℕ) (at levels : ℕ) (v : List ℕ) (p depth : ℕ) (worst : Verdict) (element left : ℕ) (item : Next) (c : TupleAt s at levels v p depth worst element left item) where
-  pub tuple_few : 0 < left → item ≡ Bad → (t : Verdict) → meaning t ≡ worse (meaning worst) wrongType → Judges (tuple_at (datainfo_in levels) (drop at s)) (bare depth (drop p v)) t
+module _ (s : List ℕ) (at levels : ℕ) (v : List ℕ) (p depth : ℕ) (worst : Result Unit Misfit) (element left : ℕ) (item : Option ℕ) (c : TupleAt s at levels v p depth worst element left item) where
+  pub tuple_few : 0 < left → item ≡ None → (t : Result Unit Misfit) → meaning t ≡ worse (meaning worst) wrongType → Judges (tuple_at (datainfo_in levels) (drop at s)) (bare depth (drop p v)) t
   tuple_few h z t g = record {
     is = λ e f. let q = c.from e f in elements_some (datainfo_in levels) left (drop element s) h q.reads λ d r es a b w.
         g ∙ rw (← (tuple_less q.ds es d q.is w (items_none q.still z))) (sym q.fits);
   }
 
-  pub tuple_over : left ≤ 0 → item ≡ Bad → Judges (tuple_at (datainfo_in levels) (drop at s)) (bare depth (drop p v)) worst
+  pub tuple_over : left ≤ 0 → item ≡ None → Judges (tuple_at (datainfo_in levels) (drop at s)) (bare depth (drop p v)) worst
   tuple_over h z = record {
     is = λ e f. let q = c.from e f in
         sym (q.fits ∙ tuple_end (meaning worst) q.ds q.is (elements_none (datainfo_in levels) left (drop element s) (omega arith) q.reads) (items_none q.still z));
   }
 
-  pub tuple_many : left ≤ 0 → (i : ℕ) → item ≡ At i → (t : Verdict) → meaning t ≡ worse (meaning worst) wrongType → Judges (tuple_at (datainfo_in levels) (drop at s)) (bare depth (drop p v)) t
+  pub tuple_many : left ≤ 0 → (i : ℕ) → item ≡ Some i → (t : Result Unit Misfit) → meaning t ≡ worse (meaning worst) wrongType → Judges (tuple_at (datainfo_in levels) (drop at s)) (bare depth (drop p v)) t
   tuple_many h i z t g = record {
     is = λ e f. let q = c.from e f in items_some q.still z λ j js w.
         g ∙ rw (← (tuple_extra q.ds q.is js j (elements_none (datainfo_in levels) left (drop element s) (omega arith) q.reads) w)) (sym q.fits);
   }
 
-  module _ (h : 0 < left) (e : Next) (k : Ends s e (rest (datainfo_in levels (drop element s)))) where
-    pub tuple_bad : e ≡ Bad → (r : Verdict) → Judges (tuple_at (datainfo_in levels) (drop at s)) (bare depth (drop p v)) r
+  module _ (h : 0 < left) (e : Option ℕ) (k : Ends s e (rest (datainfo_in levels (drop element s)))) where
+    pub tuple_bad : e ≡ None → (r : Result Unit Misfit) → Judges (tuple_at (datainfo_in levels) (drop at s)) (bare depth (drop p v)) r
     tuple_bad z r = record {
       is = λ e f. let q = c.from e f in elements_some (datainfo_in levels) left (drop element s) h q.reads λ d y es a b w.
           absurd (nothing (sym (rw z at k) ∙ ap rest a));
     }
 
-    pub tuple_more : (i f n : ℕ) (r w : Verdict) (next : Next) → item ≡ At i → e ≡ At n → Left v f (skip (drop i v)) → Judges (datainfo_in levels (drop element s)) (bare (depth - 1) (drop f v)) r
+    pub tuple_more : (i f n : ℕ) (r w : Result Unit Misfit) (next : Option ℕ) → item ≡ Some i → e ≡ Some n → Left v f (skip (drop i v)) → Judges (datainfo_in levels (drop element s)) (bare (depth - 1) (drop f v)) r
         → meaning w ≡ worse (meaning worst) (meaning r) → Ends v next (after_item (depth - 1) (drop i v)) → TupleAt s at levels v p depth w n (left - 1) next
     tuple_more i f n r w next z o l g m t = record {
       from = λ a b.

@@ -1,21 +1,17 @@
 -- Laws of structs: what holds while the code walks over the fields. Assumes nothing.
+use Rattle.std.specs.Prelude.{Option, Some, None, Result, Ok, Err}
 use Prim.Native.Nat.{ℕ, ◌+◌, ◌-◌, ◌≤◌, ◌<◌}
 use native.Mathlib.Omega.{arith}
 use mathlib.Core.Path.{◌≡◌, sym, ap, ◌∙◌}
 use mathlib.Core.Bool.{Bool, true, false}
 use mathlib.Core.List.{List, []}
-use mathlib.Core.Option.{some}
 use lib.ListN.{drop}
 use lib.Dec.{eqb}
 use borrow.Author.Tests.{eqb-true}
-use Rattle.ascii.specs.declared.Next.{Next}
-use Rattle.ascii.specs.declared.Next.TheVariants.{At, Bad}
-use Rattle.ascii.specs.declared.Unsigned as U
-use Rattle.ascii.specs.declared.Unsigned.{Unsigned}
 use Rattle.ascii.specs.Bytes.{head, all, count, same}
 use Rattle.ascii.specs.Numbers.{unsigned}
 use Rattle.ascii.specs.Clauses.Reader.{ByteAt, Ends, rest}
-use Rattle.ascii.specs.Clauses.Read.{ReadsUnsigned}
+use Rattle.ascii.specs.Clauses.Read.{ReadsValue}
 use Rattle.ascii.proofs.Bytes.{tail_drop}
 use Rattle.ascii.proofs.Lists.{both}
 use Rattle.json_text.specs.Json.{object, Members, bare, value, object_end}
@@ -28,36 +24,36 @@ use Rattle.fit.specs.Fit.{expect, worse, keys, each_once, value_at, fit, fields_
 use Rattle.fit.specs.Fit as Fit
 use Rattle.fit.specs.Clauses.Verdict.{meaning, Judges, JudgesStruct, JudgesFields}
 use Rattle.fit.specs.Clauses.Walk.{OfBoth, Finds}
-use Rattle.fit.specs.declared.Verdict.{Verdict}
-use Rattle.fit.specs.declared.Verdict.TheVariants.{Fits, WrongType}
 use Rattle.fit.proofs.Judged.{worse_fits, fits_worse, worse_worse}
 use Rattle.fit.proofs.Shapes.{nothing, just, steps, shape, tells_yes, tells_no, as_object_lem, group_object}
 use Rattle.fit.proofs.Objects.{OnceIn, struct_short, struct_first}
+use Rattle.fit.specs.declared.Misfit.{Misfit}
+use Rattle.fit.specs.declared.Misfit.TheVariants.{WrongType}
 
 -- ## The value of a struct
 
 module _ (s : List ℕ) (at levels k : ℕ) (v : List ℕ) (p depth : ℕ) where
-  struct_wrong : ((0 < depth) × (head (drop p v) ≡ 123) → ⊥) → JudgesStruct (members_at (datainfo_in levels) k (drop at s)) (bare depth (drop p v)) WrongType
+  struct_wrong : ((0 < depth) × (head (drop p v) ≡ 123) → ⊥) → JudgesStruct (members_at (datainfo_in levels) k (drop at s)) (bare depth (drop p v)) (Err WrongType)
   unfolding fit expect
   struct_wrong h = record { is = λ e f. rw (tells_no (as_object_lem (shape depth (drop p v) f)) h) }
 
-  pub struct_shallow : depth ≡ 0 → JudgesStruct (members_at (datainfo_in levels) k (drop at s)) (bare depth (drop p v)) WrongType
+  pub struct_shallow : depth ≡ 0 → JudgesStruct (members_at (datainfo_in levels) k (drop at s)) (bare depth (drop p v)) (Err WrongType)
   struct_shallow e = struct_wrong λ h. omega arith
 
   module _ (b : ℕ) (x : ByteAt v p b) where
-    pub struct_other : (b ≡ 123 → ⊥) → JudgesStruct (members_at (datainfo_in levels) k (drop at s)) (bare depth (drop p v)) WrongType
+    pub struct_other : (b ≡ 123 → ⊥) → JudgesStruct (members_at (datainfo_in levels) k (drop at s)) (bare depth (drop p v)) (Err WrongType)
     struct_other h = struct_wrong λ g. h (x.is ∙ g.1)
 
     module _ (h : depth ≡ 0 → ⊥) (g : b ≡ 123) (t : Bool)
         (o : OfBoth (members_at (datainfo_in levels) k (drop at s)) (object_end (value (depth - 1)) (drop (p + 1) v)) (λ fs ms. each_once (field_names fs) (keys ms)) t) where
-      pub struct_uneven : t ≡ false → JudgesStruct (members_at (datainfo_in levels) k (drop at s)) (bare depth (drop p v)) WrongType
+      pub struct_uneven : t ≡ false → JudgesStruct (members_at (datainfo_in levels) k (drop at s)) (bare depth (drop p v)) (Err WrongType)
       unfolding fit expect
       struct_uneven z = record {
         is = λ e f. tells_yes (as_object_lem (shape depth (drop p v) f)) (omega arith, sym x.is ∙ g) λ ms i m.
             group_object (depth - 1) (drop (p + 1) v) (rw tail_drop at m) λ y q. rw (i, ← (o.is e q), z);
       }
 
-      pub struct_even : t ≡ true → (r : Verdict) → JudgesFields (members_at (datainfo_in levels) k (drop at s)) (object_end (value (depth - 1)) (drop (p + 1) v)) r
+      pub struct_even : t ≡ true → (r : Result Unit Misfit) → JudgesFields (members_at (datainfo_in levels) k (drop at s)) (object_end (value (depth - 1)) (drop (p + 1) v)) r
           → JudgesStruct (members_at (datainfo_in levels) k (drop at s)) (bare depth (drop p v)) r
       unfolding fit expect each_once
       struct_even z r j = record {
@@ -72,20 +68,20 @@ module _ (s : List ℕ) (at levels k : ℕ) (v : List ℕ) (p depth : ℕ) where
 pub record ValuesLeft (s : List ℕ) (levels k : ℕ) (fs : Fields) (ms : Members) (w : Fit.Verdict) (field left : ℕ) : Type 0 where
   pub gs : Parts
   pub x : List ℕ
-  pub reads : fields (datainfo_in levels) k left (drop field s) ≡ some (gs, x)
+  pub reads : fields (datainfo_in levels) k left (drop field s) ≡ Some (gs, x)
   pub once : all (λ n. eqb (count (same n) (keys ms)) 1) (field_names gs.1) ≡ true
   pub is : fields_fit fs ms ≡ worse w (fields_fit gs.1 ms)
 
-pub record ValuesAt (s : List ℕ) (at levels k : ℕ) (v : List ℕ) (p depth : ℕ) (worst : Verdict) (field left : ℕ) : Type 0 where
-  pub from : {m : Parts} {x : List ℕ} {ms : Members} {y : List ℕ} → members_at (datainfo_in levels) k (drop at s) ≡ some (m, x)
-      → object_end (value depth) (drop p v) ≡ some (object ms, y) → all (λ n. eqb (count (same n) (keys ms)) 1) (field_names m.1) ≡ true
+pub record ValuesAt (s : List ℕ) (at levels k : ℕ) (v : List ℕ) (p depth : ℕ) (worst : Result Unit Misfit) (field left : ℕ) : Type 0 where
+  pub from : {m : Parts} {x : List ℕ} {ms : Members} {y : List ℕ} → members_at (datainfo_in levels) k (drop at s) ≡ Some (m, x)
+      → object_end (value depth) (drop p v) ≡ Some (object ms, y) → all (λ n. eqb (count (same n) (keys ms)) 1) (field_names m.1) ≡ true
       → ValuesLeft s levels k m.1 ms (meaning worst) field left
 
-module _ (s : List ℕ) (at levels k : ℕ) (v : List ℕ) (p depth : ℕ) (u : Unsigned) (i : ReadsUnsigned s u (unsigned 1 (drop at s))) where
-  pub values_short : u ≡ U.TheVariants.Short → (r : Verdict) → JudgesFields (members_at (datainfo_in levels) k (drop at s)) (object_end (value depth) (drop p v)) r
+module _ (s : List ℕ) (at levels k : ℕ) (v : List ℕ) (p depth : ℕ) (u : Option (ℕ × ℕ)) (i : ReadsValue s u (unsigned 1 (drop at s))) where
+  pub values_short : u ≡ None → (r : Result Unit Misfit) → JudgesFields (members_at (datainfo_in levels) k (drop at s)) (object_end (value depth) (drop p v)) r
   values_short z r = record { is = λ e f g. struct_short s at levels k u i z e }
 
-  pub values_first : (n j : ℕ) → u ≡ U.TheVariants.Read n j → ValuesAt s at levels k v p depth Fits j n
+  pub values_first : (n j : ℕ) → u ≡ Some (n, j) → ValuesAt s at levels k v p depth (Ok tt) j n
   values_first n j z = record { from = λ e f g. record { gs = _; x = _; reads = struct_first s at levels k u i n j z e; once = g; is = rw worse_fits } }
 
 -- one member more, by a verdict r on its value
@@ -103,13 +99,13 @@ once_here : (ms : Members) (m gs : Parts) (a : Bool × List ℕ) (d : Datainfo) 
 unfolding all field_names joined
 once_here ms m gs a d e h = let z = both (eqb (count (same a.1) (keys ms)) 1) (OnceIn ms gs.1) (rw e at h) in (eqb-true _ 1 z.0, z.1)
 
-module _ (s : List ℕ) (at levels k : ℕ) (v : List ℕ) (p depth : ℕ) (worst : Verdict) (field left : ℕ) (c : ValuesAt s at levels k v p depth worst field left) where
+module _ (s : List ℕ) (at levels k : ℕ) (v : List ℕ) (p depth : ℕ) (worst : Result Unit Misfit) (field left : ℕ) (c : ValuesAt s at levels k v p depth worst field left) where
   pub values_over : left ≤ 0 → JudgesFields (members_at (datainfo_in levels) k (drop at s)) (object_end (value depth) (drop p v)) worst
   values_over h = record {
     is = λ e f g. let q = c.from e f g in sym (q.is ∙ values_end (meaning worst) q.gs _ (fields_none (datainfo_in levels) k left (drop field s) h q.reads));
   }
 
-  pub values_lost : 0 < left → (t : List ℕ) → t ≡ name_in k (drop field s) → (l : Next) → Finds depth v p t l → l ≡ Bad → (r : Verdict)
+  pub values_lost : 0 < left → (t : List ℕ) → t ≡ name_in k (drop field s) → (l : Option ℕ) → Finds depth v p t l → l ≡ None → (r : Result Unit Misfit)
       → JudgesFields (members_at (datainfo_in levels) k (drop at s)) (object_end (value depth) (drop p v)) r
   values_lost h t j l u z r = record {
     is = λ e f g. let q = c.from e f g in fields_some (datainfo_in levels) k left (drop field s) h q.reads λ a y d y' hs i b o w.
@@ -117,22 +113,22 @@ module _ (s : List ℕ) (at levels k : ℕ) (v : List ℕ) (p depth : ℕ) (wors
         let x' = rw (z, name_read k (drop field s) t j i) at (u.is f) in absurd (omega arith);
   }
 
-  module _ (h : 0 < left) (m : Next) (n : Ends s m (rest (entry k (drop field s)))) where
-    pub values_nameless : m ≡ Bad → (r : Verdict) → JudgesFields (members_at (datainfo_in levels) k (drop at s)) (object_end (value depth) (drop p v)) r
+  module _ (h : 0 < left) (m : Option ℕ) (n : Ends s m (rest (entry k (drop field s)))) where
+    pub values_nameless : m ≡ None → (r : Result Unit Misfit) → JudgesFields (members_at (datainfo_in levels) k (drop at s)) (object_end (value depth) (drop p v)) r
     values_nameless z r = record {
       is = λ e f g. let q = c.from e f g in fields_some (datainfo_in levels) k left (drop field s) h q.reads λ a y d y' hs i b o w.
           absurd (nothing (sym (rw z at n) ∙ ap rest i));
     }
 
-    module _ (t : List ℕ) (j : t ≡ name_in k (drop field s)) (l : Next) (u : Finds depth v p t l) where
-      module _ (i : ℕ) (z : m ≡ At i) (o : Next) (x : Ends s o (rest (datainfo_in levels (drop i s)))) where
-        pub values_bad : o ≡ Bad → (r : Verdict) → JudgesFields (members_at (datainfo_in levels) k (drop at s)) (object_end (value depth) (drop p v)) r
+    module _ (t : List ℕ) (j : t ≡ name_in k (drop field s)) (l : Option ℕ) (u : Finds depth v p t l) where
+      module _ (i : ℕ) (z : m ≡ Some i) (o : Option ℕ) (x : Ends s o (rest (datainfo_in levels (drop i s)))) where
+        pub values_bad : o ≡ None → (r : Result Unit Misfit) → JudgesFields (members_at (datainfo_in levels) k (drop at s)) (object_end (value depth) (drop p v)) r
         values_bad y r = record {
           is = λ e f g. let q = c.from e f g in fields_some (datainfo_in levels) k left (drop field s) h q.reads λ a y' d y'' hs i' b o' w.
               absurd (nothing (sym (rw y at x) ∙ ap rest (rw (just (sym (ap rest i') ∙ (rw z at n).0)) at b)));
         }
 
-        pub values_more : (g e : ℕ) (r w : Verdict) → l ≡ At g → o ≡ At e → Judges (datainfo_in levels (drop i s)) (bare depth (drop g v)) r → meaning w ≡ worse (meaning worst) (meaning r)
+        pub values_more : (g e : ℕ) (r w : Result Unit Misfit) → l ≡ Some g → o ≡ Some e → Judges (datainfo_in levels (drop i s)) (bare depth (drop g v)) r → meaning w ≡ worse (meaning worst) (meaning r)
             → ValuesAt s at levels k v p depth w e (left - 1)
         values_more g e' r w y y' q' g' = record {
           from = λ e f once.
@@ -144,6 +140,6 @@ module _ (s : List ℕ) (at levels k : ℕ) (v : List ℕ) (p depth : ℕ) (wors
                 x = q.x;
                 reads = rw (just (sym (ap rest here) ∙ (rw y' at x).0)) at r'';
                 once = (once_here _ q.gs hs a d w' q.once).1;
-                is = q.is ∙ values_step (meaning worst) (meaning r) (meaning w) q.gs hs a d _ w' (q'.is here (t'' ∙ ap (λ j. some (j, t'.1)) (just w''))) g';
+                is = q.is ∙ values_step (meaning worst) (meaning r) (meaning w) q.gs hs a d _ w' (q'.is here (t'' ∙ ap (λ j. Some (j, t'.1)) (just w''))) g';
               };
         }

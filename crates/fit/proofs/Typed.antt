@@ -1,17 +1,15 @@
 -- Laws of a datainfo by its type byte, one for each way through the function that judges a value by it. Assumes nothing.
+use Rattle.std.specs.Prelude.{Option, Some, None, Result}
 use Prim.Native.Nat.{ℕ, zero, suc, ◌-◌}
 use native.Mathlib.Numerals.{sub-one}
 use mathlib.Core.Path.{◌≡◌, refl}
 use mathlib.Core.Bool.{Bool, true, false}
 use mathlib.Core.List.{List}
-use mathlib.Core.Option.{Option, none}
 use lib.ListN.{drop}
 use lib.Dec.{eqb}
 use borrow.Author.Tests.{eqb-true, ne_eqb}
-use Rattle.ascii.specs.declared.Unsigned as U
-use Rattle.ascii.specs.declared.Unsigned.{Unsigned}
 use Rattle.ascii.specs.Numbers.{unsigned}
-use Rattle.ascii.specs.Clauses.Read.{ReadsUnsigned}
+use Rattle.ascii.specs.Clauses.Read.{ReadsValue}
 use Rattle.json_text.specs.Json.{Json}
 use Rattle.datainfo.specs.Datainfo.{Datainfo}
 use Rattle.datainfo.specs.Layout.{array_at, tuple_at, typed, datainfo_in}
@@ -19,8 +17,8 @@ use Rattle.datainfo.specs.Clauses.Members.{members_at}
 use Rattle.datainfo.proofs.Structs.{struct_members, partial_members}
 use Rattle.fit.specs.Fit.{fit}
 use Rattle.fit.specs.Clauses.Verdict.{Judges, JudgesStruct, numeric, plain}
-use Rattle.fit.specs.declared.Verdict.{Verdict}
 use Rattle.fit.proofs.Judged.{judges_none, judges_like}
+use Rattle.fit.specs.declared.Misfit.{Misfit}
 
 -- a type that holds no datainfos
 module _ (f : List ℕ → Option (Datainfo × List ℕ)) (k : ℕ) (xs : List ℕ) (n6 : k ≡ 6 → ⊥) (n7 : k ≡ 7 → ⊥) (n8 : k ≡ 8 → ⊥) (n11 : k ≡ 11 → ⊥) where
@@ -56,21 +54,21 @@ module _ (f : List ℕ → Option (Datainfo × List ℕ)) (k : ℕ) (xs : List �
       one true h = rw (eqb-true k 1 h)
       one false h = two (eqb k 2) refl h
 
-module _ (s : List ℕ) (at levels : ℕ) (q : Option (Json × List ℕ)) (r : Verdict) where
+module _ (s : List ℕ) (at levels : ℕ) (q : Option (Json × List ℕ)) (r : Result Unit Misfit) where
   pub fit_fifth : levels ≡ 0 → Judges (datainfo_in levels (drop at s)) q r
   unfolding datainfo_in
   fit_fifth e = judges_none (rw e)
 
-  module _ (n : levels ≡ 0 → ⊥) (u : Unsigned) (k : ReadsUnsigned s u (unsigned 1 (drop at s))) where
-    pub fit_short : u ≡ U.TheVariants.Short → Judges (datainfo_in levels (drop at s)) q r
+  module _ (n : levels ≡ 0 → ⊥) (u : Option (ℕ × ℕ)) (k : ReadsValue s u (unsigned 1 (drop at s))) where
+    pub fit_short : u ≡ None → Judges (datainfo_in levels (drop at s)) q r
     unfolding datainfo_in
     fit_short e = judges_none (go levels n)
       where
-        go : (l : ℕ) → (l ≡ 0 → ⊥) → datainfo_in l (drop at s) ≡ none
+        go : (l : ℕ) → (l ≡ 0 → ⊥) → datainfo_in l (drop at s) ≡ None
         go zero z = absurd (z refl)
         go (suc l) z = simp (rw e at k)
 
-    module _ (b i : ℕ) (e : u ≡ U.TheVariants.Read b i) where
+    module _ (b i : ℕ) (e : u ≡ Some (b, i)) where
       is_typed : datainfo_in levels (drop at s) ≡ typed (datainfo_in (levels - 1)) b (drop i s)
       unfolding datainfo_in
       is_typed = go levels n

@@ -1,8 +1,7 @@
 // Which values fit a datainfo: the table's bytes and the value's text are walked over together. `at` is a position in the table: of a
 // datainfo, or past its type byte where the function is of one type; `p` is the position of the value. Nothing is promised of bytes that
 // can't be read, as a datainfo or as a value.
-ghost use Rattle.std.specs.Prelude.{◌≡◌, ℕ, ◌≤◌, [], true, length, drop};
-ghost use Rattle.std.proofs.Math.Option.{some};
+ghost use Rattle.std.specs.Prelude.{◌≡◌, ℕ, ◌≤◌, [], true, length, drop, Some};
 ghost use Rattle.decimal.specs.Token.{is_whole};
 ghost use Rattle.json_text.specs.Json as Json;
 ghost use Rattle.json_text.specs.Json.{bare, value, object_end};
@@ -14,167 +13,153 @@ ghost use Rattle.fit.specs.Fit as Fit;
 ghost use Rattle.fit.specs.Fit.{is_fit, in_range, whole_fit, between_integers};
 ghost use Rattle.fit.specs.Clauses.Verdict.{meaning, Judges, JudgesStruct, JudgesFields, Limits, numeric, plain};
 
-use super::Verdict;
+use super::Misfit;
 use super::member::number_of;
 use super::object::{each_once, find_key};
 use super::walk::{first, next, quoted};
 use ascii::numbers::{signed, unsigned};
-use ascii::{Next, Signed, Unsigned, byte};
-use base64_text::{Size, blob_size};
+use ascii::{byte};
+use base64_text::{blob_size};
 use datainfo::layout::{counted_end, datainfo_end, named_end, part_end};
-use datainfo::rules::{Limit, limit_at, named_at};
+use datainfo::rules::{limit_at, named_at};
 use decimal::compare::{is_between, is_whole, lies_between, value_of};
 use decimal::token::number_end;
 use json_text::characters::{all_low, count};
 use json_text::read::spaces_end;
 
-fn severity(a: Verdict) -> u8
-    ensures { result ≡ Fit.severity (meaning a) }
-{
-    match a {
-        Verdict::Fits => 0,
-        Verdict::RangeError => 1,
-        Verdict::WrongType => 2,
-        Verdict::BadJson => 3,
-    }
-}
-
 // A type fault anywhere wins over a range fault anywhere.
-fn worse(a: Verdict, b: Verdict) -> Verdict
+fn worse(a: Result<(), Misfit>, b: Result<(), Misfit>) -> Result<(), Misfit>
     ensures { meaning result ≡ Fit.worse (meaning a) (meaning b) }
 {
-    if severity(b) <= severity(a) {
-        return a;
-    }
-    b
+    a.max(b)
 }
 
-fn count_fit(lo: u64, hi: u64, n: usize) -> Verdict
+fn count_fit(lo: u64, hi: u64, n: usize) -> Result<(), Misfit>
     ensures { meaning result ≡ in_range (is_between lo hi n) }
 {
     let count = n as u64;
     if count < lo {
-        return Verdict::RangeError;
+        return Err(Misfit::RangeError);
     }
     if hi < count {
-        return Verdict::RangeError;
+        return Err(Misfit::RangeError);
     }
-    Verdict::Fits
+    Ok(())
 }
 
 // RangeError for a count n outside the two limits at a position.
-fn limits_fit(s: &[u8], at: usize, n: usize) -> Verdict
+fn limits_fit(s: &[u8], at: usize, n: usize) -> Result<(), Misfit>
     requires { at ≤ length s.now }
     ensures { Limits (drop at s.now) n result }
 {
-    let Unsigned::Read(lo, a) = unsigned(s, at, 2) else {
-        return Verdict::WrongType;
+    let Some((lo, a)) = unsigned(s, at, 2) else {
+        return Err(Misfit::WrongType);
     };
-    let Unsigned::Read(hi, _) = unsigned(s, a, 2) else {
-        return Verdict::WrongType;
+    let Some((hi, _)) = unsigned(s, a, 2) else {
+        return Err(Misfit::WrongType);
     };
     count_fit(lo, hi, n)
 }
 
 // RangeError unless a test passes.
-pub fn range_fit(passes: bool) -> Verdict
+pub fn range_fit(passes: bool) -> Result<(), Misfit>
     ensures { meaning result ≡ in_range passes }
 {
     if passes {
-        return Verdict::Fits;
+        return Ok(());
     }
-    Verdict::RangeError
+    Err(Misfit::RangeError)
 }
 
 // A number token, of which any is of the kind. `is_between` is the exact comparison, here and for int and scaled; an enum's is the one that it does.
-fn double_fit(s: &[u8], at: usize, t: &[u8]) -> Verdict
+fn double_fit(s: &[u8], at: usize, t: &[u8]) -> Result<(), Misfit>
     requires { at ≤ length s.now }
-    ensures { Judges (double_at (drop at s.now)) (some (Json.number t.now, [])) result }
+    ensures { Judges (double_at (drop at s.now)) (Some (Json.number t.now, [])) result }
 {
-    let Limit::Read(lo, lo_power, a) = limit_at(s, at) else {
-        return Verdict::WrongType;
+    let Some((lo, lo_power, a)) = limit_at(s, at) else {
+        return Err(Misfit::WrongType);
     };
-    let Limit::Read(hi, hi_power, _) = limit_at(s, a) else {
-        return Verdict::WrongType;
+    let Some((hi, hi_power, _)) = limit_at(s, a) else {
+        return Err(Misfit::WrongType);
     };
     range_fit(is_between(lo, lo_power, hi, hi_power, t))
 }
 
 // A number token, which has to have no dot and no 'e', from lo to hi.
-fn whole_fit(lo: i64, hi: i64, t: &[u8]) -> Verdict
+fn whole_fit(lo: i64, hi: i64, t: &[u8]) -> Result<(), Misfit>
     ensures { meaning result ≡ whole_fit (between_integers lo hi) t.now }
 {
     if is_whole(t) {
         return range_fit(is_between(lo, 0, hi, 0, t));
     }
-    Verdict::WrongType
+    Err(Misfit::WrongType)
 }
 
-fn int_fit(s: &[u8], at: usize, t: &[u8]) -> Verdict
+fn int_fit(s: &[u8], at: usize, t: &[u8]) -> Result<(), Misfit>
     requires { at ≤ length s.now }
-    ensures { Judges (int_at (drop at s.now)) (some (Json.number t.now, [])) result }
+    ensures { Judges (int_at (drop at s.now)) (Some (Json.number t.now, [])) result }
 {
-    let Signed::Read(lo, a) = signed(s, at, 8) else {
-        return Verdict::WrongType;
+    let Some((lo, a)) = signed(s, at, 8) else {
+        return Err(Misfit::WrongType);
     };
-    let Signed::Read(hi, _) = signed(s, a, 8) else {
-        return Verdict::WrongType;
+    let Some((hi, _)) = signed(s, a, 8) else {
+        return Err(Misfit::WrongType);
     };
     whole_fit(lo, hi, t)
 }
 
 // The limits of a scaled, behind its scale, are those of an int.
-fn scaled_fit(s: &[u8], at: usize, t: &[u8]) -> Verdict
+fn scaled_fit(s: &[u8], at: usize, t: &[u8]) -> Result<(), Misfit>
     requires { at ≤ length s.now }
-    ensures { Judges (scaled_at (drop at s.now)) (some (Json.number t.now, [])) result }
+    ensures { Judges (scaled_at (drop at s.now)) (Some (Json.number t.now, [])) result }
 {
-    let Limit::Read(_, _, limits) = limit_at(s, at) else {
-        return Verdict::WrongType;
+    let Some((_, _, limits)) = limit_at(s, at) else {
+        return Err(Misfit::WrongType);
     };
     int_fit(s, limits, t)
 }
 
 // Whether the token t, which is read once, is the value of a member of an enum; of tokens with a dot or an 'e' nothing is said.
-fn member_fit(s: &[u8], at: usize, t: &[u8]) -> Verdict
+fn member_fit(s: &[u8], at: usize, t: &[u8]) -> Result<(), Misfit>
     requires { at ≤ length s.now }
-    ensures { is_whole t.now ≡ true → Judges (enum_at (drop at s.now)) (some (Json.number t.now, [])) result }
+    ensures { is_whole t.now ≡ true → Judges (enum_at (drop at s.now)) (Some (Json.number t.now, [])) result }
 {
-    let Unsigned::Read(members, from) = unsigned(s, at, 1) else {
-        return Verdict::WrongType;
+    let Some((members, from)) = unsigned(s, at, 1) else {
+        return Err(Misfit::WrongType);
     };
     let sent = value_of(t);
     let mut i = from;
     let mut left = members;
     while 0 < left {
-        let Next::At(n) = counted_end(s, i) else {
-            return Verdict::WrongType;
+        let Some(n) = counted_end(s, i) else {
+            return Err(Misfit::WrongType);
         };
-        let Signed::Read(value, e) = signed(s, n, 4) else {
-            return Verdict::WrongType;
+        let Some((value, e)) = signed(s, n, 4) else {
+            return Err(Misfit::WrongType);
         };
         if lies_between(value, 0, value, 0, sent) {
-            return Verdict::Fits;
+            return Ok(());
         }
         i = e;
         left -= 1;
     }
-    Verdict::RangeError
+    Err(Misfit::RangeError)
 }
 
-fn enum_fit(s: &[u8], at: usize, t: &[u8]) -> Verdict
+fn enum_fit(s: &[u8], at: usize, t: &[u8]) -> Result<(), Misfit>
     requires { at ≤ length s.now }
-    ensures { Judges (enum_at (drop at s.now)) (some (Json.number t.now, [])) result }
+    ensures { Judges (enum_at (drop at s.now)) (Some (Json.number t.now, [])) result }
 {
     if is_whole(t) {
         return member_fit(s, at, t);
     }
-    Verdict::WrongType
+    Err(Misfit::WrongType)
 }
 
 // A number token for the type k, one of double (1), int (2) and scaled (9).
-fn token_fit(s: &[u8], at: usize, k: u64, t: &[u8]) -> Verdict
+fn token_fit(s: &[u8], at: usize, k: u64, t: &[u8]) -> Result<(), Misfit>
     requires { at ≤ length s.now }
-    ensures { Judges (numeric k (drop at s.now)) (some (Json.number t.now, [])) result }
+    ensures { Judges (numeric k (drop at s.now)) (Some (Json.number t.now, [])) result }
 {
     if k == 1 {
         return double_fit(s, at, t);
@@ -185,99 +170,99 @@ fn token_fit(s: &[u8], at: usize, k: u64, t: &[u8]) -> Verdict
     scaled_fit(s, at, t)
 }
 
-fn number_fit(s: &[u8], at: usize, k: u64, v: &[u8], p: usize) -> Verdict
+fn number_fit(s: &[u8], at: usize, k: u64, v: &[u8], p: usize) -> Result<(), Misfit>
     requires { (at ≤ length s.now) × (p ≤ length v.now) }
     ensures { (depth : ℕ) → Judges (numeric k (drop at s.now)) (bare depth (drop p v.now)) result }
 {
-    let Next::At(e) = number_end(v, p) else {
-        return Verdict::WrongType;
+    let Some(e) = number_end(v, p) else {
+        return Err(Misfit::WrongType);
     };
     token_fit(s, at, k, &v[p..e])
 }
 
 // A string names a member of an enum by its bytes, as they are sent.
-fn named_fit(s: &[u8], at: usize, name: &[u8]) -> Verdict
+fn named_fit(s: &[u8], at: usize, name: &[u8]) -> Result<(), Misfit>
     requires { at ≤ length s.now }
-    ensures { Judges (enum_at (drop at s.now)) (some (Json.string name.now, [])) result }
+    ensures { Judges (enum_at (drop at s.now)) (Some (Json.string name.now, [])) result }
 {
-    let Signed::Read(_, _) = number_of(s, at, name) else {
-        return Verdict::RangeError;
+    let Some((_, _)) = number_of(s, at, name) else {
+        return Err(Misfit::RangeError);
     };
-    Verdict::Fits
+    Ok(())
 }
 
 // A member of an enum, by its name or by its number.
-fn choice_fit(s: &[u8], at: usize, v: &[u8], p: usize) -> Verdict
+fn choice_fit(s: &[u8], at: usize, v: &[u8], p: usize) -> Result<(), Misfit>
     requires { (at ≤ length s.now) × (p ≤ length v.now) }
     ensures { (depth : ℕ) → Judges (enum_at (drop at s.now)) (bare depth (drop p v.now)) result }
 {
     if byte(v, p) == b'"' {
         return named_fit(s, at, quoted(v, p));
     }
-    let Next::At(e) = number_end(v, p) else {
-        return Verdict::WrongType;
+    let Some(e) = number_end(v, p) else {
+        return Err(Misfit::WrongType);
     };
     enum_fit(s, at, &v[p..e])
 }
 
 // Of the values only `true` and `false` begin with a 't' or an 'f'.
-fn bool_fit(v: &[u8], p: usize) -> Verdict
-    ensures { (depth : ℕ) → Judges (some (Datainfo.bool, [])) (bare depth (drop p v.now)) result }
+fn bool_fit(v: &[u8], p: usize) -> Result<(), Misfit>
+    ensures { (depth : ℕ) → Judges (Some (Datainfo.bool, [])) (bare depth (drop p v.now)) result }
 {
     let b = byte(v, p);
     if b == b't' {
-        return Verdict::Fits;
+        return Ok(());
     }
     if b == b'f' {
-        return Verdict::Fits;
+        return Ok(());
     }
-    Verdict::WrongType
+    Err(Misfit::WrongType)
 }
 
 // A string with the bytes t between its quotes.
-fn characters_fit(s: &[u8], at: usize, t: &[u8]) -> Verdict
+fn characters_fit(s: &[u8], at: usize, t: &[u8]) -> Result<(), Misfit>
     requires { at ≤ length s.now }
-    ensures { Judges (string_at (drop at s.now)) (some (Json.string t.now, [])) result }
+    ensures { Judges (string_at (drop at s.now)) (Some (Json.string t.now, [])) result }
 {
     if all_low(t) {
         return limits_fit(s, at, count(t));
     }
-    Verdict::RangeError
+    Err(Misfit::RangeError)
 }
 
-fn string_fit(s: &[u8], at: usize, v: &[u8], p: usize) -> Verdict
+fn string_fit(s: &[u8], at: usize, v: &[u8], p: usize) -> Result<(), Misfit>
     requires { (at ≤ length s.now) × (p ≤ length v.now) }
     ensures { (depth : ℕ) → Judges (string_at (drop at s.now)) (bare depth (drop p v.now)) result }
 {
     if byte(v, p) != b'"' {
-        return Verdict::WrongType;
+        return Err(Misfit::WrongType);
     }
     characters_fit(s, at, quoted(v, p))
 }
 
 // A string with the bytes t between its quotes, among which an escape is never base64.
-fn base64_fit(s: &[u8], at: usize, t: &[u8]) -> Verdict
+fn base64_fit(s: &[u8], at: usize, t: &[u8]) -> Result<(), Misfit>
     requires { at ≤ length s.now }
-    ensures { Judges (blob_at (drop at s.now)) (some (Json.string t.now, [])) result }
+    ensures { Judges (blob_at (drop at s.now)) (Some (Json.string t.now, [])) result }
 {
-    let Size::Of(n) = blob_size(t) else {
-        return Verdict::WrongType;
+    let Some(n) = blob_size(t) else {
+        return Err(Misfit::WrongType);
     };
     limits_fit(s, at, n)
 }
 
-fn blob_fit(s: &[u8], at: usize, v: &[u8], p: usize) -> Verdict
+fn blob_fit(s: &[u8], at: usize, v: &[u8], p: usize) -> Result<(), Misfit>
     requires { (at ≤ length s.now) × (p ≤ length v.now) }
     ensures { (depth : ℕ) → Judges (blob_at (drop at s.now)) (bare depth (drop p v.now)) result }
 {
     if byte(v, p) != b'"' {
-        return Verdict::WrongType;
+        return Err(Misfit::WrongType);
     }
     base64_fit(s, at, quoted(v, p))
 }
 
 // What follows the type byte k of a type that holds no datainfos.
-fn plain_fit(s: &[u8], at: usize, k: u64, v: &[u8], p: usize) -> Verdict
+fn plain_fit(s: &[u8], at: usize, k: u64, v: &[u8], p: usize) -> Result<(), Misfit>
     requires { (at ≤ length s.now) × (p ≤ length v.now) }
     ensures { (depth : ℕ) → Judges (plain k (drop at s.now)) (bare depth (drop p v.now)) result }
 {
@@ -299,25 +284,25 @@ fn plain_fit(s: &[u8], at: usize, k: u64, v: &[u8], p: usize) -> Verdict
 // The items of an array are judged by one datainfo, behind the two limits of their count. An item takes a byte at least, so of a JSON text
 // none is left when the bytes are.
 #[cycle(array_fit_fields_fit_fit_struct_fit_tuple_fit)]
-fn array_fit(s: &[u8], at: usize, levels: usize, v: &[u8], p: usize, depth: usize) -> Verdict
+fn array_fit(s: &[u8], at: usize, levels: usize, v: &[u8], p: usize, depth: usize) -> Result<(), Misfit>
     requires { (at ≤ length s.now) × (p ≤ length v.now) }
     ensures { Judges (array_at (datainfo_in levels) (drop at s.now)) (bare depth (drop p v.now)) result }
 {
     if depth == 0 {
-        return Verdict::WrongType;
+        return Err(Misfit::WrongType);
     }
     if byte(v, p) != b'[' {
-        return Verdict::WrongType;
+        return Err(Misfit::WrongType);
     }
-    let Next::At(inner) = part_end(s, at, 4) else {
-        return Verdict::WrongType;
+    let Some(inner) = part_end(s, at, 4) else {
+        return Err(Misfit::WrongType);
     };
-    let mut worst = Verdict::Fits;
+    let mut worst = Ok(());
     let mut n = 0;
     let mut item = first(v, p + 1, b']');
     let mut left = v.len() - p;
     while 0 < left {
-        let Next::At(i) = item else {
+        let Some(i) = item else {
             return worse(limits_fit(s, at, n), worst);
         };
         worst = worse(worst, fit(s, inner, levels, v, spaces_end(v, i), depth - 1));
@@ -325,34 +310,34 @@ fn array_fit(s: &[u8], at: usize, levels: usize, v: &[u8], p: usize, depth: usiz
         item = next(v, i, depth - 1);
         left -= 1;
     }
-    Verdict::WrongType
+    Err(Misfit::WrongType)
 }
 
 // The items of a tuple are judged by its datainfos in turn.
 #[cycle(array_fit_fields_fit_fit_struct_fit_tuple_fit)]
-fn tuple_fit(s: &[u8], at: usize, levels: usize, v: &[u8], p: usize, depth: usize) -> Verdict
+fn tuple_fit(s: &[u8], at: usize, levels: usize, v: &[u8], p: usize, depth: usize) -> Result<(), Misfit>
     requires { (at ≤ length s.now) × (p ≤ length v.now) }
     ensures { Judges (tuple_at (datainfo_in levels) (drop at s.now)) (bare depth (drop p v.now)) result }
 {
     if depth == 0 {
-        return Verdict::WrongType;
+        return Err(Misfit::WrongType);
     }
     if byte(v, p) != b'[' {
-        return Verdict::WrongType;
+        return Err(Misfit::WrongType);
     }
-    let Unsigned::Read(count, from) = unsigned(s, at, 1) else {
-        return Verdict::WrongType;
+    let Some((count, from)) = unsigned(s, at, 1) else {
+        return Err(Misfit::WrongType);
     };
-    let mut worst = Verdict::Fits;
+    let mut worst = Ok(());
     let mut element = from;
     let mut left = count;
     let mut item = first(v, p + 1, b']');
     while 0 < left {
-        let Next::At(i) = item else {
-            return worse(worst, Verdict::WrongType);
+        let Some(i) = item else {
+            return worse(worst, Err(Misfit::WrongType));
         };
-        let Next::At(e) = datainfo_end(s, element, levels) else {
-            return Verdict::WrongType;
+        let Some(e) = datainfo_end(s, element, levels) else {
+            return Err(Misfit::WrongType);
         };
         worst = worse(
             worst,
@@ -362,10 +347,10 @@ fn tuple_fit(s: &[u8], at: usize, levels: usize, v: &[u8], p: usize, depth: usiz
         element = e;
         left -= 1;
     }
-    let Next::At(_) = item else {
+    let Some(_) = item else {
         return worst;
     };
-    worse(worst, Verdict::WrongType)
+    worse(worst, Err(Misfit::WrongType))
 }
 
 // The values of an object, past its '{', at the names of a struct, past its type byte k; each name is exactly once among the keys.
@@ -378,25 +363,25 @@ fn fields_fit(
     v: &[u8],
     p: usize,
     depth: usize,
-) -> Verdict
+) -> Result<(), Misfit>
     requires { (at ≤ length s.now) × (p ≤ length v.now) }
     ensures { JudgesFields (members_at (datainfo_in levels) k (drop at s.now)) (object_end (value depth) (drop p v.now)) result }
 {
-    let Unsigned::Read(count, from) = unsigned(s, at, 1) else {
-        return Verdict::WrongType;
+    let Some((count, from)) = unsigned(s, at, 1) else {
+        return Err(Misfit::WrongType);
     };
-    let mut worst = Verdict::Fits;
+    let mut worst = Ok(());
     let mut field = from;
     let mut left = count;
     while 0 < left {
-        let Next::At(inner) = named_end(s, field, k) else {
-            return Verdict::WrongType;
+        let Some(inner) = named_end(s, field, k) else {
+            return Err(Misfit::WrongType);
         };
-        let Next::At(q) = find_key(v, p, depth, named_at(s, field, k)) else {
-            return Verdict::WrongType;
+        let Some(q) = find_key(v, p, depth, named_at(s, field, k)) else {
+            return Err(Misfit::WrongType);
         };
-        let Next::At(e) = datainfo_end(s, inner, levels) else {
-            return Verdict::WrongType;
+        let Some(e) = datainfo_end(s, inner, levels) else {
+            return Err(Misfit::WrongType);
         };
         worst = worse(worst, fit(s, inner, levels, v, q, depth));
         field = e;
@@ -414,33 +399,33 @@ fn struct_fit(
     v: &[u8],
     p: usize,
     depth: usize,
-) -> Verdict
+) -> Result<(), Misfit>
     requires { (at ≤ length s.now) × (p ≤ length v.now) }
     ensures { JudgesStruct (members_at (datainfo_in levels) k (drop at s.now)) (bare depth (drop p v.now)) result }
 {
     if depth == 0 {
-        return Verdict::WrongType;
+        return Err(Misfit::WrongType);
     }
     if byte(v, p) != b'{' {
-        return Verdict::WrongType;
+        return Err(Misfit::WrongType);
     }
     if each_once(s, at, levels, k, v, p + 1, depth - 1) {
         return fields_fit(s, at, levels, k, v, p + 1, depth - 1);
     }
-    Verdict::WrongType
+    Err(Misfit::WrongType)
 }
 
 // The value at p, without spaces before it, and the datainfo at a position, of at most `levels` levels.
 #[cycle(array_fit_fields_fit_fit_struct_fit_tuple_fit)]
-pub fn fit(s: &[u8], at: usize, levels: usize, v: &[u8], p: usize, depth: usize) -> Verdict
+pub fn fit(s: &[u8], at: usize, levels: usize, v: &[u8], p: usize, depth: usize) -> Result<(), Misfit>
     requires { (at ≤ length s.now) × (p ≤ length v.now) }
     ensures { Judges (datainfo_in levels (drop at s.now)) (bare depth (drop p v.now)) result }
 {
     if levels == 0 {
-        return Verdict::WrongType;
+        return Err(Misfit::WrongType);
     }
-    let Unsigned::Read(k, inner) = unsigned(s, at, 1) else {
-        return Verdict::WrongType;
+    let Some((k, inner)) = unsigned(s, at, 1) else {
+        return Err(Misfit::WrongType);
     };
     if k == 6 {
         return array_fit(s, inner, levels - 1, v, p, depth);
@@ -458,8 +443,8 @@ pub fn fit(s: &[u8], at: usize, levels: usize, v: &[u8], p: usize, depth: usize)
 }
 
 // Whether it is the verdict that lets a value in.
-pub fn is_fit(a: Verdict) -> bool
+pub fn is_fit(a: Result<(), Misfit>) -> bool
     ensures { result ≡ is_fit (meaning a) }
 {
-    severity(a) == 0
+    a.is_ok()
 }

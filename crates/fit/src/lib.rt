@@ -9,10 +9,9 @@ pub mod member;
 pub mod object;
 pub mod walk;
 
-// What a value comes to, each worse than the one before.
-#[derive(Clone, Copy)]
-pub enum Verdict {
-    Fits,
+// Why a value doesn't fit, each worse than the one before.
+#[derive(Clone, Copy, PartialEq, Eq, PartialOrd, Ord)]
+pub enum Misfit {
     RangeError,
     WrongType,
     BadJson,

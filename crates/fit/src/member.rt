@@ -5,27 +5,26 @@ ghost use Rattle.fit.specs.Clauses.Walk.{NumberOf};
 
 use ascii::names::same;
 use ascii::numbers::{signed, unsigned};
-use ascii::{Next, Signed, Unsigned};
 use datainfo::layout::counted_end;
 use datainfo::rules::name_at;
 
 // The number of the member of a name, with the position after it; `Short` where none has the name.
-pub fn number_of(s: &[u8], i: usize, name: &[u8]) -> Signed
+pub fn number_of(s: &[u8], i: usize, name: &[u8]) -> Option<(i64, usize)>
     requires { i ≤ length s.now }
     ensures { NumberOf (enum_at (drop i s.now)) name.now result }
 {
-    let Unsigned::Read(count, from) = unsigned(s, i, 1) else {
-        return Signed::Short;
+    let Some((count, from)) = unsigned(s, i, 1) else {
+        return None;
     };
     let mut member = from;
     let mut left = count;
     while 0 < left {
-        let Next::At(n) = counted_end(s, member) else {
-            return Signed::Short;
+        let Some(n) = counted_end(s, member) else {
+            return None;
         };
         let number = signed(s, n, 4);
-        let Signed::Read(_, e) = number else {
-            return Signed::Short;
+        let Some((_, e)) = number else {
+            return None;
         };
         if same(name_at(s, member), name) {
             return number;
@@ -33,5 +32,5 @@ pub fn number_of(s: &[u8], i: usize, name: &[u8]) -> Signed
         member = e;
         left -= 1;
     }
-    Signed::Short
+    None
 }

@@ -1,10 +1,10 @@
 -- Laws of judging settings, one for each way through a function that judges. Assumes nothing.
+use Rattle.std.specs.Prelude.{Option, Some, None}
 use Prim.Native.Nat.{ℕ, suc, ◌+◌, ◌*◌, ◌-◌, ◌≤◌, ◌<◌}
 use native.Mathlib.Numerals.{add-one}
 use native.Mathlib.Omega.{arith}
 use mathlib.Core.Bool.{Bool, true, false, not, ◌||◌, or-true, or-false}
 use mathlib.Core.List.{List, []}
-use mathlib.Core.Option.{Option}
 use mathlib.Core.Path.{◌≡◌, refl, sym, ap, ◌∙◌}
 use lib.ListN.{length, get_or, take, drop}
 use borrow.Author.Tests.{ne_eqb, lt-ltb, le-ltb}
@@ -18,7 +18,6 @@ use Rattle.table.specs.Search.{parameters_of, parameters}
 use Rattle.table.specs.Clauses.At.{parameter_of}
 use Rattle.table.specs.declared.layout.ParameterAt.{ParameterAt}
 use Rattle.search.specs.declared.cursor.Cursor.{Cursor}
-use Rattle.search.specs.declared.cursor.NextParameter as P
 use Rattle.search.specs.Clauses.Left.{OnWay, FirstCursor, NextParameterIs}
 use Rattle.search.proofs.Finds.{Counted, counted_parameters, number_end, number_is_lem, number_on}
 use Rattle.report.specs.Judge.{table_number}
@@ -85,11 +84,11 @@ module _ (table values : List ℕ) (s : Settings) where
     pub passed_all : table_number table ≡ 0 → 64 ≤ k → false ≡ settings_unfit s values 0 (parameters (table_of table))
     passed_all a l = none_left (past_64 table a k l)
 
-    module _ (r : P.NextParameter) (hr : NextParameterIs table c r) where
-      pub passed_end : r ≡ P.TheVariants.End → false ≡ settings_unfit s values 0 (parameters (table_of table))
+    module _ (r : Option (ParameterAt × Cursor)) (hr : NextParameterIs table c r) where
+      pub passed_end : r ≡ None → false ≡ settings_unfit s values 0 (parameters (table_of table))
       passed_end z = none_left (number_end table k k c h.counted r hr z)
 
-      module _ (q : ParameterAt) (e : Cursor) (z : r ≡ P.TheVariants.At q e) where
+      module _ (q : ParameterAt) (e : Cursor) (z : r ≡ Some (q, e)) where
         pub info_readable : ReadableAt table q.info 4
         info_readable = let x = (rw z at hr).held in record { within = x.info_within; datainfo = x.datainfo; left = x.left; is = x.info }
 

@@ -12,7 +12,7 @@ ghost use Rattle.fitness.specs.Clauses.Unfit.{TellsUnfit};
 
 use form::is_stored;
 use limits::{ACCESSIBLES, LATEST, PLACE};
-use search::cursor::{NextParameter, first_cursor, next_parameter};
+use search::cursor::{first_cursor, next_parameter};
 use search::find::module_count;
 use state::client::clients_unfit;
 use state::{Bare, Settings};
@@ -51,7 +51,7 @@ fn settings_unfit(table: &[u8], values: &[u8], settings: Settings) -> bool
     let mut k = 0;
     let mut cursor = first_cursor(table);
     while k < ACCESSIBLES {
-        let NextParameter::At(p, next) = next_parameter(table, cursor) else {
+        let Some((p, next)) = next_parameter(table, cursor) else {
             return false;
         };
         let info = p.info;

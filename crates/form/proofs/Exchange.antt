@@ -1,9 +1,9 @@
 -- Names exchanged for numbers (M-101): once is enough, what fits still fits, and what can be read still can. Assumes nothing.
+use Rattle.std.specs.Prelude.{Option, Some, None}
 use Prim.Native.Nat.{ℕ, ◌≤◌}
 use native.Mathlib.Omega.{arith}
 use mathlib.Core.Bool.{Bool, true, false, cond, not, ◌&&◌, ◌||◌}
 use mathlib.Core.List.{List, [], ◌∷◌, map}
-use mathlib.Core.Option.{Option, none, some}
 use mathlib.Core.Path.{◌≡◌, refl, ap, ap₂, ◌∙◌}
 use lib.IntN.{ℤ, pos, negsuc}
 use lib.ListN.{length}
@@ -38,8 +38,8 @@ names_twice vs (Json.string s) = go (member_number vs s) refl
   where
     go : (o : Option ℤ) → member_number vs s ≡ o
         → within (exchanged s o) (as_string (exchanged s o)) (λ t. exchanged t (member_number vs t)) ≡ exchanged s o
-    go none e = rw e
-    go (some n) e = refl
+    go None e = rw e
+    go (Some n) e = refl
 names_twice vs (Json.array is) = refl
 names_twice vs (Json.object ms) = refl
 
@@ -90,8 +90,8 @@ name_readable vs n (Json.number t) r = r
 name_readable vs n (Json.string s) r = go (member_number vs s)
   where
     go : (o : Option ℤ) → Readable n (exchanged s o)
-    go none = r
-    go (some z) = integer_token z
+    go None = r
+    go (Some z) = integer_token z
 name_readable vs n (Json.array is) r = r
 name_readable vs n (Json.object ms) r = r
 
@@ -140,15 +140,15 @@ between_self : (z : ℤ) → between_integers z z (from_integer z) ≡ true
 unfolding between_integers between at_most
 between_self z = rw (same_order (in_power (pos 0) (from_integer z)))
 
-named : (vs : List Variant) (s : List ℕ) (z : ℤ) → member_number vs s ≡ some z → ShortNumbers vs
+named : (vs : List Variant) (s : List ℕ) (z : ℤ) → member_number vs s ≡ Some z → ShortNumbers vs
     → (is_variant vs (from_integer z) ≡ true) × (length (integer z) ≤ 32)
 unfolding member_number is_variant any
 named [] s z e h = let n : ◌≡◌ {A = ℕ} 0 1 = cc in absurd (omega arith)
 named (v ∷ vs) s z e h = go (same v.name s) (λ e. named vs s z e h.1) e
   where
     go : (b : Bool)
-        → (member_number vs s ≡ some z → (is_variant vs (from_integer z) ≡ true) × (length (integer z) ≤ 32))
-        → cond b (some v.number) (member_number vs s) ≡ some z
+        → (member_number vs s ≡ Some z → (is_variant vs (from_integer z) ≡ true) × (length (integer z) ≤ 32))
+        → cond b (Some v.number) (member_number vs s) ≡ Some z
         → (is_variant (v ∷ vs) (from_integer z) ≡ true) × (length (integer z) ≤ 32)
     go true f e = let q : z ≡ v.number = cc in (rw (q, between_self v.number), rw q h.0)
     go false f e = let i = f e in (rw i.0 (or-true (between_integers v.number v.number (from_integer z))), i.1)
@@ -173,8 +173,8 @@ name_numbered vs h (Json.number t) e = (e, refl)
 name_numbered vs h (Json.string s) e = go (member_number vs s) refl e
   where
     go : (o : Option ℤ) → member_number vs s ≡ o → in_range (is_some o) ≡ fits → FitsByNumbers (enum vs) (exchanged s o)
-    go none p e = let n : ◌≡◌ {A = ℕ} 0 1 = cc in absurd (omega arith)
-    go (some z) p e = let i = named vs s z p h in (number_fits vs z i.0 i.1, refl)
+    go None p e = let n : ◌≡◌ {A = ℕ} 0 1 = cc in absurd (omega arith)
+    go (Some z) p e = let i = named vs s z p h in (number_fits vs z i.0 i.1, refl)
 name_numbered vs h (Json.array is) e = no_fit e
 name_numbered vs h (Json.object ms) e = no_fit e
 

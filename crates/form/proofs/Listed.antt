@@ -1,21 +1,17 @@
 -- Laws of the code that writes the members of type 11 in table order, and of a whole text. Assumes nothing.
+use Rattle.std.specs.Prelude.{Option, Some, None}
 use Prim.Native.Nat.{ℕ, ◌+◌, ◌-◌, ◌≤◌, ◌<◌}
 use native.Mathlib.Omega.{arith}
 use mathlib.Core.Path.{◌≡◌, refl, sym, ap, ◌∙◌}
 use mathlib.Core.Bool.{Bool, true, false, false≢true, ◌||◌}
 use mathlib.Core.List.{List, [], ◌∷◌, ◌++◌}
-use mathlib.Core.Option.{Option, none, some}
 use lib.ListN.{length, drop, drop_of_length-le}
 use lib.Dec.{eqb}
 use borrow.Author.Tests.{ne_eqb}
-use Rattle.ascii.specs.declared.Next.{Next}
-use Rattle.ascii.specs.declared.Next.TheVariants.{At, Bad}
-use Rattle.ascii.specs.declared.Unsigned as U
-use Rattle.ascii.specs.declared.Unsigned.{Unsigned}
 use Rattle.ascii.specs.Text.{bytes}
 use Rattle.ascii.specs.Bytes.{any, same, head}
 use Rattle.ascii.specs.Numbers.{unsigned}
-use Rattle.ascii.specs.Clauses.Read.{ReadsUnsigned}
+use Rattle.ascii.specs.Clauses.Read.{ReadsValue}
 use Rattle.ascii.specs.Clauses.Reader.{Left, Ends}
 use Rattle.ascii.proofs.Bytes.{tail_drop}
 use Rattle.ascii.proofs.Lists.{same_is}
@@ -46,22 +42,22 @@ use Rattle.form.proofs.Typed.{is_typed, text_value}
 
 -- ## One member, by its name
 
-module _ (o : Option (Parts × List ℕ)) (s : List ℕ) (levels : ℕ) (v : List ℕ) (p depth : ℕ) (name : List ℕ) (r : Next) (f : FieldIn o s levels name r)
+module _ (o : Option (Parts × List ℕ)) (s : List ℕ) (levels : ℕ) (v : List ℕ) (p depth : ℕ) (name : List ℕ) (r : Option ℕ) (f : FieldIn o s levels name r)
     {before : List ℕ} {at : ℕ} where
-  pub field_unknown : r ≡ Bad → {after : List ℕ} {end : ℕ} → FormsField o (object_end (value depth) (drop (p + 1) v)) name before at after end
+  pub field_unknown : r ≡ None → {after : List ℕ} {end : ℕ} → FormsField o (object_end (value depth) (drop (p + 1) v)) name before at after end
   field_unknown z = record { is = λ e g h i k. absurd (nothing (sym ((rw z at f).is e) ∙ i)) }
 
-  module _ (inner : ℕ) (z : r ≡ At inner) (q : Next) (k : Finds depth v (p + 1) name q) where
-    pub field_absent : q ≡ Bad → {after : List ℕ} {end : ℕ} → FormsField o (object_end (value depth) (drop (p + 1) v)) name before at after end
+  module _ (inner : ℕ) (z : r ≡ Some inner) (q : Option ℕ) (k : Finds depth v (p + 1) name q) where
+    pub field_absent : q ≡ None → {after : List ℕ} {end : ℕ} → FormsField o (object_end (value depth) (drop (p + 1) v)) name before at after end
     field_absent w = record { is = λ {ms = ms} e g h i l. absurd (false≢true (sym (none_counted name (keys ms) (rw w at (k.is g))) ∙ h)) }
 
-    pub field_put : (x : ℕ) → q ≡ At x → (out1 : List ℕ) (a1 : ℕ) → Emits before at (quoted name ++ bytes ":") out1 a1 → (after : List ℕ) (end : ℕ)
+    pub field_put : (x : ℕ) → q ≡ Some x → (out1 : List ℕ) (a1 : ℕ) → Emits before at (quoted name ++ bytes ":") out1 a1 → (after : List ℕ) (end : ℕ)
         → Forms (datainfo_in levels (drop inner s)) (bare depth (drop x v)) out1 a1 after end
         → FormsField o (object_end (value depth) (drop (p + 1) v)) name before at after end
     field_put x w out1 a1 y after end n = record {
       is = λ {ms = ms} {d = d} e g h i l.
           let c = (rw z at f).is e d i in
-          steps (bare depth (drop x v)) _ (rw w at (k.is g)) λ t a b. both y (n.is c.1 (a ∙ ap (λ j. some (j, t.1)) (just b)) l);
+          steps (bare depth (drop x v)) _ (rw w at (k.is g)) λ t a b. both y (n.is c.1 (a ∙ ap (λ j. Some (j, t.1)) (just b)) l);
     }
 
 -- ## All members, in table order
@@ -85,21 +81,21 @@ exchanged fs ms = map_members (λ k w. numbered_at k fs w) ms
 pub record TableLeft (s : List ℕ) (levels : ℕ) (fs : Fields) (ms : Members) (place left : ℕ) (start : Bool) (before : List ℕ) (at : ℕ) (out : List ℕ) (a : ℕ) : Type 0 where
   pub gs : Parts
   pub x : List ℕ
-  pub reads : fields (datainfo_in levels) 11 left (drop place s) ≡ some (gs, x)
+  pub reads : fields (datainfo_in levels) 11 left (drop place s) ≡ Some (gs, x)
   pub among : Among gs.1 (field_names fs)
   pub done : List ℕ
   pub wrote : Emits before at done out a
   pub whole : compact_members (ordered fs (exchanged fs ms)) ≡ done ++ listed start (ordered gs.1 (exchanged fs ms))
 
 pub record TableAt (s : List ℕ) (i levels : ℕ) (q : Option (Json × List ℕ)) (place left : ℕ) (start : Bool) (before : List ℕ) (at : ℕ) (out : List ℕ) (a : ℕ) : Type 0 where
-  pub from : {m : Parts} {x : List ℕ} {ms : Members} {y : List ℕ} → members_at (datainfo_in levels) 11 (drop i s) ≡ some (m, x) → q ≡ some (Json.object ms, y)
+  pub from : {m : Parts} {x : List ℕ} {ms : Members} {y : List ℕ} → members_at (datainfo_in levels) 11 (drop i s) ≡ Some (m, x) → q ≡ Some (Json.object ms, y)
       → each_once (field_names m.1) (keys ms) ≡ true → fields_fit m.1 ms ≡ fits → TableLeft s levels m.1 ms place left start before at out a
 
-module _ (s : List ℕ) (i levels : ℕ) (q : Option (Json × List ℕ)) (u : Unsigned) (k : ReadsUnsigned s u (unsigned 1 (drop i s))) where
-  pub table_short : u ≡ U.TheVariants.Short → {before after : List ℕ} {at end : ℕ} → FormsFields (members_at (datainfo_in levels) 11 (drop i s)) q before at after end
+module _ (s : List ℕ) (i levels : ℕ) (q : Option (Json × List ℕ)) (u : Option (ℕ × ℕ)) (k : ReadsValue s u (unsigned 1 (drop i s))) where
+  pub table_short : u ≡ None → {before after : List ℕ} {at end : ℕ} → FormsFields (members_at (datainfo_in levels) 11 (drop i s)) q before at after end
   table_short z = record { is = λ e f g h. struct_short s i levels 11 u k z e }
 
-  pub table_first : (n j : ℕ) → u ≡ U.TheVariants.Read n j → (out : List ℕ) (at : ℕ) → at ≤ 18446744073709551615 → TableAt s i levels q j n true out at out at
+  pub table_first : (n j : ℕ) → u ≡ Some (n, j) → (out : List ℕ) (at : ℕ) → at ≤ 18446744073709551615 → TableAt s i levels q j n true out at out at
   table_first n j z out at w = record {
     from = λ {m = m} {ms = ms} e f g h. record {
       gs = m;
@@ -118,7 +114,7 @@ first_of : (gs hs : Parts) (a : Bool × List ℕ) (d : Datainfo) (ks : List (Lis
 unfolding joined ordered
 first_of gs hs a d ks ms w h = let z = rw w at h in (z.0, z.1, rw w)
 
-pub stored_at : (fs : Fields) (ms : Members) (k : List ℕ) (d : Datainfo) → field_of k fs ≡ some d → value_at k (exchanged fs ms) ≡ numbered d (value_at k ms)
+pub stored_at : (fs : Fields) (ms : Members) (k : List ℕ) (d : Datainfo) → field_of k fs ≡ Some d → value_at k (exchanged fs ms) ≡ numbered d (value_at k ms)
 stored_at fs ms k d e = map_value (λ k w. numbered_at k fs w) (λ k. at_null fs k) k ms ∙ numbered_field fs k (value_at k ms) d e
 
 none_of : (gs : Parts) (ms : Members) → gs ≡ ([], no_fields) → ordered gs.1 ms ≡ no_members
@@ -135,14 +131,14 @@ module _ (s : List ℕ) (i levels : ℕ) (q : Option (Json × List ℕ)) (place 
         rw (t.whole, listed_end t.done start (ordered t.gs.1 (exchanged m.1 ms)) z) t.wrote;
   }
 
-  module _ (h : 0 < left) (r : Next) (l : Ends s r (after_field (datainfo_in levels) 11 (drop place s))) where
-    pub table_bad : r ≡ Bad → {after : List ℕ} {end : ℕ} → FormsFields (members_at (datainfo_in levels) 11 (drop i s)) q before at after end
+  module _ (h : 0 < left) (r : Option ℕ) (l : Ends s r (after_field (datainfo_in levels) 11 (drop place s))) where
+    pub table_bad : r ≡ None → {after : List ℕ} {end : ℕ} → FormsFields (members_at (datainfo_in levels) 11 (drop i s)) q before at after end
     table_bad z = record {
       is = λ e f g w. let t = c.from e f g w in fields_some (datainfo_in levels) 11 left (drop place s) h t.reads λ b y d y' hs n j o w'.
           absurd (nothing (sym (rw z at l) ∙ past_field (datainfo_in levels) 11 (drop place s) n j));
     }
 
-    pub table_more : (e : ℕ) → r ≡ At e → (out1 : List ℕ) (a1 : ℕ) → Emits out a (comma start) out1 a1 → (name : List ℕ) → name ≡ name_in 11 (drop place s)
+    pub table_more : (e : ℕ) → r ≡ Some e → (out1 : List ℕ) (a1 : ℕ) → Emits out a (comma start) out1 a1 → (name : List ℕ) → name ≡ name_in 11 (drop place s)
         → (out2 : List ℕ) (a2 : ℕ) → FormsField (members_at (datainfo_in levels) 11 (drop i s)) q name out1 a1 out2 a2
         → TableAt s i levels q e (left - 1) false before at out2 a2
     table_more e z out1 a1 x name y out2 a2 w = record {
@@ -189,7 +185,7 @@ module _ (s : List ℕ) (i : ℕ) (v : List ℕ) (p : ℕ) {before after : List 
 -- ## A whole text
 
 -- a value that is an object
-pub object_is : (j : Json) (ms : Members) → as_object j ≡ some ms → j ≡ Json.object ms
+pub object_is : (j : Json) (ms : Members) → as_object j ≡ Some ms → j ≡ Json.object ms
 unfolding as_object
 object_is null ms e = absurd (nothing e)
 object_is (boolean b) ms e = absurd (nothing e)
@@ -198,12 +194,12 @@ object_is (Json.string t) ms e = absurd (nothing e)
 object_is (Json.array is) ms e = absurd (nothing e)
 object_is (Json.object ks) ms e = ap Json.object (just e)
 
-by_one : (a : Datainfo) (x : List ℕ) (d : Datainfo) (y : List ℕ) → ◌≡◌ {A = Option (Datainfo × List ℕ)} (some (a, x)) (some (d, y)) → as_partial a ≡ none
-    → as_partial d ≡ none
+by_one : (a : Datainfo) (x : List ℕ) (d : Datainfo) (y : List ℕ) → ◌≡◌ {A = Option (Datainfo × List ℕ)} (Some (a, x)) (Some (d, y)) → as_partial a ≡ None
+    → as_partial d ≡ None
 by_one a x d y e h = let z : a ≡ d = ap (λ (p : Datainfo × List ℕ). p.0) (just e) in rw (← z) h
 
 -- no other type byte is read as type 11
-pub other_type : (f : List ℕ → Option (Datainfo × List ℕ)) (k : ℕ) (xs : List ℕ) → eqb k 11 ≡ false → (d : Datainfo) (x : List ℕ) → typed f k xs ≡ some (d, x) → as_partial d ≡ none
+pub other_type : (f : List ℕ → Option (Datainfo × List ℕ)) (k : ℕ) (xs : List ℕ) → eqb k 11 ≡ false → (d : Datainfo) (x : List ℕ) → typed f k xs ≡ Some (d, x) → as_partial d ≡ None
 unfolding typed as_partial
 other_type f k xs h = rw h
     (when_cond P (eqb k 1) _ _ (when_double P z (λ lo hi x d y e. by_one (Datainfo.double lo hi) x d y e refl) xs)
@@ -219,17 +215,17 @@ other_type f k xs h = rw h
     z))))))))))
   where
     P : Option (Datainfo × List ℕ) → Type 0
-    P o = (d : Datainfo) (x : List ℕ) → o ≡ some (d, x) → as_partial d ≡ none
+    P o = (d : Datainfo) (x : List ℕ) → o ≡ Some (d, x) → as_partial d ≡ None
 
-    z : P none
+    z : P None
     z d x e = absurd (nothing e)
 
-module _ (s : List ℕ) (i : ℕ) (v : List ℕ) (p : ℕ) (l : Left v p (skip (drop 0 v))) (u : Unsigned) (k : ReadsUnsigned s u (unsigned 1 (drop i s))) where
-  pub text_short : u ≡ U.TheVariants.Short → {before after : List ℕ} {at end : ℕ} → FormsText (datainfo_in 4 (drop i s)) v before at after end
+module _ (s : List ℕ) (i : ℕ) (v : List ℕ) (p : ℕ) (l : Left v p (skip (drop 0 v))) (u : Option (ℕ × ℕ)) (k : ReadsValue s u (unsigned 1 (drop i s))) where
+  pub text_short : u ≡ None → {before after : List ℕ} {at end : ℕ} → FormsText (datainfo_in 4 (drop i s)) v before at after end
   unfolding datainfo_in
-  text_short z = record { is = λ e q f. absurd (nothing (sym (let n : datainfo_in 4 (drop i s) ≡ none = simp (rw z at k) in n) ∙ e)) }
+  text_short z = record { is = λ e q f. absurd (nothing (sym (let n : datainfo_in 4 (drop i s) ≡ None = simp (rw z at k) in n) ∙ e)) }
 
-  module _ (b inner : ℕ) (e : u ≡ U.TheVariants.Read b inner) where
+  module _ (b inner : ℕ) (e : u ≡ Some (b, inner)) where
     typed_there : datainfo_in 4 (drop i s) ≡ typed (datainfo_in 3) b (drop inner s)
     typed_there = is_typed s i 4 (omega arith) u k b inner e
 

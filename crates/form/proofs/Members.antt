@@ -1,16 +1,14 @@
 -- Laws of the code that writes the members of an object, one for each way through a function. Assumes nothing.
+use Rattle.std.specs.Prelude.{Option, Some, None}
 use Prim.Native.Nat.{ℕ, ◌+◌, ◌-◌, ◌≤◌, ◌<◌}
 use native.Mathlib.Nat.{zero-add}
 use native.Mathlib.Omega.{arith}
 use mathlib.Core.Path.{◌≡◌, refl, sym, ap, ap₂, ◌∙◌}
 use mathlib.Core.Bool.{Bool, true, false, cond, ◌&&◌, ◌||◌}
 use mathlib.Core.List.{List, [], ◌∷◌, ◌++◌, append_assoc, append-nil}
-use mathlib.Core.Option.{Option, some}
 use lib.Dec.{eqb}
 use lib.ListN.{length, drop, drop_of_length-le}
 use borrow.Author.Tests.{eqb-true}
-use Rattle.ascii.specs.declared.Next.{Next}
-use Rattle.ascii.specs.declared.Next.TheVariants.{At, Bad}
 use Rattle.ascii.specs.Text.{bytes}
 use Rattle.ascii.specs.Bytes.{all, any, count, same, head}
 use Rattle.ascii.specs.Clauses.Reader.{Ends}
@@ -57,7 +55,7 @@ pub listed_end : (done : List ℕ) (start : Bool) (ms : Members) → ms ≡ no_m
 unfolding listed
 listed_end done start ms e = rw (e, append-nil)
 
-pub object_begins : (j : Json) (f : Members → Verdict) → expect (as_object j) f ≡ fits → {S : Type 0} → ((ms : Members) → as_object j ≡ some ms → f ms ≡ fits → S) → S
+pub object_begins : (j : Json) (f : Members → Verdict) → expect (as_object j) f ≡ fits → {S : Type 0} → ((ms : Members) → as_object j ≡ Some ms → f ms ≡ fits → S) → S
 unfolding expect as_object
 object_begins null f e g = let n : ◌≡◌ {A = ℕ} 0 1 = cc in absurd (omega arith)
 object_begins (boolean b) f e g = let n : ◌≡◌ {A = ℕ} 0 1 = cc in absurd (omega arith)
@@ -71,7 +69,7 @@ object_begins (Json.object ms) f e g = g ms refl e
 -- a value for the first field of a name
 pub record FitsField (fs : Fields) (k : List ℕ) (v : Json) : Type 0 where
   pub d : Datainfo
-  pub found : field_of k fs ≡ some d
+  pub found : field_of k fs ≡ Some d
   pub fit : fit d v ≡ fits
 
 abbrev pub EachFits : Fields → Members → Type 0
@@ -168,31 +166,31 @@ all_fit fs ms e g =
     each_fits fs ms ms p.1 (own_all ms (keys_once (λ n. eqb (count (same n) (keys ms)) 1) (field_names fs) (keys ms) p.0 p.1)) g
 
 -- and how it is exchanged
-pub numbered_field : (fs : Fields) (k : List ℕ) (v : Json) (d : Datainfo) → field_of k fs ≡ some d → numbered_at k fs v ≡ numbered d v
+pub numbered_field : (fs : Fields) (k : List ℕ) (v : Json) (d : Datainfo) → field_of k fs ≡ Some d → numbered_at k fs v ≡ numbered d v
 unfolding field_of numbered_at
 numbered_field no_fields k v d e = absurd (nothing e)
 numbered_field (field j c fs) k v d e = go (same j k) e (numbered_field fs k v d)
   where
-    go : (b : Bool) → cond b (some c) (field_of k fs) ≡ some d → (field_of k fs ≡ some d → numbered_at k fs v ≡ numbered d v)
+    go : (b : Bool) → cond b (Some c) (field_of k fs) ≡ Some d → (field_of k fs ≡ Some d → numbered_at k fs v ≡ numbered d v)
         → cond b (numbered c v) (numbered_at k fs v) ≡ numbered d v
     go true e h = ap (λ d. numbered d v) (just e)
     go false e h = h e
 
 -- ## One member
 
-module _ (o : Option (Parts × List ℕ)) (s : List ℕ) (levels : ℕ) (v : List ℕ) (j depth : ℕ) (t : List ℕ) (k : Reads (key (drop j v)) t) (r : Next) (f : FieldIn o s levels t r)
+module _ (o : Option (Parts × List ℕ)) (s : List ℕ) (levels : ℕ) (v : List ℕ) (j depth : ℕ) (t : List ℕ) (k : Reads (key (drop j v)) t) (r : Option ℕ) (f : FieldIn o s levels t r)
     {before : List ℕ} {at : ℕ} where
-  pub member_unknown : r ≡ Bad → {after : List ℕ} {end : ℕ} → FormsMember o depth (drop j v) before at after end
+  pub member_unknown : r ≡ None → {after : List ℕ} {end : ℕ} → FormsMember o depth (drop j v) before at after end
   member_unknown z = record {
     is = λ {k = k'} {d = d} e g h m n. absurd (nothing (sym ((rw z at f).is e) ∙ rw (← (k.is g)) at m));
   }
 
-  module _ (inner : ℕ) (z : r ≡ At inner) (q : Next) (m : Ends v q (member_value (drop j v))) where
-    pub member_cut : q ≡ Bad → {after : List ℕ} {end : ℕ} → FormsMember o depth (drop j v) before at after end
+  module _ (inner : ℕ) (z : r ≡ Some inner) (q : Option ℕ) (m : Ends v q (member_value (drop j v))) where
+    pub member_cut : q ≡ None → {after : List ℕ} {end : ℕ} → FormsMember o depth (drop j v) before at after end
     unfolding member_value
     member_cut w = record { is = λ {z = z'} e g h a b. absurd (nothing {a = skip z'} (sym (rw w at m) ∙ rw g)) }
 
-    pub member_put : (p : ℕ) → q ≡ At p → (out1 : List ℕ) (a1 : ℕ) → Emits before at (quoted t ++ bytes ":") out1 a1 → (after : List ℕ) (end : ℕ)
+    pub member_put : (p : ℕ) → q ≡ Some p → (out1 : List ℕ) (a1 : ℕ) → Emits before at (quoted t ++ bytes ":") out1 a1 → (after : List ℕ) (end : ℕ)
         → Forms (datainfo_in levels (drop inner s)) (bare depth (drop p v)) out1 a1 after end → FormsMember o depth (drop j v) before at after end
     unfolding member_value
     member_put p w out1 a1 x after end y = record {
@@ -203,13 +201,13 @@ module _ (o : Option (Parts × List ℕ)) (s : List ℕ) (levels : ℕ) (v : Lis
           rw (← (k.is g)) (both x (y.is {y = y'} c.1 (rw (place w u, ← i) l) b));
     }
       where
-        place : {a b : ℕ} {q : Next} → q ≡ At a → q ≡ At b → a ≡ b
+        place : {a b : ℕ} {q : Option ℕ} → q ≡ Some a → q ≡ Some b → a ≡ b
         place u w = cc
 
 -- ## The members of an object
 
 -- of the members that fit the fields, those where a walk stands are left, and what stands before them is written
-pub record ObjectLeft (fs : Fields) (all : Members) (d : ℕ) (v : List ℕ) (place : Next) (left : ℕ) (start : Bool) (before : List ℕ) (at : ℕ) (out : List ℕ) (a : ℕ) : Type 0 where
+pub record ObjectLeft (fs : Fields) (all : Members) (d : ℕ) (v : List ℕ) (place : Option ℕ) (left : ℕ) (start : Bool) (before : List ℕ) (at : ℕ) (out : List ℕ) (a : ℕ) : Type 0 where
   pub js : Members
   pub still : MembersAt d v left js place
   pub each : EachFits fs js
@@ -217,12 +215,12 @@ pub record ObjectLeft (fs : Fields) (all : Members) (d : ℕ) (v : List ℕ) (pl
   pub wrote : Emits before at done out a
   pub whole : compact_members (map_members (λ k w. numbered_at k fs w) all) ≡ done ++ listed start (map_members (λ k w. numbered_at k fs w) js)
 
-pub record ObjectAt (o : Option (Parts × List ℕ)) (d : ℕ) (v : List ℕ) (p : ℕ) (place : Next) (left : ℕ) (start : Bool) (before : List ℕ) (at : ℕ) (out : List ℕ) (a : ℕ) : Type 0 where
-  pub from : {m : Parts} {x : List ℕ} {ms : Members} {y : List ℕ} → o ≡ some (m, x) → object_end (value d) (drop (p + 1) v) ≡ some (Json.object ms, y)
+pub record ObjectAt (o : Option (Parts × List ℕ)) (d : ℕ) (v : List ℕ) (p : ℕ) (place : Option ℕ) (left : ℕ) (start : Bool) (before : List ℕ) (at : ℕ) (out : List ℕ) (a : ℕ) : Type 0 where
+  pub from : {m : Parts} {x : List ℕ} {ms : Members} {y : List ℕ} → o ≡ Some (m, x) → object_end (value d) (drop (p + 1) v) ≡ Some (Json.object ms, y)
       → each_once (field_names m.1) (keys ms) ≡ true → fields_fit m.1 ms ≡ fits → ObjectLeft m.1 ms d v place left start before at out a
 
 pub object_first : (o : Option (Parts × List ℕ)) (d : ℕ) (v : List ℕ) (p : ℕ) (out : List ℕ) (at : ℕ) → at ≤ 18446744073709551615
-    → (place : Next) → Ends v place (first 125 (drop (p + 1) v)) → ObjectAt o d v p place (length v - p) true out at out at
+    → (place : Option ℕ) → Ends v place (first 125 (drop (p + 1) v)) → ObjectAt o d v p place (length v - p) true out at out at
 object_first o d v p out at n place f = record {
   from = λ {m = m} {ms = ms} e g h w. record {
     js = ms;
@@ -240,14 +238,14 @@ map_none f ms e = rw e
 
 -- the first of the members that are left
 object_step : (fs : Fields) (js ks : Members) (k : List ℕ) (j : Json) → js ≡ member k j ks → EachFits fs js → {S : Type 0}
-    → ((d : Datainfo) → field_of k fs ≡ some d → fit d j ≡ fits → EachFits fs ks
+    → ((d : Datainfo) → field_of k fs ≡ Some d → fit d j ≡ fits → EachFits fs ks
     → map_members (λ k w. numbered_at k fs w) js ≡ member k (numbered d j) (map_members (λ k w. numbered_at k fs w) ks) → S) → S
 unfolding map_members
 object_step fs js ks k j e h f =
     let r = rw e at h in
     f r.0.d r.0.found r.0.fit r.1 (rw (e, numbered_field fs k j r.0.d r.0.found))
 
-module _ (o : Option (Parts × List ℕ)) (d : ℕ) (v : List ℕ) (p : ℕ) (place : Next) (left : ℕ) (start : Bool) (before : List ℕ) (at : ℕ) (out : List ℕ) (a : ℕ)
+module _ (o : Option (Parts × List ℕ)) (d : ℕ) (v : List ℕ) (p : ℕ) (place : Option ℕ) (left : ℕ) (start : Bool) (before : List ℕ) (at : ℕ) (out : List ℕ) (a : ℕ)
     (c : ObjectAt o d v p place left start before at out a) where
   object_end_lem : ((js : Members) → MembersAt d v left js place → js ≡ no_members) → FormsMembers o (object_end (value d) (drop (p + 1) v)) before at out a
   object_end_lem h = record {
@@ -255,14 +253,14 @@ module _ (o : Option (Parts × List ℕ)) (d : ℕ) (v : List ℕ) (p : ℕ) (pl
         rw (q.whole, listed_end q.done start (map_members m q.js) (map_none m q.js (h q.js q.still))) q.wrote;
   }
 
-  pub object_over : place ≡ Bad → FormsMembers o (object_end (value d) (drop (p + 1) v)) before at out a
+  pub object_over : place ≡ None → FormsMembers o (object_end (value d) (drop (p + 1) v)) before at out a
   object_over z = object_end_lem λ js m. members_none m z
 
   pub object_cut : left ≤ 0 → FormsMembers o (object_end (value d) (drop (p + 1) v)) before at out a
   object_cut z = object_end_lem λ js m. members_over m z
 
-  pub object_more : (k : ℕ) → place ≡ At k → (out1 : List ℕ) (a1 : ℕ) → Emits out a (comma start) out1 a1 → (out2 : List ℕ) (a2 : ℕ)
-      → FormsMember o d (drop k v) out1 a1 out2 a2 → (next : Next) → Ends v next (after_member d (drop k v)) → ObjectAt o d v p next (left - 1) false before at out2 a2
+  pub object_more : (k : ℕ) → place ≡ Some k → (out1 : List ℕ) (a1 : ℕ) → Emits out a (comma start) out1 a1 → (out2 : List ℕ) (a2 : ℕ)
+      → FormsMember o d (drop k v) out1 a1 out2 a2 → (next : Option ℕ) → Ends v next (after_member d (drop k v)) → ObjectAt o d v p next (left - 1) false before at out2 a2
   object_more k z out1 a1 w out2 a2 g next m = record {
     from = λ {m = m'} e f n x.
         let r = c.from e f n x in

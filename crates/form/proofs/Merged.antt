@@ -1,23 +1,19 @@
 -- Laws of the code that fills in what a change leaves out (M-113). Assumes nothing.
+use Rattle.std.specs.Prelude.{Option, Some, None}
 use Prim.Native.Nat.{ℕ, ◌+◌, ◌-◌, ◌≤◌, ◌<◌}
 use native.Mathlib.Nat.{zero-add}
 use native.Mathlib.Omega.{arith}
 use mathlib.Core.Path.{◌≡◌, refl, sym, ap, ◌∙◌}
 use mathlib.Core.Bool.{Bool, true, false, cond, not, ◌&&◌, ◌||◌}
 use mathlib.Core.List.{List, [], ◌∷◌, ◌++◌, append_assoc, append-nil}
-use mathlib.Core.Option.{Option, none, some}
 use lib.Dec.{eqb}
 use lib.ListN.{length, take, drop, length-append, length-drop}
 use lib.Seq.{take_at}
 use borrow.Author.Tests.{eqb-true, eqb-false, ne_eqb}
-use Rattle.ascii.specs.declared.Next.{Next}
-use Rattle.ascii.specs.declared.Next.TheVariants.{At, Bad}
-use Rattle.ascii.specs.declared.Unsigned as U
-use Rattle.ascii.specs.declared.Unsigned.{Unsigned}
 use Rattle.ascii.specs.Text.{bytes}
 use Rattle.ascii.specs.Bytes.{is_some, any, count, same, head}
 use Rattle.ascii.specs.Numbers.{unsigned}
-use Rattle.ascii.specs.Clauses.Read.{ReadsUnsigned}
+use Rattle.ascii.specs.Clauses.Read.{ReadsValue}
 use Rattle.ascii.specs.Clauses.Reader.{ByteAt, Ends}
 use Rattle.ascii.proofs.Lists as Lists
 use Rattle.json_text.specs.Json.{Json, Members, no_members, member, skip, value, object_end, text, quoted, compact, compact_members}
@@ -82,22 +78,22 @@ kept m ms fs js = keep_members (is_left_out m.0 ms) (ordered fs (exchanged m.1 j
 pub record KeptLeft (s : List ℕ) (m : Parts) (ms js : Members) (place left : ℕ) (start : Bool) (before : List ℕ) (at : ℕ) (out : List ℕ) (a : ℕ) : Type 0 where
   pub gs : Parts
   pub x : List ℕ
-  pub reads : fields (datainfo_in 3) 11 left (drop place s) ≡ some (gs, x)
+  pub reads : fields (datainfo_in 3) 11 left (drop place s) ≡ Some (gs, x)
   pub among : Among gs.1 (field_names m.1)
   pub done : List ℕ
   pub wrote : Emits before at done out a
   pub whole : compact_members (kept m ms m.1 js) ≡ done ++ listed start (kept m ms gs.1 js)
 
 pub record KeptAt (s : List ℕ) (i : ℕ) (q p : Option (Json × List ℕ)) (place left : ℕ) (start : Bool) (before : List ℕ) (at : ℕ) (out : List ℕ) (a : ℕ) : Type 0 where
-  pub from : {m : Parts} {x : List ℕ} {ms : Members} {y : List ℕ} {js : Members} {z : List ℕ} → members_at (datainfo_in 3) 11 (drop i s) ≡ some (m, x)
-      → q ≡ some (Json.object ms, y) → p ≡ some (Json.object js, z) → each_once (field_names m.1) (keys js) ≡ true → fields_fit m.1 js ≡ fits
+  pub from : {m : Parts} {x : List ℕ} {ms : Members} {y : List ℕ} {js : Members} {z : List ℕ} → members_at (datainfo_in 3) 11 (drop i s) ≡ Some (m, x)
+      → q ≡ Some (Json.object ms, y) → p ≡ Some (Json.object js, z) → each_once (field_names m.1) (keys js) ≡ true → fields_fit m.1 js ≡ fits
       → KeptLeft s m ms js place left start before at out a
 
-module _ (s : List ℕ) (i : ℕ) (q p : Option (Json × List ℕ)) (u : Unsigned) (k : ReadsUnsigned s u (unsigned 1 (drop i s))) where
-  pub kept_short : u ≡ U.TheVariants.Short → {before after : List ℕ} {at end : ℕ} → KeepsAll (members_at (datainfo_in 3) 11 (drop i s)) q p before at after end
+module _ (s : List ℕ) (i : ℕ) (q p : Option (Json × List ℕ)) (u : Option (ℕ × ℕ)) (k : ReadsValue s u (unsigned 1 (drop i s))) where
+  pub kept_short : u ≡ None → {before after : List ℕ} {at end : ℕ} → KeepsAll (members_at (datainfo_in 3) 11 (drop i s)) q p before at after end
   kept_short z = record { is = λ e f g h w. struct_short s i 3 11 u k z e }
 
-  pub kept_first : (n j : ℕ) → u ≡ U.TheVariants.Read n j → (out : List ℕ) (at : ℕ) → at ≤ 18446744073709551615 → KeptAt s i q p j n true out at out at
+  pub kept_first : (n j : ℕ) → u ≡ Some (n, j) → (out : List ℕ) (at : ℕ) → at ≤ 18446744073709551615 → KeptAt s i q p j n true out at out at
   kept_first n j z out at w = record {
     from = λ {m = m} {ms = ms} {js = js} e f g h v. record {
       gs = m;
@@ -136,14 +132,14 @@ module _ (s : List ℕ) (i : ℕ) (q p : Option (Json × List ℕ)) (place left 
         rw (t.whole, listed_end t.done start (kept m ms t.gs.1 js) z) t.wrote;
   }
 
-  module _ (h : 0 < left) (r : Next) (l : Ends s r (after_field (datainfo_in 3) 11 (drop place s))) where
-    pub kept_bad : r ≡ Bad → {after : List ℕ} {end : ℕ} → KeepsAll (members_at (datainfo_in 3) 11 (drop i s)) q p before at after end
+  module _ (h : 0 < left) (r : Option ℕ) (l : Ends s r (after_field (datainfo_in 3) 11 (drop place s))) where
+    pub kept_bad : r ≡ None → {after : List ℕ} {end : ℕ} → KeepsAll (members_at (datainfo_in 3) 11 (drop i s)) q p before at after end
     kept_bad z = record {
       is = λ e f g w v. let t = c.from e f g w v in fields_some (datainfo_in 3) 11 left (drop place s) h t.reads λ b y d y' hs n j o w'.
           absurd (nothing (sym (rw z at l) ∙ past_field (datainfo_in 3) 11 (drop place s) n j));
     }
 
-    pub kept_more : (e : ℕ) → r ≡ At e → (name : List ℕ) → name ≡ name_in 11 (drop place s) → (out1 : List ℕ) (a1 : ℕ)
+    pub kept_more : (e : ℕ) → r ≡ Some e → (name : List ℕ) → name ≡ name_in 11 (drop place s) → (out1 : List ℕ) (a1 : ℕ)
         → KeepsOne (members_at (datainfo_in 3) 11 (drop i s)) q p name start out a out1 a1 → (then : Bool)
         → StaysFirst (members_at (datainfo_in 3) 11 (drop i s)) q name start then → KeptAt s i q p e (left - 1) then before at out1 a1
     kept_more e z name y out1 a1 w then u = record {
@@ -183,15 +179,15 @@ some_long (member k v ks) n = refl
 
 module _ (o : Option (Parts × List ℕ)) (xs : List ℕ) (p : Option (Json × List ℕ)) {d0 d1 d2 : List ℕ} {a1 a2 : ℕ} (x : Emits d0 0 (123 ∷ []) d1 a1)
     (y : KeepsAll o (object_end (value 7) xs) p d1 a1 d2 a2) where
-  pub merged_alone : (r : Next) (v : List ℕ) → Ends v r (first 125 xs) → r ≡ Bad → {d3 : List ℕ} {a3 : ℕ} → Emits d2 a2 (125 ∷ []) d3 a3 → Merges o xs p d0 d3 a3
+  pub merged_alone : (r : Option ℕ) (v : List ℕ) → Ends v r (first 125 xs) → r ≡ None → {d3 : List ℕ} {a3 : ℕ} → Emits d2 a2 (125 ∷ []) d3 a3 → Merges o xs p d0 d3 a3
   unfolding merged_bytes first bytes
   merged_alone r v f z w = record { is = λ e g h i j. rw (alone (eqb (head (skip xs)) 125) (rw z at f)) (both (both x (y.is e g h i j)) w) }
     where
-      alone : (b : Bool) → cond {A = Option (List ℕ)} b none (some xs) ≡ none → b ≡ true
+      alone : (b : Bool) → cond {A = Option (List ℕ)} b None (Some xs) ≡ None → b ≡ true
       alone true e = refl
       alone false e = absurd (nothing (sym e))
 
-  merged_both : (r : Next) (v : List ℕ) → Ends v r (first 125 xs) → (n : ℕ) → r ≡ At n → {d3 d4 : List ℕ} {a3 a4 : ℕ}
+  merged_both : (r : Option ℕ) (v : List ℕ) → Ends v r (first 125 xs) → (n : ℕ) → r ≡ Some n → {d3 d4 : List ℕ} {a3 a4 : ℕ}
       → Emits d2 a2 (comma (eqb a2 a1)) d3 a3 → Emits d3 a3 xs d4 a4 → Merges o xs p d0 d4 a4
   unfolding merged_bytes first bytes
   merged_both r v f n z w u = record {
@@ -200,7 +196,7 @@ module _ (o : Option (Parts × List ℕ)) (xs : List ℕ) (p : Option (Json × L
         rw (opened (eqb (head (skip xs)) 125) (rw z at f).0, ← (same_flag (kept m ms m.1 js) k)) (rw append_assoc at (both (both (both x k) w) u));
   }
     where
-      opened : (b : Bool) {zs : List ℕ} → cond {A = Option (List ℕ)} b none (some xs) ≡ some zs → b ≡ false
+      opened : (b : Bool) {zs : List ℕ} → cond {A = Option (List ℕ)} b None (Some xs) ≡ Some zs → b ≡ false
       opened true e = absurd (nothing e)
       opened false e = refl
 
@@ -216,7 +212,7 @@ all_of n xs h = rw append-nil at (take_at xs [] n (sym h))
 
 -- the rest of v is a part of it
 pub merged_rest : (o : Option (Parts × List ℕ)) (v : List ℕ) (from : ℕ) (p : Option (Json × List ℕ)) {d0 d1 d2 : List ℕ} {a1 a2 : ℕ} → Emits d0 0 (123 ∷ []) d1 a1
-    → KeepsAll o (object_end (value 7) (drop from v)) p d1 a1 d2 a2 → (r : Next) → Ends v r (first 125 (drop from v)) → (n : ℕ) → r ≡ At n → {d3 d4 : List ℕ} {a3 a4 : ℕ}
+    → KeepsAll o (object_end (value 7) (drop from v)) p d1 a1 d2 a2 → (r : Option ℕ) → Ends v r (first 125 (drop from v)) → (n : ℕ) → r ≡ Some n → {d3 d4 : List ℕ} {a3 a4 : ℕ}
     → Emits d2 a2 (comma (eqb a2 a1)) d3 a3 → Emits d3 a3 (take (length v - from) (drop from v)) d4 a4 → Merges o (drop from v) p d0 d4 a4
 merged_rest o v from p x y r f n z w u =
     merged_both o (drop from v) p x y r v f n z w (rw (all_of (length v - from) (drop from v) (sym (length-drop from v))) at u)

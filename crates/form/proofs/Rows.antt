@@ -1,20 +1,16 @@
 -- Laws of the code that writes the items of an array or a tuple, one for each way through a function. Assumes nothing.
+use Rattle.std.specs.Prelude.{Option, Some, None}
 use Prim.Native.Nat.{ℕ, ◌+◌, ◌-◌, ◌≤◌, ◌<◌}
 use native.Mathlib.Omega.{arith}
 use mathlib.Core.Path.{◌≡◌, refl, sym, ap, ◌∙◌}
 use mathlib.Core.Bool.{Bool, true, false}
 use mathlib.Core.List.{List, [], ◌∷◌, ◌++◌, append_assoc, append-nil}
-use mathlib.Core.Option.{Option, some}
 use lib.ListN.{length, drop, drop_of_length-le}
 use borrow.Author.Tests.{eq-eqb}
-use Rattle.ascii.specs.declared.Next.{Next}
-use Rattle.ascii.specs.declared.Next.TheVariants.{At, Bad}
-use Rattle.ascii.specs.declared.Unsigned as U
-use Rattle.ascii.specs.declared.Unsigned.{Unsigned}
 use Rattle.ascii.specs.Text.{bytes}
 use Rattle.ascii.specs.Bytes.{head, tail, part}
 use Rattle.ascii.specs.Numbers.{unsigned}
-use Rattle.ascii.specs.Clauses.Read.{ReadsUnsigned}
+use Rattle.ascii.specs.Clauses.Read.{ReadsValue}
 use Rattle.ascii.specs.Clauses.Reader.{Left, Ends, rest}
 use Rattle.ascii.proofs.Bytes.{tail_drop}
 use Rattle.json_text.specs.Json.{Json, null, boolean, Items, no_items, item, skip, items, array_end, bare, value, compact, compact_items, more_items}
@@ -62,7 +58,7 @@ listed_end done start is e = rw (e, append-nil)
 -- ## What an array holds
 
 -- a value that fits where an array has to be is one
-array_begins : (j : Json) (f : Items → Verdict) → expect (as_array j) f ≡ fits → {S : Type 0} → ((is : Items) → as_array j ≡ some is → f is ≡ fits → S) → S
+array_begins : (j : Json) (f : Items → Verdict) → expect (as_array j) f ≡ fits → {S : Type 0} → ((is : Items) → as_array j ≡ Some is → f is ≡ fits → S) → S
 unfolding expect as_array
 array_begins null f e g = let n : ◌≡◌ {A = ℕ} 0 1 = cc in absurd (omega arith)
 array_begins (boolean b) f e g = let n : ◌≡◌ {A = ℕ} 0 1 = cc in absurd (omega arith)
@@ -72,21 +68,21 @@ array_begins (Json.array is) f e g = g is refl e
 array_begins (Json.object ms) f e g = let n : ◌≡◌ {A = ℕ} 0 1 = cc in absurd (omega arith)
 
 -- what a kind of value holds, and what is known of it there
-pub has : {A P : Type 0} {o : Option A} {Q : A → Type 0} {a : A} → Tells P o Q → o ≡ some a → {S : Type 0} → (P → Q a → S) → S
+pub has : {A P : Type 0} {o : Option A} {Q : A → Type 0} {a : A} → Tells P o Q → o ≡ Some a → {S : Type 0} → (P → Q a → S) → S
 has (yes b h e q) g f = let z : b ≡ _ = just (sym e ∙ g) in f h (rw z at q)
 has (no h e) g f = absurd (nothing (sym e ∙ g))
 
 -- the items that are read past a '['
-row_array : {S : Type 0} (d : ℕ) (xs : List ℕ) {is : Items} → Row d xs is → ((y : List ℕ) → array_end (value d) xs ≡ some (Json.array is, y) → S) → S
+row_array : {S : Type 0} (d : ℕ) (xs : List ℕ) {is : Items} → Row d xs is → ((y : List ℕ) → array_end (value d) xs ≡ Some (Json.array is, y) → S) → S
 unfolding array_end
 row_array d xs (empty h e) f = f (tail (skip xs)) (rw (eq-eqb _ 93 h, e))
 row_array d xs (full {y = y} h e) f = f y (rw (h, e))
 
-array_row : (d : ℕ) (xs : List ℕ) {is : Items} {y : List ℕ} → array_end (value d) xs ≡ some (Json.array is, y) → Row d xs is
+array_row : (d : ℕ) (xs : List ℕ) {is : Items} {y : List ℕ} → array_end (value d) xs ≡ Some (Json.array is, y) → Row d xs is
 unfolding array_end
 array_row d xs {is} e =
     either (head (skip xs)) 93 _ _ e (λ b k. empty b (sym (same_items (ap (λ p. p.0) (just k))))) λ b k.
-    steps (items (value d) (length xs) xs) _ k λ p g i. full b (g ∙ ap (λ m. some (m, p.1)) (same_items (ap (λ p. p.0) (just i))))
+    steps (items (value d) (length xs) xs) _ k λ p g i. full b (g ∙ ap (λ m. Some (m, p.1)) (same_items (ap (λ p. p.0) (just i))))
   where
     same_items : {a b : Items} → Json.array a ≡ Json.array b → a ≡ b
     same_items e = cc
@@ -103,7 +99,7 @@ item_put o v j q depth start before out after at a end w l g = record {
 -- ## The items of an array
 
 -- of the items that fit one datainfo, those where a walk stands are left, and what stands before them is written
-pub record RowLeft (one : Datainfo) (all : Items) (d : ℕ) (v : List ℕ) (place : Next) (left : ℕ) (start : Bool) (before : List ℕ) (at : ℕ) (out : List ℕ) (a : ℕ) : Type 0 where
+pub record RowLeft (one : Datainfo) (all : Items) (d : ℕ) (v : List ℕ) (place : Option ℕ) (left : ℕ) (start : Bool) (before : List ℕ) (at : ℕ) (out : List ℕ) (a : ℕ) : Type 0 where
   pub is : Items
   pub still : ItemsAt d v left is place
   pub fit : worst_item (λ w. fit one w) is ≡ fits
@@ -111,12 +107,12 @@ pub record RowLeft (one : Datainfo) (all : Items) (d : ℕ) (v : List ℕ) (plac
   pub wrote : Emits before at done out a
   pub whole : compact_items (map_items (λ w. numbered one w) all) ≡ done ++ listed_items start (map_items (λ w. numbered one w) is)
 
-pub record RowAt (o : Option (Datainfo × List ℕ)) (d : ℕ) (v : List ℕ) (p : ℕ) (place : Next) (left : ℕ) (start : Bool) (before : List ℕ) (at : ℕ) (out : List ℕ) (a : ℕ) : Type 0 where
-  pub from : {one : Datainfo} {x : List ℕ} {is : Items} {y : List ℕ} → o ≡ some (one, x) → array_end (value d) (drop (p + 1) v) ≡ some (Json.array is, y)
+pub record RowAt (o : Option (Datainfo × List ℕ)) (d : ℕ) (v : List ℕ) (p : ℕ) (place : Option ℕ) (left : ℕ) (start : Bool) (before : List ℕ) (at : ℕ) (out : List ℕ) (a : ℕ) : Type 0 where
+  pub from : {one : Datainfo} {x : List ℕ} {is : Items} {y : List ℕ} → o ≡ Some (one, x) → array_end (value d) (drop (p + 1) v) ≡ Some (Json.array is, y)
       → worst_item (λ w. fit one w) is ≡ fits → RowLeft one is d v place left start before at out a
 
 pub row_first : (o : Option (Datainfo × List ℕ)) (d : ℕ) (v : List ℕ) (p : ℕ) (out : List ℕ) (at : ℕ) → p < length v → at ≤ 18446744073709551615
-    → (place : Next) → Ends v place (first 93 (drop (p + 1) v)) → RowAt o d v p place (length v - p) true out at out at
+    → (place : Option ℕ) → Ends v place (first 93 (drop (p + 1) v)) → RowAt o d v p place (length v - p) true out at out at
 row_first o d v p out at h n place f = record {
   from = λ {one = one} {is = is} e g w. record {
     is = is;
@@ -137,9 +133,9 @@ row_none : (f : Json → Json) (is : Items) → is ≡ no_items → map_items f 
 unfolding map_items
 row_none f is e = rw e
 
-module _ (o : Option (Datainfo × List ℕ)) (d : ℕ) (v : List ℕ) (p : ℕ) (place : Next) (left : ℕ) (start : Bool) (before : List ℕ) (at : ℕ) (out : List ℕ) (a : ℕ)
+module _ (o : Option (Datainfo × List ℕ)) (d : ℕ) (v : List ℕ) (p : ℕ) (place : Option ℕ) (left : ℕ) (start : Bool) (before : List ℕ) (at : ℕ) (out : List ℕ) (a : ℕ)
     (c : RowAt o d v p place left start before at out a) where
-  pub row_over : place ≡ Bad → FormsItems o (array_end (value d) (drop (p + 1) v)) before at out a
+  pub row_over : place ≡ None → FormsItems o (array_end (value d) (drop (p + 1) v)) before at out a
   row_over z = record {
     is = λ {d = one} e f g. let q = c.from e f g in let m : Json → Json = λ w. numbered one w in
         rw (q.whole, listed_end q.done start (map_items m q.is) (row_none m q.is (items_none q.still z))) q.wrote;
@@ -148,7 +144,7 @@ module _ (o : Option (Datainfo × List ℕ)) (d : ℕ) (v : List ℕ) (p : ℕ) 
   pub row_cut : left ≤ 0 → FormsItems o (array_end (value d) (drop (p + 1) v)) before at out a
   row_cut z = record { is = λ e f g. let h = items_turns (c.from e f g).still in absurd (omega arith) }
 
-  pub row_more : (j : ℕ) → place ≡ At j → (out' : List ℕ) (a' : ℕ) → FormsItem o (value d (drop j v)) start out a out' a' → (next : Next)
+  pub row_more : (j : ℕ) → place ≡ Some j → (out' : List ℕ) (a' : ℕ) → FormsItem o (value d (drop j v)) start out a out' a' → (next : Option ℕ)
       → Ends v next (after_item d (drop j v)) → RowAt o d v p next (left - 1) false before at out' a'
   row_more j z out' a' g next m = record {
     from = λ {one = one} e f n.
@@ -183,13 +179,13 @@ module _ (s : List ℕ) (i levels : ℕ) (v : List ℕ) (p depth : ℕ) {before 
   unfolding head
   array_past e = array_none λ h. let z = h.1 in let n : ◌≡◌ {A = ℕ} 0 91 = rw (drop_of_length-le v e) at z in omega arith
 
-  module _ (q : Next) (k : Ends s q (rest (part 4 (drop i s)))) where
-    pub array_short : q ≡ Bad → Forms (array_at (datainfo_in levels) (drop i s)) (bare depth (drop p v)) before at after end
+  module _ (q : Option ℕ) (k : Ends s q (rest (part 4 (drop i s)))) where
+    pub array_short : q ≡ None → Forms (array_at (datainfo_in levels) (drop i s)) (bare depth (drop p v)) before at after end
     array_short z = record {
       is = λ e f g. array_some (datainfo_in levels) (drop i s) e λ lo hi y' z' d a b c o. absurd (nothing (sym (rw z at k) ∙ limits_part (drop i s) a b));
     }
 
-    pub array_whole : (inner : ℕ) → q ≡ At inner → (out1 : List ℕ) (a1 : ℕ) → Emits before at (91 ∷ []) out1 a1 → (out2 : List ℕ) (a2 : ℕ)
+    pub array_whole : (inner : ℕ) → q ≡ Some inner → (out1 : List ℕ) (a1 : ℕ) → Emits before at (91 ∷ []) out1 a1 → (out2 : List ℕ) (a2 : ℕ)
         → FormsItems (datainfo_in levels (drop inner s)) (array_end (value (depth - 1)) (drop (p + 1) v)) out1 a1 out2 a2 → Emits out2 a2 (93 ∷ []) after end
         → Forms (array_at (datainfo_in levels) (drop i s)) (bare depth (drop p v)) before at after end
     unfolding fit numbered within compact bytes
@@ -203,11 +199,11 @@ module _ (s : List ℕ) (i levels : ℕ) (v : List ℕ) (p depth : ℕ) {before 
 
 -- ## The items of a tuple
 
-pub record ElementsLeft (ds : Elements) (all : Items) (levels : ℕ) (s : List ℕ) (d : ℕ) (v : List ℕ) (place left : ℕ) (item : Next) (start : Bool)
+pub record ElementsLeft (ds : Elements) (all : Items) (levels : ℕ) (s : List ℕ) (d : ℕ) (v : List ℕ) (place left : ℕ) (item : Option ℕ) (start : Bool)
     (before : List ℕ) (at : ℕ) (out : List ℕ) (a : ℕ) : Type 0 where
   pub es : Elements
   pub x : List ℕ
-  pub reads : elements (datainfo_in levels) left (drop place s) ≡ some (es, x)
+  pub reads : elements (datainfo_in levels) left (drop place s) ≡ Some (es, x)
   pub n : ℕ
   pub is : Items
   pub still : ItemsAt d v n is item
@@ -216,19 +212,19 @@ pub record ElementsLeft (ds : Elements) (all : Items) (levels : ℕ) (s : List �
   pub wrote : Emits before at done out a
   pub whole : compact_items (numbered_elements ds all) ≡ done ++ listed_items start (numbered_elements es is)
 
-pub record ElementsAt (s : List ℕ) (i levels d : ℕ) (v : List ℕ) (p place left : ℕ) (item : Next) (start : Bool) (before : List ℕ) (at : ℕ) (out : List ℕ) (a : ℕ) : Type 0 where
-  pub from : {ds : Elements} {x : List ℕ} {is : Items} {y : List ℕ} → tuple_at (datainfo_in levels) (drop i s) ≡ some (tuple ds, x)
-      → array_end (value d) (drop (p + 1) v) ≡ some (Json.array is, y) → elements_fit ds is ≡ fits → ElementsLeft ds is levels s d v place left item start before at out a
+pub record ElementsAt (s : List ℕ) (i levels d : ℕ) (v : List ℕ) (p place left : ℕ) (item : Option ℕ) (start : Bool) (before : List ℕ) (at : ℕ) (out : List ℕ) (a : ℕ) : Type 0 where
+  pub from : {ds : Elements} {x : List ℕ} {is : Items} {y : List ℕ} → tuple_at (datainfo_in levels) (drop i s) ≡ Some (tuple ds, x)
+      → array_end (value d) (drop (p + 1) v) ≡ Some (Json.array is, y) → elements_fit ds is ≡ fits → ElementsLeft ds is levels s d v place left item start before at out a
 
 same_elements : {a b : Elements} → tuple a ≡ tuple b → a ≡ b
 same_elements e = cc
 
-module _ (s : List ℕ) (i levels d : ℕ) (v : List ℕ) (p : ℕ) (u : Unsigned) (k : ReadsUnsigned s u (unsigned 1 (drop i s))) where
-  pub elements_short : u ≡ U.TheVariants.Short → {before after : List ℕ} {at end : ℕ}
+module _ (s : List ℕ) (i levels d : ℕ) (v : List ℕ) (p : ℕ) (u : Option (ℕ × ℕ)) (k : ReadsValue s u (unsigned 1 (drop i s))) where
+  pub elements_short : u ≡ None → {before after : List ℕ} {at end : ℕ}
       → FormsElements (tuple_at (datainfo_in levels) (drop i s)) (array_end (value d) (drop (p + 1) v)) before at after end
   elements_short z = record { is = λ e f g. tuple_some (datainfo_in levels) (drop i s) e λ n r ds a b o. absurd (nothing (sym (rw z at k) ∙ a)) }
 
-  pub elements_first : p < length v → (n place : ℕ) → u ≡ U.TheVariants.Read n place → (out : List ℕ) (at : ℕ) → at ≤ 18446744073709551615 → (item : Next)
+  pub elements_first : p < length v → (n place : ℕ) → u ≡ Some (n, place) → (out : List ℕ) (at : ℕ) → at ≤ 18446744073709551615 → (item : Option ℕ)
       → Ends v item (first 93 (drop (p + 1) v)) → ElementsAt s i levels d v p place n item true out at out at
   elements_first h n place z out at w m f = record {
     from = λ {ds = ds} {is = is} e g q. tuple_some (datainfo_in levels) (drop i s) e λ n' r ds' a b o. record {
@@ -259,9 +255,9 @@ unfolding elements_fit numbered_elements
 tuple_end ds no_items a e = rw a
 tuple_end ds (item v is) a e = let z : wrongType ≡ fits = rw a at e in let n : ◌≡◌ {A = ℕ} 0 1 = cc in absurd (omega arith)
 
-module _ (s : List ℕ) (i levels d : ℕ) (v : List ℕ) (p place left : ℕ) (item : Next) (start : Bool) (before : List ℕ) (at : ℕ) (out : List ℕ) (a : ℕ)
+module _ (s : List ℕ) (i levels d : ℕ) (v : List ℕ) (p place left : ℕ) (item : Option ℕ) (start : Bool) (before : List ℕ) (at : ℕ) (out : List ℕ) (a : ℕ)
     (c : ElementsAt s i levels d v p place left item start before at out a) where
-  pub elements_few : 0 < left → item ≡ Bad → FormsElements (tuple_at (datainfo_in levels) (drop i s)) (array_end (value d) (drop (p + 1) v)) before at out a
+  pub elements_few : 0 < left → item ≡ None → FormsElements (tuple_at (datainfo_in levels) (drop i s)) (array_end (value d) (drop (p + 1) v)) before at out a
   elements_few h z = record {
     is = λ e f g. let q = c.from e f g in elements_some (datainfo_in levels) left (drop place s) h q.reads λ d r es a b w.
         absurd (tuple_less q.es es d q.is w (items_none q.still z) q.fit);
@@ -277,15 +273,15 @@ module _ (s : List ℕ) (i levels d : ℕ) (v : List ℕ) (p place left : ℕ) (
         ) q.wrote;
   }
 
-  module _ (h : 0 < left) (e : Next) (k : Ends s e (rest (datainfo_in levels (drop place s)))) where
-    pub elements_bad : e ≡ Bad → FormsElements (tuple_at (datainfo_in levels) (drop i s)) (array_end (value d) (drop (p + 1) v)) before at out a
+  module _ (h : 0 < left) (e : Option ℕ) (k : Ends s e (rest (datainfo_in levels (drop place s)))) where
+    pub elements_bad : e ≡ None → FormsElements (tuple_at (datainfo_in levels) (drop i s)) (array_end (value d) (drop (p + 1) v)) before at out a
     elements_bad z = record {
       is = λ e f g. let q = c.from e f g in elements_some (datainfo_in levels) left (drop place s) h q.reads λ d y es a b w.
           absurd (nothing (sym (rw z at k) ∙ ap rest a));
     }
 
-    pub elements_more : (j n : ℕ) → item ≡ At j → e ≡ At n → (out' : List ℕ) (a' : ℕ) → FormsItem (datainfo_in levels (drop place s)) (value d (drop j v)) start out a out' a'
-        → (next : Next) → Ends v next (after_item d (drop j v)) → ElementsAt s i levels d v p n (left - 1) next false before at out' a'
+    pub elements_more : (j n : ℕ) → item ≡ Some j → e ≡ Some n → (out' : List ℕ) (a' : ℕ) → FormsItem (datainfo_in levels (drop place s)) (value d (drop j v)) start out a out' a'
+        → (next : Option ℕ) → Ends v next (after_item d (drop j v)) → ElementsAt s i levels d v p n (left - 1) next false before at out' a'
     elements_more j n z o out' a' g next t = record {
       from = λ m w f.
           let r = c.from m w f in

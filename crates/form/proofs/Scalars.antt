@@ -1,9 +1,9 @@
 -- Laws of the code that writes what holds no values: a scalar as it stands, a member's number for its name. Assumes nothing.
+use Rattle.std.specs.Prelude.{Option, Some, None}
 use Prim.Native.Nat.{ℕ, zero, suc, ◌-◌, ◌≤◌}
 use native.Mathlib.Omega.{arith}
 use mathlib.Core.Bool.{Bool, true, false, cond}
 use mathlib.Core.List.{List, [], ◌∷◌, ◌++◌, append_assoc}
-use mathlib.Core.Option.{Option, none, some}
 use mathlib.Core.Path.{◌≡◌, refl, sym, ap, ap₂, ◌∙◌}
 use lib.Dec.{eqb}
 use lib.IntN.{ℤ}
@@ -13,10 +13,6 @@ use borrow.Author.Tests.{eqb-true}
 use mir.Syntax.{w64}
 use mir.Val.{to_z, of_z, SFits}
 use mir.Facts.{to_z-of_z}
-use Rattle.ascii.specs.declared.Next.{Next}
-use Rattle.ascii.specs.declared.Next.TheVariants.{At, Bad}
-use Rattle.ascii.specs.declared.Signed as S
-use Rattle.ascii.specs.declared.Signed.{Signed}
 use Rattle.ascii.specs.Text.{bytes}
 use Rattle.ascii.specs.Bytes.{is_some, head, tail, after}
 use Rattle.ascii.specs.Numbers.{integer}
@@ -67,29 +63,29 @@ scalar_text xs =
     of_case (eqb (head xs) 102) (λ e. of_giving (λ r. boolean false) (word_text (bytes "false") xs) λ r q. q) λ _.
     of_giving (λ r. Json.number (up_to xs r)) (takes_keeps {f = Token.number} number_takes xs) λ r p. rw (p.is, up_to_is)
 
-scalar_is : (xs : List ℕ) {j : Json} {y : List ℕ} → scalar xs ≡ some (j, y) → xs ≡ compact j ++ y
+scalar_is : (xs : List ℕ) {j : Json} {y : List ℕ} → scalar xs ≡ Some (j, y) → xs ≡ compact j ++ y
 scalar_is xs e = of_some (rw e at (scalar_text xs))
 
-rest_some : {A : Type 0} {o : Option (A × List ℕ)} {y : List ℕ} {S : Type 0} → rest o ≡ some y → ((a : A) → o ≡ some (a, y) → S) → S
-rest_some {o = none} e f = absurd (nothing e)
-rest_some {o = some p} e f = f p.0 (ap (λ y. some (p.0, y)) (just e))
+rest_some : {A : Type 0} {o : Option (A × List ℕ)} {y : List ℕ} {S : Type 0} → rest o ≡ Some y → ((a : A) → o ≡ Some (a, y) → S) → S
+rest_some {o = None} e f = absurd (nothing e)
+rest_some {o = Some p} e f = f p.0 (ap (λ y. Some (p.0, y)) (just e))
 
 -- the scalar at p, up to e
-module _ (v : List ℕ) (p : ℕ) (n : Next) (l : Ends v n (rest (scalar (drop p v)))) where
-  pub scalar_bad : n ≡ Bad → {before after : List ℕ} {at end : ℕ} → Copies (scalar (drop p v)) before at after end
+module _ (v : List ℕ) (p : ℕ) (n : Option ℕ) (l : Ends v n (rest (scalar (drop p v)))) where
+  pub scalar_bad : n ≡ None → {before after : List ℕ} {at end : ℕ} → Copies (scalar (drop p v)) before at after end
   scalar_bad z = record { is = λ e. absurd (nothing (sym (rw z at l) ∙ ap rest e)) }
 
-  module _ (e : ℕ) (z : n ≡ At e) (w : p ≤ length v) where
+  module _ (e : ℕ) (z : n ≡ Some e) (w : p ≤ length v) where
     pub scalar_room : p ≤ e
     scalar_room =
-        rest_some (rw z at l).0 λ (j : Json) (h : scalar (drop p v) ≡ some (j, drop e v)).
+        rest_some (rw z at l).0 λ (j : Json) (h : scalar (drop p v) ≡ Some (j, drop e v)).
         omega (arith, simp (length-append, length-drop) at (ap length (scalar_is (drop p v) h)), (rw z at l).1)
 
     pub scalar_copied : {before after : List ℕ} {at end : ℕ} → Emits before at (take (e - p) (drop p v)) after end
         → Copies (scalar (drop p v)) before at after end
     scalar_copied x = record { is = λ f. rw (← (bytes_are f)) x }
       where
-        bytes_are : {j : Json} {y : List ℕ} → scalar (drop p v) ≡ some (j, y) → take (e - p) (drop p v) ≡ compact j
+        bytes_are : {j : Json} {y : List ℕ} → scalar (drop p v) ≡ Some (j, y) → take (e - p) (drop p v) ≡ compact j
         bytes_are {j} {y} f =
             let g = scalar_is (drop p v) f in
             let q : y ≡ drop e v = just (sym (ap rest f) ∙ (rw z at l).0) in
@@ -98,18 +94,18 @@ module _ (v : List ℕ) (p : ℕ) (n : Next) (l : Ends v n (rest (scalar (drop p
 
 -- ## The number of a member
 
-module _ (s : List ℕ) (i : ℕ) (name : List ℕ) (r : Signed) (k : NumberOf (enum_at (drop i s)) name r) {before after : List ℕ} {at end : ℕ} where
-  pub named_none : r ≡ S.TheVariants.Short → PutsNumber (enum_at (drop i s)) name before at after end
+module _ (s : List ℕ) (i : ℕ) (name : List ℕ) (r : Option (ℤ × ℕ)) (k : NumberOf (enum_at (drop i s)) name r) {before after : List ℕ} {at end : ℕ} where
+  pub named_none : r ≡ None → PutsNumber (enum_at (drop i s)) name before at after end
   named_none z = record { is = λ e f. absurd (nothing (sym ((rw z at k).is e) ∙ f)) }
 
-  pub named_number : (v : ℤ) (e : ℕ) → r ≡ S.TheVariants.Read v e → SFits w64 v → Emits before at (integer (to_z w64 (of_z w64 v))) after end
+  pub named_number : (v : ℤ) (e : ℕ) → r ≡ Some (v, e) → SFits w64 v → Emits before at (integer (to_z w64 (of_z w64 v))) after end
       → PutsNumber (enum_at (drop i s)) name before at after end
   named_number v e z h x = record { is = λ {n = n} f g. let q : v ≡ n = just (sym ((rw z at k).is f) ∙ g) in rw (← q) (rw (to_z-of_z h) at x) }
 
 -- ## A value that is neither an array nor an object
 
-pub bare_scalar : (depth : ℕ) (xs : List ℕ) {j : Json} {y : List ℕ} → bare depth xs ≡ some (j, y) → as_array j ≡ none → as_object j ≡ none
-    → scalar xs ≡ some (j, y)
+pub bare_scalar : (depth : ℕ) (xs : List ℕ) {j : Json} {y : List ℕ} → bare depth xs ≡ Some (j, y) → as_array j ≡ None → as_object j ≡ None
+    → scalar xs ≡ Some (j, y)
 unfolding bare
 bare_scalar zero xs e n o = e
 bare_scalar (suc d) xs {j} {y} e n o = Shapes.either (head xs) 91 _ _ e
@@ -118,7 +114,7 @@ bare_scalar (suc d) xs {j} {y} e n o = Shapes.either (head xs) 91 _ _ e
     (λ h k. tells_yes (as_object_lem (shape (suc d) xs e)) (omega arith, h) λ a q r. absurd (nothing (sym o ∙ q))) λ _ k. k
 
 abbrev pub Single : Json → Type 0
-Single j = (as_array j ≡ none) × (as_object j ≡ none)
+Single j = (as_array j ≡ None) × (as_object j ≡ None)
 
 pub number_single : (j : Json) (f : List ℕ → Verdict) → expect (as_number j) f ≡ fits → Single j
 unfolding expect as_number as_array as_object
@@ -132,14 +128,14 @@ number_single (Json.object ms) f e = let n : ◌≡◌ {A = ℕ} 0 1 = cc in abs
 -- ## A member of an enum, by its name or by its number
 
 named_form : (vs : List Variant) (t : List ℕ) {before after : List ℕ} {at end : ℕ}
-    → ((n : ℤ) → member_number vs t ≡ some n → Emits before at (integer n) after end)
+    → ((n : ℤ) → member_number vs t ≡ Some n → Emits before at (integer n) after end)
     → in_range (is_some (member_number vs t)) ≡ fits → Emits before at (compact (exchanged t (member_number vs t))) after end
 unfolding exchanged compact in_range
 named_form vs t {before} {after} {at} {end} h = go (member_number vs t) refl
   where
     go : (o : Option ℤ) → member_number vs t ≡ o → cond (is_some o) fits rangeError ≡ fits → Emits before at (compact (exchanged t o)) after end
-    go none q e = let n : ◌≡◌ {A = ℕ} 0 1 = cc in absurd (omega arith)
-    go (some n) q e = h n q
+    go None q e = let n : ◌≡◌ {A = ℕ} 0 1 = cc in absurd (omega arith)
+    go (Some n) q e = h n q
 
 module _ (s : List ℕ) (i : ℕ) (v : List ℕ) (p b : ℕ) (x : ByteAt v p b) {before after : List ℕ} {at end : ℕ} (depth : ℕ) where
   pub choice_named : b ≡ 34 → (t : List ℕ) → Quoted (drop p v) t → PutsNumber (enum_at (drop i s)) t before at after end

@@ -1,9 +1,9 @@
 -- The numbers of the enums in a datainfo of the table are of four bytes, so their text is within the limits of a number's token. Assumes nothing.
+use Rattle.std.specs.Prelude.{Option, Some, None}
 use Prim.Native.Nat.{ℕ, zero, suc, ◌-◌, ◌^◌, ◌≤◌}
 use native.Mathlib.Omega.{arith}
 use mathlib.Core.Bool.{Bool, true, false, cond}
 use mathlib.Core.List.{List, [], ◌∷◌}
-use mathlib.Core.Option.{Option, none, some}
 use mathlib.Core.Path.{◌≡◌, refl}
 use lib.Dec.{ltb, eqb}
 use lib.IntN.{pos, negsuc}
@@ -54,8 +54,8 @@ twos_short m = go (ltb m (2 ^ 31)) refl
 
 -- whatever was read
 pub anything : {A : Type 0} (o : Option A) → Of (λ a. Unit {0}) o
-anything none = failed
-anything (some a) = gave tt
+anything None = failed
+anything (Some a) = gave tt
 
 number_short : (xs : List ℕ) → Of (λ p. length (integer p.0) ≤ 32) (signed 4 xs)
 unfolding signed
@@ -148,5 +148,5 @@ datainfo_short zero xs = failed
 datainfo_short (suc n) xs = of_bind (anything (unsigned 1 xs)) λ k _. typed_short (datainfo_in n) (datainfo_short n) k.0 k.1
 
 -- a datainfo that was read from the table's bytes
-pub read_short : (n : ℕ) (bs r : List ℕ) (d : Datainfo) → datainfo_in n bs ≡ some (d, r) → Short d
+pub read_short : (n : ℕ) (bs r : List ℕ) (d : Datainfo) → datainfo_in n bs ≡ Some (d, r) → Short d
 read_short n bs r d e = of_some (rw e at (datainfo_short n bs))

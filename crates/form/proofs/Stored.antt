@@ -1,9 +1,9 @@
 -- What is stored is in stored form and fits: in table order, what is read back, and the texts. Assumes nothing.
+use Rattle.std.specs.Prelude.{Option, Some, None}
 use Prim.Native.Nat.{ℕ, ◌+◌, ◌≤◌, ◌<◌}
 use native.Mathlib.Omega.{arith}
 use mathlib.Core.Bool.{Bool, true, false, cond, ◌&&◌, false≢true}
 use mathlib.Core.List.{List, [], ◌∷◌}
-use mathlib.Core.Option.{Option, none, some}
 use mathlib.Core.Path.{◌≡◌, refl, sym, ap, ap₂, ◌∙◌}
 use lib.Dec.{leb}
 use lib.ListN.{length}
@@ -32,7 +32,7 @@ use Rattle.form.proofs.Ordered.{once_among, among_self, once_self, ordered_keys,
 
 -- ## Type 11 at the top level, and any other datainfo
 
-by_top : (P : Datainfo → Type 0) → ((d : Datainfo) → as_partial d ≡ none → P d) → ((ns : List (List ℕ)) (fs : Fields) → P (partial ns fs))
+by_top : (P : Datainfo → Type 0) → ((d : Datainfo) → as_partial d ≡ None → P d) → ((ns : List (List ℕ)) (fs : Fields) → P (partial ns fs))
     → (d : Datainfo) → P d
 unfolding as_partial
 by_top P h g (Datainfo.double lo hi) = h (Datainfo.double lo hi) refl
@@ -47,7 +47,7 @@ by_top P h g (Datainfo.scaled s lo hi) = h (Datainfo.scaled s lo hi) refl
 by_top P h g (Datainfo.blob lo hi) = h (Datainfo.blob lo hi) refl
 by_top P h g (partial ns fs) = g ns fs
 
-pub stored_other : (d : Datainfo) (v : Json) → as_partial d ≡ none → Fit.stored d v ≡ numbered d v
+pub stored_other : (d : Datainfo) (v : Json) → as_partial d ≡ None → Fit.stored d v ≡ numbered d v
 unfolding Fit.stored in_order at_top
 stored_other d v e = rw e
 
@@ -152,10 +152,10 @@ module _ (d : Datainfo) (v : Json) (e : value_verdict d v ≡ fits) where
 
 -- ## Texts
 
-form_back : (d : Datainfo) (v : Json) → Readable 8 v → fit d v ≡ fits → text (compact (Fit.stored d v)) ≡ some (Fit.stored d v)
+form_back : (d : Datainfo) (v : Json) → Readable 8 v → fit d v ≡ fits → text (compact (Fit.stored d v)) ≡ Some (Fit.stored d v)
 form_back d v r f = readable_trees.read_back (Fit.stored d v) (stored_readable 8 d v r f)
 
-numbers_back_lem : (d : Datainfo) (v : Json) → Readable 8 v → text (compact (numbered d v)) ≡ some (numbered d v)
+numbers_back_lem : (d : Datainfo) (v : Json) → Readable 8 v → text (compact (numbered d v)) ≡ Some (numbered d v)
 numbers_back_lem d v r = readable_trees.read_back (numbered d v) (numbered_readable d 8 v r)
 
 -- the form of what is let in is in stored form
@@ -166,13 +166,13 @@ is_stored_lem d v i r e =
 
 module _ (d : Datainfo) (xs : List ℕ) where
   -- a text that fits is a value that fits
-  pub fits_value : {S : Type 0} → is_fit (verdict d xs) ≡ true → ((v : Json) → text xs ≡ some v → fit d v ≡ fits → S) → S
+  pub fits_value : {S : Type 0} → is_fit (verdict d xs) ≡ true → ((v : Json) → text xs ≡ Some v → fit d v ≡ fits → S) → S
   unfolding verdict verdict_of
   fits_value {S} e f = go (text xs) refl e
     where
       go : (o : Option Json) → text xs ≡ o → is_fit (verdict_of d o) ≡ true → S
-      go none q e = let z = fit_is badJSON e in let n : ◌≡◌ {A = ℕ} 0 1 = cc in absurd (omega arith)
-      go (some v) q e = f v q (parts d v (fit_is (value_verdict d v) e)).0
+      go None q e = let z = fit_is badJSON e in let n : ◌≡◌ {A = ℕ} 0 1 = cc in absurd (omega arith)
+      go (Some v) q e = f v q (parts d v (fit_is (value_verdict d v) e)).0
 
   pub fits_text : is_fit (verdict d xs) ≡ true → is_some (text xs) ≡ true
   fits_text e = fits_value e λ v q f. rw q
@@ -183,8 +183,8 @@ module _ (d : Datainfo) (xs : List ℕ) where
   stored i e = go (text xs) refl e
     where
       go : (o : Option Json) → text xs ≡ o → is_fit (verdict_of d o) ≡ true → is_stored d (form_of d o) ≡ true
-      go none q e = let z = fit_is badJSON e in let n : ◌≡◌ {A = ℕ} 0 1 = cc in absurd (omega arith)
-      go (some v) q e = is_stored_lem d v i (readable_trees.of_texts xs v q) (fit_is (value_verdict d v) e)
+      go None q e = let z = fit_is badJSON e in let n : ◌≡◌ {A = ℕ} 0 1 = cc in absurd (omega arith)
+      go (Some v) q e = is_stored_lem d v i (readable_trees.of_texts xs v q) (fit_is (value_verdict d v) e)
 
   -- and at most 256 bytes
   pub stored_short : is_fit (verdict d xs) ≡ true → length (stored_form d xs) ≤ 256
@@ -192,8 +192,8 @@ module _ (d : Datainfo) (xs : List ℕ) where
   stored_short e = go (text xs) e
     where
       go : (o : Option Json) → is_fit (verdict_of d o) ≡ true → length (form_of d o) ≤ 256
-      go none e = omega arith
-      go (some v) e = form_short d v (fit_is (value_verdict d v) e)
+      go None e = omega arith
+      go (Some v) e = form_short d v (fit_is (value_verdict d v) e)
 
   -- so 256 bytes have room for it
   pub form_room : (out : List ℕ) (at : ℕ) → is_fit (verdict d xs) ≡ true → at + 256 ≤ length out → at + length (stored_form d xs) ≤ length out
@@ -215,7 +215,7 @@ module _ (d : Datainfo) (xs : List ℕ) where
     short_stored = rw stored_own at (stored_short stored_fits)
 
     -- its value is what is stored of it
-    module _ (v : Json) (q : text xs ≡ some v) where
+    module _ (v : Json) (q : text xs ≡ Some v) where
       own_verdict : value_verdict d v ≡ fits
       unfolding verdict verdict_of
       own_verdict = fit_is (value_verdict d v) (rw q at stored_fits)
@@ -224,7 +224,7 @@ module _ (d : Datainfo) (xs : List ℕ) where
       unfolding stored_form form_of
       own_value_lem =
           let f : compact (Fit.stored d v) ≡ xs = rw q at stored_own in
-          let b : text xs ≡ some (Fit.stored d v) = rw f at (form_back d v (readable_trees.of_texts xs v q) (parts d v own_verdict).0) in
+          let b : text xs ≡ Some (Fit.stored d v) = rw f at (form_back d v (readable_trees.of_texts xs v q) (parts d v own_verdict).0) in
           cc
 
       -- and its text is compact
@@ -259,13 +259,13 @@ joined_readable n (member k v ms) ks r s = (r.0, r.1, joined_readable n ms ks r.
 
 shown_readable : (shown : Option Json) → ReadableShown shown → ReadableMembers 7 (members_of shown)
 unfolding or_none as_object
-shown_readable none r = tt
-shown_readable (some null) r = tt
-shown_readable (some (Json.boolean b)) r = tt
-shown_readable (some (Json.number t)) r = tt
-shown_readable (some (Json.string s)) r = tt
-shown_readable (some (Json.array is)) r = tt
-shown_readable (some (Json.object ms)) r = r
+shown_readable None r = tt
+shown_readable (Some null) r = tt
+shown_readable (Some (Json.boolean b)) r = tt
+shown_readable (Some (Json.number t)) r = tt
+shown_readable (Some (Json.string s)) r = tt
+shown_readable (Some (Json.array is)) r = tt
+shown_readable (Some (Json.object ms)) r = r
 
 pub completed_readable : (shown : Option Json) (d : Datainfo) (v : Json) → ReadableShown shown → Readable 8 v → Readable 8 (completed shown d v)
 unfolding completed at_top within as_object
@@ -273,13 +273,13 @@ completed_readable shown d v p r = go (as_partial d) v r
   where
     go : (o : Option Parts) (v : Json) → Readable 8 v
         → Readable 8 (at_top o (λ m ms. join_members (keep_members (is_left_out m.0 ms) (members_of shown)) ms) v)
-    go none v r = r
-    go (some m) null r = r
-    go (some m) (Json.boolean b) r = r
-    go (some m) (Json.number t) r = r
-    go (some m) (Json.string s) r = r
-    go (some m) (Json.array is) r = r
-    go (some m) (Json.object ms) r =
+    go None v r = r
+    go (Some m) null r = r
+    go (Some m) (Json.boolean b) r = r
+    go (Some m) (Json.number t) r = r
+    go (Some m) (Json.string s) r = r
+    go (Some m) (Json.array is) r = r
+    go (Some m) (Json.object ms) r =
         joined_readable 7 (keep_members (is_left_out m.0 ms) (members_of shown)) ms
         (kept_readable 7 (is_left_out m.0 ms) (members_of shown) (shown_readable shown p)) r
 
@@ -290,8 +290,8 @@ module _ (shown : Option Json) (d : Datainfo) (xs : List ℕ) where
   change_stored p i e = go (text xs) refl e
     where
       go : (o : Option Json) → text xs ≡ o → is_fit (verdict_of d (completed_of shown d o)) ≡ true → is_stored d (form_of d (completed_of shown d o)) ≡ true
-      go none q e = let z = fit_is badJSON e in let n : ◌≡◌ {A = ℕ} 0 1 = cc in absurd (omega arith)
-      go (some v) q e =
+      go None q e = let z = fit_is badJSON e in let n : ◌≡◌ {A = ℕ} 0 1 = cc in absurd (omega arith)
+      go (Some v) q e =
           is_stored_lem d (completed shown d v) i (completed_readable shown d v p (readable_trees.of_texts xs v q)) (fit_is (value_verdict d (completed shown d v)) e)
 
   pub change_short : is_fit (change_verdict shown d xs) ≡ true → length (change_form shown d xs) ≤ 256
@@ -299,8 +299,8 @@ module _ (shown : Option Json) (d : Datainfo) (xs : List ℕ) where
   change_short e = go (text xs) e
     where
       go : (o : Option Json) → is_fit (verdict_of d (completed_of shown d o)) ≡ true → length (form_of d (completed_of shown d o)) ≤ 256
-      go none e = omega arith
-      go (some v) e = form_short d (completed shown d v) (fit_is (value_verdict d (completed shown d v)) e)
+      go None e = omega arith
+      go (Some v) e = form_short d (completed shown d v) (fit_is (value_verdict d (completed shown d v)) e)
 
   -- of a text that is what the change comes to
   module _ (ys : List ℕ) (e : text ys ≡ completed_of shown d (text xs)) where

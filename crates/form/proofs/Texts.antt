@@ -1,11 +1,11 @@
 -- Laws of the code that judges a text and writes its stored form. Assumes nothing.
+use Rattle.std.specs.Prelude.{Option, Some, None, Result, Err}
 use Prim.Native.Nat.{ℕ, ◌+◌, ◌≤◌}
 use native.Mathlib.Nat.{zero-add}
 use native.Mathlib.Omega.{arith}
 use mathlib.Core.Path.{◌≡◌, refl, sym, ap, ◌∙◌}
 use mathlib.Core.Bool.{Bool, true, false}
 use mathlib.Core.List.{List}
-use mathlib.Core.Option.{Option, none, some}
 use lib.ListN.{length, take, drop}
 use lib.Seq.{sets, sets-eq, take_at}
 use lib.Dec.{leb}
@@ -20,27 +20,27 @@ use Rattle.emit.specs.Clauses.Emitted.{capped}
 use Rattle.fit.specs.Fit as Fit
 use Rattle.fit.specs.Fit.{fits, rangeError, wrongType, badJSON, severity, worse, in_range, fit, form_of, stored_form, value_verdict, verdict_of, verdict, is_fit, is_stored}
 use Rattle.fit.specs.Clauses.Verdict.{meaning, Judges, JudgesText, TellsStored}
-use Rattle.fit.specs.declared.Verdict.{Verdict}
-use Rattle.fit.specs.declared.Verdict.TheVariants.{BadJson}
 use Rattle.fit.proofs.Judged.{worse_fits, same_read}
 use Rattle.fit.proofs.Items.{unspaced}
 use Rattle.form.specs.Clauses.Formed.{FormsText, FormIsLong, FitsAt, PutsForm, TellsOwn}
 use Rattle.form.proofs.Verdicts.{fit_is}
 use Rattle.form.proofs.Stored.{stored_short, fits_value}
 use Rattle.form.proofs.Typed.{text_value}
+use Rattle.fit.specs.declared.Misfit.{Misfit}
+use Rattle.fit.specs.declared.Misfit.TheVariants.{BadJson}
 
 -- ## The verdict
 
 pub told_text : (v : List ℕ) (t : Bool) → t ≡ is_some (text v) → t ≡ true → is_some (text v) ≡ true
 told_text v t g z = sym g ∙ z
 
-pub verdict_bad : (o : Option (Datainfo × List ℕ)) (v : List ℕ) (t : Bool) → t ≡ is_some (text v) → t ≡ false → JudgesText o v BadJson
+pub verdict_bad : (o : Option (Datainfo × List ℕ)) (v : List ℕ) (t : Bool) → t ≡ is_some (text v) → t ≡ false → JudgesText o v (Err BadJson)
 unfolding verdict verdict_of
 verdict_bad o v t g z = record { is = λ e. go _ (text v) (sym g ∙ z) }
   where
     go : (d : Datainfo) (q : Option Json) → is_some q ≡ false → badJSON ≡ verdict_of d q
-    go d none e = refl
-    go d (some j) e = absurd (let z : ◌≡◌ {A = ℕ} 0 1 = cc in omega arith)
+    go d None e = refl
+    go d (Some j) e = absurd (let z : ◌≡◌ {A = ℕ} 0 1 = cc in omega arith)
 
 -- a fault of the value is no lighter than one of its length
 not_lighter : (a : Fit.Verdict) (b : Bool) → is_fit a ≡ false → worse a (in_range b) ≡ a
@@ -62,35 +62,35 @@ capped_short n = go (leb n 256) refl
     go false e = lt-leb (capped n) 256 (omega (arith, leb-false n 256 e))
 
 -- a is how the value of the text fits, as the code judges it
-module _ (o : Option (Datainfo × List ℕ)) (v : List ℕ) (j : is_some (text v) ≡ true) (p : ℕ) (l : Left v p (skip (drop 0 v))) (a : Verdict)
+module _ (o : Option (Datainfo × List ℕ)) (v : List ℕ) (j : is_some (text v) ≡ true) (p : ℕ) (l : Left v p (skip (drop 0 v))) (a : Result Unit Misfit)
     (m : Judges o (bare 8 (drop p v)) a) (t : Bool) (g : t ≡ is_fit (meaning a)) where
-  judged : {d : Datainfo} {x : List ℕ} {w : Json} → o ≡ some (d, x) → text v ≡ some w → meaning a ≡ fit d w
+  judged : {d : Datainfo} {x : List ℕ} {w : Json} → o ≡ Some (d, x) → text v ≡ Some w → meaning a ≡ fit d w
   judged e q = text_value v q λ y i. unspaced 8 v i λ y' i'. m.is e (rw l.is at i')
 
   -- the verdict on its value
-  by_value : (d : Datainfo) (r : Verdict) → ((w : Json) → text v ≡ some w → meaning r ≡ value_verdict d w) → meaning r ≡ verdict d v
+  by_value : (d : Datainfo) (r : Result Unit Misfit) → ((w : Json) → text v ≡ Some w → meaning r ≡ value_verdict d w) → meaning r ≡ verdict d v
   unfolding verdict verdict_of
   by_value d r h = go (text v) refl j
     where
       go : (q : Option Json) → text v ≡ q → is_some q ≡ true → meaning r ≡ verdict_of d q
-      go none e z = absurd (let z : ◌≡◌ {A = ℕ} 0 1 = cc in omega arith)
-      go (some w) e z = h w e
+      go None e z = absurd (let z : ◌≡◌ {A = ℕ} 0 1 = cc in omega arith)
+      go (Some w) e z = h w e
 
   pub value_unfit : t ≡ false → JudgesText o v a
   unfolding value_verdict
   value_unfit z = record {
     is = λ {d = d} e. by_value d a λ w q.
         let f = judged e q in
-        f ∙ sym (not_lighter (fit d w) (leb (length (form_of d (some w))) 256) (ap is_fit (sym f) ∙ sym g ∙ z));
+        f ∙ sym (not_lighter (fit d w) (leb (length (form_of d (Some w))) 256) (ap is_fit (sym f) ∙ sym g ∙ z));
   }
 
-  pub value_fits : t ≡ true → (n : ℕ) → FormIsLong o v n → (r : Verdict) → meaning r ≡ in_range (leb n 256) → JudgesText o v r
+  pub value_fits : t ≡ true → (n : ℕ) → FormIsLong o v n → (r : Result Unit Misfit) → meaning r ≡ in_range (leb n 256) → JudgesText o v r
   unfolding value_verdict stored_form
   value_fits z n h r k = record {
     is = λ {d = d} e. by_value d r λ w q.
         let f : fit d w ≡ fits = sym (judged e q) ∙ fit_is (meaning a) (sym g ∙ z) in
-        let c : n ≡ capped (length (form_of d (some w))) = rw q at (h.is e q f) in
-        k ∙ rw (c, capped_short (length (form_of d (some w))), f, worse_fits (in_range (leb (length (form_of d (some w))) 256)));
+        let c : n ≡ capped (length (form_of d (Some w))) = rw q at (h.is e q f) in
+        k ∙ rw (c, capped_short (length (form_of d (Some w))), f, worse_fits (in_range (leb (length (form_of d (Some w))) 256)));
   }
 
 -- ## The stored form
@@ -98,7 +98,7 @@ module _ (o : Option (Datainfo × List ℕ)) (v : List ℕ) (j : is_some (text v
 module _ (s : List ℕ) (info : ℕ) (xs out : List ℕ) (at : ℕ) (g : FitsAt s info xs) (h : at + 256 ≤ length out) (after : List ℕ) (end : ℕ)
     (x : FormsText (datainfo_in 4 (drop info s)) xs out at after end) where
   -- by the datainfo that is read there
-  form_there : {d : Datainfo} {y : List ℕ} → datainfo_in 4 (drop info s) ≡ some (d, y) → is_fit (verdict d xs) ≡ true → Puts out at (stored_form d xs) after end
+  form_there : {d : Datainfo} {y : List ℕ} → datainfo_in 4 (drop info s) ≡ Some (d, y) → is_fit (verdict d xs) ≡ true → Puts out at (stored_form d xs) after end
   form_there {d} e f =
       let n = stored_short d xs f in
       fits_value d xs f λ w q k. (x.is e q k).puts (omega arith)
@@ -115,7 +115,7 @@ front out bs h = rw (sets-eq bs out 0 (omega arith)) (take_at bs (drop (0 + leng
 
 -- what was written into 256 bytes
 module _ (s : List ℕ) (info : ℕ) (v out after : List ℕ) (n : ℕ) (g : FitsAt s info v) (h : 256 ≤ length out) (x : PutsForm (datainfo_in 4 (drop info s)) v out 0 after n) where
-  written : {d : Datainfo} {y : List ℕ} → datainfo_in 4 (drop info s) ≡ some (d, y) → take n after ≡ stored_form d v
+  written : {d : Datainfo} {y : List ℕ} → datainfo_in 4 (drop info s) ≡ Some (d, y) → take n after ≡ stored_form d v
   written {d} e =
       let p = x.is e in
       let k : n ≡ length (stored_form d v) = p.ends ∙ zero-add (length (stored_form d v)) in
@@ -129,11 +129,11 @@ module _ (s : List ℕ) (info : ℕ) (v out after : List ℕ) (n : ℕ) (g : Fit
 
 -- ## Whether a text is in stored form
 
-pub fits_there : (s : List ℕ) (at : ℕ) (v : List ℕ) (h : ReadableAt s at 4) (a : Verdict) → JudgesText (datainfo_in 4 (drop at s)) v a → (t : Bool)
+pub fits_there : (s : List ℕ) (at : ℕ) (v : List ℕ) (h : ReadableAt s at 4) (a : Result Unit Misfit) → JudgesText (datainfo_in 4 (drop at s)) v a → (t : Bool)
     → t ≡ is_fit (meaning a) → t ≡ true → FitsAt s at v
 fits_there s at v h a m t g z = record { reads = h; fits = ap is_fit (sym (m.is h.is)) ∙ sym g ∙ z }
 
-module _ (o : Option (Datainfo × List ℕ)) (v : List ℕ) (a : Verdict) (m : JudgesText o v a) (t : Bool) (g : t ≡ is_fit (meaning a)) where
+module _ (o : Option (Datainfo × List ℕ)) (v : List ℕ) (a : Result Unit Misfit) (m : JudgesText o v a) (t : Bool) (g : t ≡ is_fit (meaning a)) where
   pub stored_unfit : t ≡ false → TellsStored o v false
   unfolding is_stored
   stored_unfit z = record { is = λ e. rw (← (m.is e), ← g, z) }

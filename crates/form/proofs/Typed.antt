@@ -1,4 +1,5 @@
 -- Laws of a datainfo by its type byte, one for each way through the function that writes a value by it. Assumes nothing.
+use Rattle.std.specs.Prelude.{Option, Some, None}
 use Prim.Native.Nat.{ℕ, zero, suc, ◌-◌}
 use native.Mathlib.Nat.{zero-add}
 use native.Mathlib.Numerals.{sub-one}
@@ -6,13 +7,10 @@ use native.Mathlib.Omega.{arith}
 use mathlib.Core.Path.{◌≡◌, refl, sym, ap, ◌∙◌}
 use mathlib.Core.Bool.{Bool, true, false, cond}
 use mathlib.Core.List.{List}
-use mathlib.Core.Option.{Option, none, some}
 use lib.ListN.{length, drop}
 use lib.Dec.{eqb}
-use Rattle.ascii.specs.declared.Unsigned as U
-use Rattle.ascii.specs.declared.Unsigned.{Unsigned}
 use Rattle.ascii.specs.Numbers.{unsigned, signed}
-use Rattle.ascii.specs.Clauses.Read.{ReadsUnsigned}
+use Rattle.ascii.specs.Clauses.Read.{ReadsValue}
 use Rattle.json_text.specs.Json.{Json, null, boolean, scalar, bare, value, text}
 use Rattle.datainfo.specs.Datainfo.{Datainfo, double, int, bool, string, scaled, blob}
 use Rattle.datainfo.specs.Layout.{limit, double_at, int_at, string_at, enum_at, array_at, tuple_at, scaled_at, blob_at, typed, datainfo_in}
@@ -73,7 +71,7 @@ blob_plain lo hi j e = (string_single j (blob_fit lo hi) e, refl)
 
 -- the type byte k of any other type
 typed_plain : (f : List ℕ → Option (Datainfo × List ℕ)) (k : ℕ) (xs : List ℕ) {d : Datainfo} {x : List ℕ} → (k ≡ 4 → ⊥) → (k ≡ 6 → ⊥) → (k ≡ 7 → ⊥) → (k ≡ 8 → ⊥) → (k ≡ 11 → ⊥)
-    → typed f k xs ≡ some (d, x) → Plain d
+    → typed f k xs ≡ Some (d, x) → Plain d
 unfolding typed double_at int_at string_at scaled_at blob_at
 typed_plain f k xs n4 n6 n7 n8 n11 e =
     either k 1 _ _ e (λ _ e. steps (limit xs) _ e λ p a e. steps (limit p.1) _ e λ q b e. rw (← (ap (λ p. p.0) (just e))) (double_plain p.0 q.0)) λ _ e.
@@ -91,15 +89,15 @@ typed_plain f k xs n4 n6 n7 n8 n11 e =
 -- ## By the type byte
 
 module _ {o : Option (Datainfo × List ℕ)} {q : Option (Json × List ℕ)} {before after : List ℕ} {at end : ℕ} where
-  forms_none : o ≡ none → Forms o q before at after end
+  forms_none : o ≡ None → Forms o q before at after end
   forms_none e = record { is = λ f g h. absurd (nothing (sym e ∙ f)) }
 
   forms_like : {p : Option (Datainfo × List ℕ)} → o ≡ p → Forms p q before at after end → Forms o q before at after end
   forms_like e h = rw e h
 
 -- the type byte b, and what follows it
-pub is_typed : (s : List ℕ) (i levels : ℕ) → (levels ≡ 0 → ⊥) → (u : Unsigned) → ReadsUnsigned s u (unsigned 1 (drop i s)) → (b inner : ℕ)
-    → u ≡ U.TheVariants.Read b inner → datainfo_in levels (drop i s) ≡ typed (datainfo_in (levels - 1)) b (drop inner s)
+pub is_typed : (s : List ℕ) (i levels : ℕ) → (levels ≡ 0 → ⊥) → (u : Option (ℕ × ℕ)) → ReadsValue s u (unsigned 1 (drop i s)) → (b inner : ℕ)
+    → u ≡ Some (b, inner) → datainfo_in levels (drop i s) ≡ typed (datainfo_in (levels - 1)) b (drop inner s)
 unfolding datainfo_in
 is_typed s i levels n u k b inner e = go levels n
   where
@@ -112,16 +110,16 @@ module _ (s : List ℕ) (i levels : ℕ) (q : Option (Json × List ℕ)) {before
   unfolding datainfo_in
   forms_fifth e = forms_none (rw e)
 
-  module _ (n : levels ≡ 0 → ⊥) (u : Unsigned) (k : ReadsUnsigned s u (unsigned 1 (drop i s))) where
-    pub forms_short : u ≡ U.TheVariants.Short → Forms (datainfo_in levels (drop i s)) q before at after end
+  module _ (n : levels ≡ 0 → ⊥) (u : Option (ℕ × ℕ)) (k : ReadsValue s u (unsigned 1 (drop i s))) where
+    pub forms_short : u ≡ None → Forms (datainfo_in levels (drop i s)) q before at after end
     unfolding datainfo_in
     forms_short e = forms_none (go levels n)
       where
-        go : (l : ℕ) → (l ≡ 0 → ⊥) → datainfo_in l (drop i s) ≡ none
+        go : (l : ℕ) → (l ≡ 0 → ⊥) → datainfo_in l (drop i s) ≡ None
         go zero z = absurd (z refl)
         go (suc l) z = simp (rw e at k)
 
-    module _ (b inner : ℕ) (e : u ≡ U.TheVariants.Read b inner) where
+    module _ (b inner : ℕ) (e : u ≡ Some (b, inner)) where
       pub forms_enum : b ≡ 4 → Forms (enum_at (drop inner s)) q before at after end → Forms (datainfo_in levels (drop i s)) q before at after end
       unfolding typed
       forms_enum z h = forms_like (is_typed s i levels n u k b inner e) (rw z h)
@@ -147,8 +145,8 @@ module _ (s : List ℕ) (i levels : ℕ) (q : Option (Json × List ℕ)) {before
       forms_partial z h = forms_like (is_typed s i levels n u k b inner e)
           (rw z (record { is = λ f g x. partial_members (datainfo_in (levels - 1)) (drop inner s) f λ m a o. rw o (h.is a g (rw o at x)) }))
 
-module _ (s : List ℕ) (i levels : ℕ) (v : List ℕ) (p depth : ℕ) {before after : List ℕ} {at end : ℕ} (n : levels ≡ 0 → ⊥) (u : Unsigned)
-    (k : ReadsUnsigned s u (unsigned 1 (drop i s))) (b inner : ℕ) (e : u ≡ U.TheVariants.Read b inner) where
+module _ (s : List ℕ) (i levels : ℕ) (v : List ℕ) (p depth : ℕ) {before after : List ℕ} {at end : ℕ} (n : levels ≡ 0 → ⊥) (u : Option (ℕ × ℕ))
+    (k : ReadsValue s u (unsigned 1 (drop i s))) (b inner : ℕ) (e : u ≡ Some (b, inner)) where
   pub forms_enum_at : b ≡ 4 → ((depth : ℕ) → Forms (enum_at (drop inner s)) (bare depth (drop p v)) before at after end)
       → Forms (datainfo_in levels (drop i s)) (bare depth (drop p v)) before at after end
   forms_enum_at z h = forms_enum s i levels (bare depth (drop p v)) n u k b inner e z (h depth)
@@ -163,12 +161,12 @@ module _ (s : List ℕ) (i levels : ℕ) (v : List ℕ) (p depth : ℕ) {before 
 
 -- ## A whole text
 
-pub text_value : {S : Type 0} (xs : List ℕ) {j : Json} → text xs ≡ some j → ((y : List ℕ) → value 8 xs ≡ some (j, y) → S) → S
+pub text_value : {S : Type 0} (xs : List ℕ) {j : Json} → text xs ≡ Some j → ((y : List ℕ) → value 8 xs ≡ Some (j, y) → S) → S
 unfolding text
 text_value {S} xs {j} e f = steps (value 8 xs) _ e λ p a e. go (eqb (length p.1) 0) p a e
   where
-    go : (b : Bool) (p : Json × List ℕ) → value 8 xs ≡ some p → cond b (some p.0) none ≡ some j → S
-    go true p a e = f p.1 (a ∙ ap (λ j. some (j, p.1)) (just e))
+    go : (b : Bool) (p : Json × List ℕ) → value 8 xs ≡ Some p → cond b (Some p.0) None ≡ Some j → S
+    go true p a e = f p.1 (a ∙ ap (λ j. Some (j, p.1)) (just e))
     go false p a e = absurd (nothing e)
 
 -- a form that is written nowhere is measured

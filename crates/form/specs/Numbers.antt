@@ -1,6 +1,5 @@
 -- Values that have numbers and no names where their datainfo has an enum. Assumes nothing.
-use Rattle.std.specs.Prelude.{Bool, true, ◌&&◌}
-use Rattle.std.proofs.Math.Option.{Option, none, some}
+use Rattle.std.specs.Prelude.{Bool, true, ◌&&◌, Option, Some, None}
 use Rattle.ascii.specs.Bytes.{is_some}
 use Rattle.json_text.specs.Json.{Json, Items, no_items, item, Members}
 use Rattle.datainfo.specs.Datainfo.{Datainfo, double, int, bool, enum, string, array, tuple, struct, scaled, blob, partial, Elements, no_elements, element}
@@ -9,8 +8,8 @@ use Rattle.fit.specs.Fit.{as_number, as_array, as_object, value_at}
 
 -- a test of what a value of one kind holds; any other value passes
 unfoldable pub if_any : {A : Type 0} → Option A → (A → Bool) → Bool
-if_any none p = true
-if_any (some a) p = p a
+if_any None p = true
+if_any (Some a) p = p a
 
 unfoldable pub all_items : (Json → Bool) → Items → Bool
 all_items p no_items = true

@@ -1,6 +1,5 @@
 -- What is proved of stored forms. Assumes nothing.
-use Rattle.std.specs.Prelude.{ℕ, ◌≤◌, true, List, ◌≡◌, length}
-use Rattle.std.proofs.Math.Option.{Option, none, some}
+use Rattle.std.specs.Prelude.{ℕ, ◌≤◌, true, List, ◌≡◌, length, Option, Some, None}
 use Rattle.json_text.specs.Json.{Json, text, compact}
 use Rattle.json_text.specs.Readable.{Readable}
 use Rattle.datainfo.specs.Datainfo.{Datainfo}
@@ -14,19 +13,19 @@ pub record InTable (d : Datainfo) : Type 0 where
   pub levels : ℕ
   pub bytes : List ℕ
   pub left : List ℕ
-  pub read : datainfo_in levels bytes ≡ some (d, left)
+  pub read : datainfo_in levels bytes ≡ Some (d, left)
   pub names : names_good d ≡ true
 
 -- what is shown: nothing, or a value that was read
 abbrev pub ReadableShown : Option Json → Type 0
-ReadableShown none = Unit {0}
-ReadableShown (some v) = Readable 8 v
+ReadableShown None = Unit {0}
+ReadableShown (Some v) = Readable 8 v
 
 -- What is let in is stored in stored form (M-101: with numbers for names; M-113: a top-level type 11 with its members in table order).
 pub record StoredForms : Type 0 where
   -- the text that is stored is read as the very tree; with numbers for names alone, whether the value fits or not
-  pub read_back : (d : Datainfo) (v : Json) → Readable 8 v → fit d v ≡ fits → text (compact (stored d v)) ≡ some (stored d v)
-  pub numbers_back : (d : Datainfo) (v : Json) → Readable 8 v → text (compact (numbered d v)) ≡ some (numbered d v)
+  pub read_back : (d : Datainfo) (v : Json) → Readable 8 v → fit d v ≡ fits → text (compact (stored d v)) ≡ Some (stored d v)
+  pub numbers_back : (d : Datainfo) (v : Json) → Readable 8 v → text (compact (numbered d v)) ≡ Some (numbered d v)
   -- storing it again changes nothing
   pub again : (d : Datainfo) (v : Json) → stored d (stored d v) ≡ stored d v
   -- it fits, and has numbers and no names where the datainfo has enums
@@ -42,5 +41,5 @@ pub record StoredForms : Type 0 where
   -- a text in stored form is its own stored form, is at most 256 bytes, and is a value that storing leaves as it is, with numbers only
   pub own : (d : Datainfo) (xs : List ℕ) → is_stored d xs ≡ true → stored_form d xs ≡ xs
   pub own_short : (d : Datainfo) (xs : List ℕ) → is_stored d xs ≡ true → length xs ≤ 256
-  pub own_value : (d : Datainfo) (xs : List ℕ) → is_stored d xs ≡ true → (v : Json) → text xs ≡ some v → v ≡ stored d v
-  pub own_numbers : (d : Datainfo) (xs : List ℕ) (v : Json) → InTable d → is_stored d xs ≡ true → text xs ≡ some v → numbers_only d v ≡ true
+  pub own_value : (d : Datainfo) (xs : List ℕ) → is_stored d xs ≡ true → (v : Json) → text xs ≡ Some v → v ≡ stored d v
+  pub own_numbers : (d : Datainfo) (xs : List ℕ) (v : Json) → InTable d → is_stored d xs ≡ true → text xs ≡ Some v → numbers_only d v ≡ true

@@ -9,7 +9,7 @@ ghost use Rattle.form.specs.Clauses.Merged.{TellsLeftOut, StaysFirst, KeepsOne, 
 
 use crate::write::put_field;
 use ascii::numbers::unsigned;
-use ascii::{Next, Unsigned, byte};
+use ascii::{byte};
 use datainfo::layout::field_end;
 use datainfo::rules::named_at;
 use emit::{emit, emit_comma};
@@ -78,7 +78,7 @@ fn put_left_out(
     ensures { KeepsAll (members_at (datainfo_in 3) 11 (drop i s.now)) (object_end (value 7) (drop (p + 1) v.now))
         (object_end (value 7) (drop 1 shown.now)) out.old at out.new result }
 {
-    let Unsigned::Read(count, from) = unsigned(s, i, 1) else {
+    let Some((count, from)) = unsigned(s, i, 1) else {
         return at;
     };
     let mut a = at;
@@ -86,7 +86,7 @@ fn put_left_out(
     let mut left = count;
     let mut start = true;
     while 0 < left {
-        let Next::At(e) = field_end(s, field, 3, 11) else {
+        let Some(e) = field_end(s, field, 3, 11) else {
             return a;
         };
         let name = named_at(s, field, 11);
@@ -107,7 +107,7 @@ fn put_merged(out: &mut [u8], s: &[u8], i: usize, shown: &[u8], v: &[u8], p: usi
     let a = emit(out, 0, b"{");
     let b = put_left_out(out, a, s, i, shown, v, p);
     let from = p + 1;
-    let Next::At(_) = first(v, from, b'}') else {
+    let Some(_) = first(v, from, b'}') else {
         return emit(out, b, b"}");
     };
     let c = emit_comma(out, b, b == a);
@@ -135,7 +135,7 @@ pub fn complete(s: &[u8], i: usize, shown: &[u8], v: &[u8], out: &mut [u8]) -> u
     ensures { Completes (datainfo_in 4 (drop i s.now)) shown.now v.now out.old out.new result }
 {
     let p = spaces_end(v, 0);
-    let Unsigned::Read(k, inner) = unsigned(s, i, 1) else {
+    let Some((k, inner)) = unsigned(s, i, 1) else {
         return emit(out, 0, v);
     };
     if k != 11 {

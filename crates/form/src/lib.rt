@@ -14,7 +14,7 @@ pub mod complete;
 pub mod write;
 
 use ascii::names::same;
-use fit::Verdict;
+use fit::Misfit;
 use fit::fit::{fit, is_fit, range_fit};
 use json_text::read::{is_text, spaces_end};
 use limits::{DATAINFO_LEVELS, JSON_LEVELS, PLACE};
@@ -30,7 +30,7 @@ pub fn put_form(table: &[u8], info: usize, out: &mut [u8], at: usize, text: &[u8
 }
 
 // Of a value that fits, more than 256 bytes in stored form are a range fault; another fault is no lighter.
-fn value_verdict(s: &[u8], at: usize, v: &[u8]) -> Verdict
+fn value_verdict(s: &[u8], at: usize, v: &[u8]) -> Result<(), Misfit>
     requires { ReadableAt s.now at 4 × (is_some (text v.now) ≡ true) }
     ensures { JudgesText (datainfo_in 4 (drop at s.now)) v.now result }
 {
@@ -42,14 +42,14 @@ fn value_verdict(s: &[u8], at: usize, v: &[u8]) -> Verdict
 }
 
 // What a text comes to: no JSON is BadJSON.
-pub fn verdict(s: &[u8], at: usize, v: &[u8]) -> Verdict
+pub fn verdict(s: &[u8], at: usize, v: &[u8]) -> Result<(), Misfit>
     requires { ReadableAt s.now at 4 }
     ensures { JudgesText (datainfo_in 4 (drop at s.now)) v.now result }
 {
     if is_text(v) {
         return value_verdict(s, at, v);
     }
-    Verdict::BadJson
+    Err(Misfit::BadJson)
 }
 
 // Whether a text that fits is the stored form of itself. That may be as long and another one: a name in quotes as long as its number.

@@ -11,7 +11,7 @@ ghost use Rattle.form.specs.Clauses.Formed.{FormsField, FormsFields, FormsOrdere
 
 use ascii::names::same;
 use ascii::numbers::unsigned;
-use ascii::{Next, Signed, Unsigned, byte};
+use ascii::{byte};
 use datainfo::layout::{datainfo_end, field_end, named_end, part_end};
 use datainfo::rules::named_at;
 use emit::{emit, emit_comma, emit_integer, emit_key};
@@ -26,7 +26,7 @@ fn put_scalar(out: &mut [u8], at: usize, v: &[u8], p: usize) -> usize
     requires { p ≤ length v.now }
     ensures { Copies (scalar (drop p v.now)) out.old at out.new result }
 {
-    let Next::At(e) = scalar_end(v, p) else {
+    let Some(e) = scalar_end(v, p) else {
         return at;
     };
     emit(out, at, &v[p..e])
@@ -37,7 +37,7 @@ fn put_named(out: &mut [u8], at: usize, s: &[u8], i: usize, name: &[u8]) -> usiz
     requires { i ≤ length s.now }
     ensures { PutsNumber (enum_at (drop i s.now)) name.now out.old at out.new result }
 {
-    let Signed::Read(number, _) = number_of(s, i, name) else {
+    let Some((number, _)) = number_of(s, i, name) else {
         return at;
     };
     emit_integer(out, at, number)
@@ -56,29 +56,29 @@ fn put_choice(out: &mut [u8], at: usize, s: &[u8], i: usize, v: &[u8], p: usize)
 }
 
 // Where the datainfo of the first field of a name is, of a struct past its type byte k.
-fn field_at(s: &[u8], i: usize, levels: usize, k: u8, name: &[u8]) -> Next
+fn field_at(s: &[u8], i: usize, levels: usize, k: u8, name: &[u8]) -> Option<usize>
     requires { i ≤ length s.now }
     ensures { FieldIn (members_at (datainfo_in levels) k (drop i s.now)) s.now levels name.now result }
 {
-    let Unsigned::Read(count, from) = unsigned(s, i, 1) else {
-        return Next::Bad;
+    let Some((count, from)) = unsigned(s, i, 1) else {
+        return None;
     };
     let mut field = from;
     let mut left = count;
     while 0 < left {
-        let Next::At(inner) = named_end(s, field, k) else {
-            return Next::Bad;
+        let Some(inner) = named_end(s, field, k) else {
+            return None;
         };
         if same(named_at(s, field, k), name) {
-            return Next::At(inner);
+            return Some(inner);
         }
-        let Next::At(e) = datainfo_end(s, inner, levels) else {
-            return Next::Bad;
+        let Some(e) = datainfo_end(s, inner, levels) else {
+            return None;
         };
         field = e;
         left -= 1;
     }
-    Next::Bad
+    None
 }
 
 // An item of an array or a tuple, at j, with a comma before it unless it is the first.
@@ -123,7 +123,7 @@ fn put_items(
     let mut left = v.len() - p;
     let mut start = true;
     while 0 < left {
-        let Next::At(j) = item else {
+        let Some(j) = item else {
             return a;
         };
         a = put_item(out, a, s, i, levels, v, j, depth, start);
@@ -155,7 +155,7 @@ fn put_array(
     if v.len() <= p {
         return at;
     }
-    let Next::At(inner) = part_end(s, i, 4) else {
+    let Some(inner) = part_end(s, i, 4) else {
         return at;
     };
     let a = emit(out, at, b"[");
@@ -179,7 +179,7 @@ fn put_elements(
     ensures { FormsElements (tuple_at (datainfo_in levels) (drop i s.now)) (array_end (value depth) (drop (p + 1) v.now))
         out.old at out.new result }
 {
-    let Unsigned::Read(count, from) = unsigned(s, i, 1) else {
+    let Some((count, from)) = unsigned(s, i, 1) else {
         return at;
     };
     let mut a = at;
@@ -188,10 +188,10 @@ fn put_elements(
     let mut item = first(v, p + 1, b']');
     let mut start = true;
     while 0 < left {
-        let Next::At(j) = item else {
+        let Some(j) = item else {
             return a;
         };
-        let Next::At(e) = datainfo_end(s, element, levels) else {
+        let Some(e) = datainfo_end(s, element, levels) else {
             return a;
         };
         a = put_item(out, a, s, element, levels, v, j, depth, start);
@@ -247,10 +247,10 @@ fn put_member(
         out.old at out.new result }
 {
     let name = key_at(v, j);
-    let Next::At(inner) = field_at(s, i, levels, k, name) else {
+    let Some(inner) = field_at(s, i, levels, k, name) else {
         return at;
     };
-    let Next::At(q) = member_value(v, j) else {
+    let Some(q) = member_value(v, j) else {
         return at;
     };
     let a = emit_key(out, at, name);
@@ -279,7 +279,7 @@ fn put_members(
     let mut left = v.len() - p;
     let mut start = true;
     while 0 < left {
-        let Next::At(j) = member else {
+        let Some(j) = member else {
             return a;
         };
         let c = emit_comma(out, a, start);
@@ -336,7 +336,7 @@ fn put_value(
     if levels == 0 {
         return at;
     }
-    let Unsigned::Read(k, inner) = unsigned(s, i, 1) else {
+    let Some((k, inner)) = unsigned(s, i, 1) else {
         return at;
     };
     if k == 4 {
@@ -373,10 +373,10 @@ pub(crate) fn put_field(
     ensures { FormsField (members_at (datainfo_in levels) 11 (drop i s.now)) (object_end (value depth) (drop (p + 1) v.now))
         name.now out.old at out.new result }
 {
-    let Next::At(inner) = field_at(s, i, levels, 11, name) else {
+    let Some(inner) = field_at(s, i, levels, 11, name) else {
         return at;
     };
-    let Next::At(q) = find_key(v, p + 1, depth, name) else {
+    let Some(q) = find_key(v, p + 1, depth, name) else {
         return at;
     };
     let a = emit_key(out, at, name);
@@ -398,7 +398,7 @@ fn put_fields(
     ensures { FormsFields (members_at (datainfo_in levels) 11 (drop i s.now)) (object_end (value depth) (drop (p + 1) v.now))
         out.old at out.new result }
 {
-    let Unsigned::Read(count, from) = unsigned(s, i, 1) else {
+    let Some((count, from)) = unsigned(s, i, 1) else {
         return at;
     };
     let mut a = at;
@@ -406,7 +406,7 @@ fn put_fields(
     let mut left = count;
     let mut start = true;
     while 0 < left {
-        let Next::At(e) = field_end(s, field, levels, 11) else {
+        let Some(e) = field_end(s, field, levels, 11) else {
             return a;
         };
         let c = emit_comma(out, a, start);
@@ -438,7 +438,7 @@ pub fn put_text(s: &[u8], i: usize, out: &mut [u8], at: usize, v: &[u8]) -> usiz
     ensures { FormsText (datainfo_in 4 (drop i s.now)) v.now out.old at out.new result }
 {
     let p = spaces_end(v, 0);
-    let Unsigned::Read(k, inner) = unsigned(s, i, 1) else {
+    let Some((k, inner)) = unsigned(s, i, 1) else {
         return at;
     };
     if k == 11 {

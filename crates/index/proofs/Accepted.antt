@@ -1,12 +1,12 @@
 -- The theorems about an index beside a table that is accepted. Assumes nothing.
+use Rattle.std.specs.Prelude.{Option, Some, None, slice_get}
 use Prim.Native.Nat.{ℕ, suc, ◌+◌, ◌≤◌}
 use native.Mathlib.Omega.{arith}
 use mathlib.Core.Path.{◌≡◌, refl, sym, ap, ap₂, ◌∙◌}
 use mathlib.Core.Bool.{Bool, true, false, cond, ◌&&◌}
 use mathlib.Core.List.{List, [], ◌∷◌, ◌++◌, map}
-use mathlib.Core.Option.{Option, none, some}
 use lib.Dec.{leb, ltb}
-use lib.ListN.{length, take, get_elem?, length-map, length-append}
+use lib.ListN.{length, take, length-map, length-append}
 use lib.Seq.{length-take-le, take_at}
 use borrow.Author.Tests.{leb-true, ltb-false, le-ltb}
 use Rattle.ascii.specs.Bytes.{same, is_some}
@@ -39,8 +39,8 @@ module _ {A B : Type 0} (kind : A → Option B) where
   only_append (x ∷ xs) ys = rw (only_append xs ys) (go (kind x))
     where
       go : (o : Option B) → with_if kind o (only kind xs ++ only kind ys) ≡ with_if kind o (only kind xs) ++ only kind ys
-      go none = refl
-      go (some y) = refl
+      go None = refl
+      go (Some y) = refl
 
 module _ {A : Type 0} (one : Accessible → Option A) where
   only_placed : (n : ℕ) (m : Module) (l : List Accessible) → only (placed_one one) (map (place n m) l) ≡ map (place n m) (only one l)
@@ -49,8 +49,8 @@ module _ {A : Type 0} (one : Accessible → Option A) where
   only_placed n m (x ∷ l) = rw (only_placed n m l) (go (one x))
     where
       go : (o : Option A) → with_if (placed_one one) (placed_as one (place n m x) o) (map (place n m) (only one l)) ≡ map (place n m) (with_if one o (only one l))
-      go none = refl
-      go (some y) = refl
+      go None = refl
+      go (Some y) = refl
 
   placed_only :
       (of : List Accessible → List A) → ((l : List Accessible) → of l ≡ only one l) → (n : ℕ) (ms : List Module)
@@ -81,22 +81,22 @@ module _ (m a : List ℕ) where
   abbrev is_command : Placed Command → Bool
   is_command y = same m y.module_name && same a y.it.name
 
-  parameter_alike : (x : Placed Accessible) (y : Placed Parameter) → placed_one parameter_in x ≡ some y → is_parameter y ≡ is_named m a x
+  parameter_alike : (x : Placed Accessible) (y : Placed Parameter) → placed_one parameter_in x ≡ Some y → is_parameter y ≡ is_named m a x
   unfolding parameter_in accessible_name
   parameter_alike x y e = go x.it refl e
     where
-      go : (b : Accessible) → x.it ≡ b → placed_as parameter_in x (parameter_in b) ≡ some y → is_parameter y ≡ is_named m a x
+      go : (b : Accessible) → x.it ≡ b → placed_as parameter_in x (parameter_in b) ≡ Some y → is_parameter y ≡ is_named m a x
       go (parameter p) z e =
           let q = in_some e in
           ap is_parameter (sym q)
           ∙ ap (λ (b : Accessible). same m x.module_name && same a (accessible_name b)) (sym z)
       go (command c) z e = absurd (never e)
 
-  command_alike : (x : Placed Accessible) (y : Placed Command) → placed_one command_in x ≡ some y → is_command y ≡ is_named m a x
+  command_alike : (x : Placed Accessible) (y : Placed Command) → placed_one command_in x ≡ Some y → is_command y ≡ is_named m a x
   unfolding command_in accessible_name
   command_alike x y e = go x.it refl e
     where
-      go : (b : Accessible) → x.it ≡ b → placed_as command_in x (command_in b) ≡ some y → is_command y ≡ is_named m a x
+      go : (b : Accessible) → x.it ≡ b → placed_as command_in x (command_in b) ≡ Some y → is_command y ≡ is_named m a x
       go (parameter p) z e = absurd (never e)
       go (command c) z e =
           let q = in_some e in
@@ -105,8 +105,8 @@ module _ (m a : List ℕ) where
 
 -- one that has the names is the one that is found
 pub parameter_meant :
-    (t : Table) (m a : List ℕ) → names_good t ≡ true → (n : ℕ) (x : Placed Parameter) → get_elem? (parameters t) n ≡ some x
-    → is_parameter m a x ≡ true → find_parameter t m a ≡ some (n, x)
+    (t : Table) (m a : List ℕ) → names_good t ≡ true → (n : ℕ) (x : Placed Parameter) → slice_get (parameters t) n ≡ Some x
+    → is_parameter m a x ≡ true → find_parameter t m a ≡ Some (n, x)
 unfolding find_parameter parameters accessibles
 parameter_meant t m a h n x =
     let e = placed_only parameter_in parameters_of parameters_only 0 t.modules in
@@ -115,8 +115,8 @@ parameter_meant t m a h n x =
     (accessibles_unique t m a h) n x)
 
 pub command_meant :
-    (t : Table) (m a : List ℕ) → names_good t ≡ true → (n : ℕ) (x : Placed Command) → get_elem? (commands t) n ≡ some x
-    → is_command m a x ≡ true → find_command t m a ≡ some (n, x)
+    (t : Table) (m a : List ℕ) → names_good t ≡ true → (n : ℕ) (x : Placed Command) → slice_get (commands t) n ≡ Some x
+    → is_command m a x ≡ true → find_command t m a ≡ Some (n, x)
 unfolding find_command commands accessibles
 command_meant t m a h n x =
     let e = placed_only command_in commands_of commands_only 0 t.modules in
@@ -207,7 +207,7 @@ index_size t = filled_length (map start_of (accessibles t))
 
 -- the index of a table serves each of its accessibles
 index_serves :
-    (t : Table) (m a : List ℕ) (k : ℕ × Placed Accessible) → counts_good t ≡ true → names_good t ≡ true → find_accessible t m a ≡ some k
+    (t : Table) (m a : List ℕ) (k : ℕ × Placed Accessible) → counts_good t ≡ true → names_good t ≡ true → find_accessible t m a ≡ Some k
     → Served (is_named m a) (accessibles t) (start_place m a) (index_of t) k
 unfolding find_accessible index_of
 index_serves t m a k h n e =
@@ -226,7 +226,7 @@ sought_index t m a more =
 
 pub present_names_are_quick :
     (t : Table) (m a more : List ℕ) (k : ℕ × Placed Accessible) → counts_good t ≡ true → names_good t ≡ true
-    → find_accessible t m a ≡ some k → Quick t (index_of t ++ more) m a k
+    → find_accessible t m a ≡ Some k → Quick t (index_of t ++ more) m a k
 present_names_are_quick t m a more k h n e =
     let served = index_serves t m a k h n e in
     let is = sought_index t m a more in

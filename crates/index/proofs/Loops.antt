@@ -1,13 +1,13 @@
 -- Laws of the loops that fill an index and search with one, whatever a table is: it has accessibles l, and each starts from a place. Assumes
 -- nothing.
+use Rattle.std.specs.Prelude.{Some, None, slice_get}
 use Prim.Native.Nat.{ℕ, zero, suc, ◌+◌, ◌%◌, ◌≤◌, ◌<◌}
 use native.Mathlib.Numerals.{add-one}
 use native.Mathlib.Omega.{arith}
 use mathlib.Core.Path.{◌≡◌, refl, sym, ap, ◌∙◌}
 use mathlib.Core.Bool.{Bool, true, false, cond}
 use mathlib.Core.List.{List, [], ◌∷◌, map}
-use mathlib.Core.Option.{none, some}
-use lib.ListN.{length, get_or, drop, get_elem?, length-set}
+use lib.ListN.{length, get_or, drop, length-set}
 use Rattle.index.specs.Index.{is_free, empty, around, place_from, entered, filled_from, filled}
 use Rattle.index.specs.Search.{Sought, ended, later, or_later, offered, looked, walked_from, walked}
 use Rattle.index.proofs.Around.{is_free_lem, not_free}
@@ -17,12 +17,12 @@ use Rattle.table.proofs.Whole.{never}
 
 module _ {A : Type 0} where
   -- the element at a number, and those after it
-  drop_there : (l : List A) (i : ℕ) (x : A) → get_elem? l i ≡ some x → drop i l ≡ x ∷ drop (i + 1) l
+  drop_there : (l : List A) (i : ℕ) (x : A) → slice_get l i ≡ Some x → drop i l ≡ x ∷ drop (i + 1) l
   drop_there [] i x e = absurd (never e)
   drop_there (y ∷ l) zero x e = ap (λ (z : A). z ∷ l) (in_some e)
   drop_there (y ∷ l) (suc i) x e = drop_there l i x e ∙ rw (add-one, add-one)
 
-  drop_past : (l : List A) (i : ℕ) → get_elem? l i ≡ none → drop i l ≡ []
+  drop_past : (l : List A) (i : ℕ) → slice_get l i ≡ None → drop i l ≡ []
   drop_past [] zero e = refl
   drop_past [] (suc i) e = refl
   drop_past (y ∷ l) zero e = absurd (never (sym e))
@@ -48,7 +48,7 @@ module _ {A : Type 0} (start_of : A → ℕ) (l : List A) where
   filling_start xs h e = record { size = h; rest = rw e }
 
   module _ (k : ℕ) (xs : List ℕ) (a : Filling k xs) where
-    pub filling_more : (x : A) → get_elem? l k ≡ some x → (ys : List ℕ) → ys ≡ entered (start_of x) k xs → Filling (k + 1) ys
+    pub filling_more : (x : A) → slice_get l k ≡ Some x → (ys : List ℕ) → ys ≡ entered (start_of x) k xs → Filling (k + 1) ys
     unfolding filled_from entered
     filling_more x e ys z =
         record {
@@ -56,7 +56,7 @@ module _ {A : Type 0} (start_of : A → ℕ) (l : List A) where
           rest = a.rest ∙ rw (drop_there l k x e, add-one, z);
         }
 
-    pub filling_end : get_elem? l k ≡ none → xs ≡ filled (map start_of l)
+    pub filling_end : slice_get l k ≡ None → xs ≡ filled (map start_of l)
     unfolding filled_from
     filling_end e = sym (a.rest ∙ rw (drop_past l k e))
 
@@ -74,27 +74,27 @@ module _ {A : Type 0} (p : A → Bool) (l : List A) (xs : List ℕ) (start : ℕ
   module _ (n q : ℕ) (a : Looking n q) where
     here :
         n < 128 → looked p l (around start xs)
-        ≡ later n (cond (is_free (get_or xs q 0)) (ended none) (or_later (offered p l (get_or xs q 0)) (looked p l (drop (n + 1) (around start xs)))))
+        ≡ later n (cond (is_free (get_or xs q 0)) (ended None) (or_later (offered p l (get_or xs q 0)) (looked p l (drop (n + 1) (around start xs)))))
     unfolding looked
     here h = a.rest ∙ ap (λ (ys : List ℕ). later n (looked p l ys)) (at_drop xs start n q a.at h)
 
-    pub looking_free : n < 128 → get_or xs q 0 ≡ 255 → looked p l (around start xs) ≡ record { found = none; steps = n + 1 }
+    pub looking_free : n < 128 → get_or xs q 0 ≡ 255 → looked p l (around start xs) ≡ record { found = None; steps = n + 1 }
     looking_free h e = here h ∙ rw (is_free_lem (get_or xs q 0) e)
 
     module _ (h : n < 128) (u : get_or xs q 0 ≡ 255 → ⊥) where
-      pub looking_found : (k : ℕ × A) → offered p l (get_or xs q 0) ≡ some k → looked p l (around start xs) ≡ record { found = some k; steps = n + 1 }
+      pub looking_found : (k : ℕ × A) → offered p l (get_or xs q 0) ≡ Some k → looked p l (around start xs) ≡ record { found = Some k; steps = n + 1 }
       looking_found k e = here h ∙ rw (not_free (get_or xs q 0) u, e)
 
-      pub looking_more : offered p l (get_or xs q 0) ≡ none → Looking (n + 1) ((q + 1) % 128)
+      pub looking_more : offered p l (get_or xs q 0) ≡ None → Looking (n + 1) ((q + 1) % 128)
       looking_more e =
           record {
             at = at_next xs start n q a.at h;
             rest = here h ∙ rw (not_free (get_or xs q 0) u, e) (later_step n _);
           }
 
-    pub looking_end : 128 ≤ n → looked p l (around start xs) ≡ record { found = none; steps = n }
+    pub looking_end : 128 ≤ n → looked p l (around start xs) ≡ record { found = None; steps = n }
     unfolding looked
-    looking_end h = a.rest ∙ rw (at_end xs start n q a.at h) (ap (λ (k : ℕ). record { found = none; steps = k }) (omega arith))
+    looking_end h = a.rest ∙ rw (at_end xs start n q a.at h) (ap (λ (k : ℕ). record { found = None; steps = k }) (omega arith))
 
 -- ## Walking over the accessibles
 
@@ -108,17 +108,17 @@ module _ {A : Type 0} (p : A → Bool) (l : List A) where
   walking_start = record { rest = later_none (walked_from p 0 l) }
 
   module _ (n : ℕ) (a : Walking n) where
-    module _ (x : A) (e : get_elem? l n ≡ some x) where
-      there : walked p l ≡ later n (cond (p x) (ended (some (n, x))) (later 1 (walked_from p (suc n) (drop (n + 1) l))))
+    module _ (x : A) (e : slice_get l n ≡ Some x) where
+      there : walked p l ≡ later n (cond (p x) (ended (Some (n, x))) (later 1 (walked_from p (suc n) (drop (n + 1) l))))
       unfolding walked_from
       there = a.rest ∙ ap (λ (ys : List A). later n (walked_from p n ys)) (drop_there l n x e)
 
-      pub walking_found : p x ≡ true → walked p l ≡ record { found = some (n, x); steps = n + 1 }
+      pub walking_found : p x ≡ true → walked p l ≡ record { found = Some (n, x); steps = n + 1 }
       walking_found h = there ∙ rw h
 
       pub walking_more : p x ≡ false → Walking (n + 1)
       walking_more h = record { rest = there ∙ rw h (later_step n _ ∙ rw (← (add-one n))) }
 
-    pub walking_end : get_elem? l n ≡ none → walked p l ≡ record { found = none; steps = n }
+    pub walking_end : slice_get l n ≡ None → walked p l ≡ record { found = None; steps = n }
     unfolding walked_from
-    walking_end e = a.rest ∙ rw (drop_past l n e) (ap (λ (k : ℕ). record { found = none; steps = k }) (omega arith))
+    walking_end e = a.rest ∙ rw (drop_past l n e) (ap (λ (k : ℕ). record { found = None; steps = k }) (omega arith))

@@ -1,11 +1,11 @@
 -- Laws of searches: what is found, and in how many steps. Assumes nothing.
+use Rattle.std.specs.Prelude.{Option, Some, None, slice_get}
 use Prim.Native.Nat.{ℕ, zero, suc, ◌+◌, ◌≤◌, ◌<◌}
 use native.Mathlib.Omega.{arith}
 use mathlib.Core.Path.{◌≡◌, refl, sym, ap, ap₂, subst, ◌∙◌}
 use mathlib.Core.Bool.{Bool, true, false, cond}
 use mathlib.Core.List.{List, [], ◌∷◌, map}
-use mathlib.Core.Option.{Option, none, some}
-use lib.ListN.{length, get_or, get_elem?, length-map}
+use lib.ListN.{length, get_or, length-map}
 use Rattle.ascii.specs.Bytes.{◌>>=◌, is_some}
 use Rattle.index.specs.Index.{is_free, is_used, around, filled}
 use Rattle.table.specs.Search.{first_from, first}
@@ -18,7 +18,7 @@ use Rattle.index.proofs.Around.{count_around, length_around, not_free, front_few
 use Rattle.index.proofs.Fills.{by_equal, filled_good}
 
 module _ {A : Type 0} where
-  pub there_within : (l : List A) (i : ℕ) (x : A) → get_elem? l i ≡ some x → i < length l
+  pub there_within : (l : List A) (i : ℕ) (x : A) → slice_get l i ≡ Some x → i < length l
   there_within [] i x e = absurd (never e)
   there_within (y ∷ l) zero x e = omega arith
   there_within (y ∷ l) (suc i) x e = let h = there_within l i x e in omega arith
@@ -28,50 +28,50 @@ module _ {A : Type 0} (p : A → Bool) where
 
   -- k, with its number, is one of l and passes
   pub record Meant (l : List A) (k : ℕ × A) : Type 0 where
-    pub there : get_elem? l k.0 ≡ some k.1
+    pub there : slice_get l k.0 ≡ Some k.1
     pub passes : p k.1 ≡ true
 
-  offered_is : (l : List A) (b : ℕ) (x : A) → get_elem? l b ≡ some x → p x ≡ true → offered p l b ≡ some (b, x)
+  offered_is : (l : List A) (b : ℕ) (x : A) → slice_get l b ≡ Some x → p x ≡ true → offered p l b ≡ Some (b, x)
   unfolding offered
   offered_is l b x e h = rw (e, h)
 
-  pub offered_meant : (l : List A) (b : ℕ) (k : ℕ × A) → offered p l b ≡ some k → Meant l k × (k.0 ≡ b)
+  pub offered_meant : (l : List A) (b : ℕ) (k : ℕ × A) → offered p l b ≡ Some k → Meant l k × (k.0 ≡ b)
   unfolding offered
-  offered_meant l b k e = go (get_elem? l b) refl e
+  offered_meant l b k e = go (slice_get l b) refl e
     where
-      go : (o : Option A) → get_elem? l b ≡ o → (o >>= λ x. cond (p x) (some (b, x)) none) ≡ some k → Meant l k × (k.0 ≡ b)
-      go none z e = absurd (never e)
-      go (some x) z e = pick (p x) refl e
+      go : (o : Option A) → slice_get l b ≡ o → (o >>= λ x. cond (p x) (Some (b, x)) None) ≡ Some k → Meant l k × (k.0 ≡ b)
+      go None z e = absurd (never e)
+      go (Some x) z e = pick (p x) refl e
         where
-          pick : (t : Bool) → p x ≡ t → cond t (some (b, x)) none ≡ some k → Meant l k × (k.0 ≡ b)
+          pick : (t : Bool) → p x ≡ t → cond t (Some (b, x)) None ≡ Some k → Meant l k × (k.0 ≡ b)
           pick true h e =
               let q : (b, x) ≡ k = in_some e in
-              let there = subst (λ (y : ℕ × A). get_elem? l y.0 ≡ some y.1) q z in
+              let there = subst (λ (y : ℕ × A). slice_get l y.0 ≡ Some y.1) q z in
               let passes = subst (λ (y : ℕ × A). p y.1 ≡ true) q h in
               (record { there = there; passes = passes }, ap (λ (y : ℕ × A). y.0) (sym q))
           pick false h e = absurd (never e)
 
-  looked_meant : (l : List A) (bs : List ℕ) (k : ℕ × A) → (looked p l bs).found ≡ some k → Meant l k
+  looked_meant : (l : List A) (bs : List ℕ) (k : ℕ × A) → (looked p l bs).found ≡ Some k → Meant l k
   unfolding looked
   looked_meant l [] k e = absurd (never e)
   looked_meant l (b ∷ bs) k e = go (is_free b) e (looked_meant l bs k)
     where
       go :
-          (t : Bool) → (cond t (ended none) (or_later (offered p l b) (looked p l bs))).found ≡ some k
-          → ((looked p l bs).found ≡ some k → Meant l k) → Meant l k
+          (t : Bool) → (cond t (ended None) (or_later (offered p l b) (looked p l bs))).found ≡ Some k
+          → ((looked p l bs).found ≡ Some k → Meant l k) → Meant l k
       go true e f = absurd (never e)
       go false e f = pick (offered p l b) refl e
         where
-          pick : (o : Option (ℕ × A)) → offered p l b ≡ o → (or_later o (looked p l bs)).found ≡ some k → Meant l k
-          pick none z e = f e
-          pick (some y) z e = (offered_meant l b k (z ∙ e)).0
+          pick : (o : Option (ℕ × A)) → offered p l b ≡ o → (or_later o (looked p l bs)).found ≡ Some k → Meant l k
+          pick None z e = f e
+          pick (Some y) z e = (offered_meant l b k (z ∙ e)).0
 
   -- so does one that is found without an index
-  pub first_meant : (l : List A) (k : ℕ × A) → first p l ≡ some k → Meant l k
+  pub first_meant : (l : List A) (k : ℕ × A) → first p l ≡ Some k → Meant l k
   first_meant l k e = record { there = first_there p l k e; passes = first_passes p l k e }
 
   -- where nothing is found, nothing passes
-  first_none : (n : ℕ) (l : List A) (i : ℕ) (x : A) → first_from p n l ≡ none → get_elem? l i ≡ some x → p x ≡ true → ⊥
+  first_none : (n : ℕ) (l : List A) (i : ℕ) (x : A) → first_from p n l ≡ None → slice_get l i ≡ Some x → p x ≡ true → ⊥
   unfolding first_from
   first_none n [] i x e z h = never z
   first_none n (y ∷ l) zero x e z h =
@@ -79,7 +79,7 @@ module _ {A : Type 0} (p : A → Bool) where
       never (sym (rw q at e))
   first_none n (y ∷ l) (suc i) x e z h = go (p y) e (λ d. first_none (suc n) l i x d z h)
     where
-      go : (t : Bool) → cond t (some (n, y)) (first_from p (suc n) l) ≡ none → (first_from p (suc n) l ≡ none → ⊥) → ⊥
+      go : (t : Bool) → cond t (Some (n, y)) (first_from p (suc n) l) ≡ None → (first_from p (suc n) l ≡ None → ⊥) → ⊥
       go true e f = never (sym e)
       go false e f = f e
 
@@ -92,7 +92,7 @@ module _ {A : Type 0} (p : A → Bool) where
     where
       go :
           (t : Bool) → (walked_from p (suc n) l).found ≡ first_from p (suc n) l
-          → (cond t (ended (some (n, x))) (later 1 (walked_from p (suc n) l))).found ≡ cond t (some (n, x)) (first_from p (suc n) l)
+          → (cond t (ended (Some (n, x))) (later 1 (walked_from p (suc n) l))).found ≡ cond t (Some (n, x)) (first_from p (suc n) l)
       go true e = refl
       go false e = e
 
@@ -101,17 +101,17 @@ module _ {A : Type 0} (p : A → Bool) where
   walked_first l = walk_first 0 l
 
   -- one that is meant is what is found without an index
-  pub meant_first : (l : List A) → Unique p l → (k : ℕ × A) → Meant l k → first p l ≡ some k
+  pub meant_first : (l : List A) → Unique p l → (k : ℕ × A) → Meant l k → first p l ≡ Some k
   unfolding first
   meant_first l u k m = go (first p l) refl
     where
-      go : (o : Option (ℕ × A)) → first p l ≡ o → first p l ≡ some k
-      go none e = absurd (first_none 0 l k.0 k.1 e m.there m.passes)
-      go (some j) e =
+      go : (o : Option (ℕ × A)) → first p l ≡ o → first p l ≡ Some k
+      go None e = absurd (first_none 0 l k.0 k.1 e m.there m.passes)
+      go (Some j) e =
           let f = first_meant l j e in
           let n : j.0 ≡ k.0 = u.one j.0 k.0 j.1 k.1 f.there m.there f.passes m.passes in
-          let y : j.1 ≡ k.1 = in_some (sym f.there ∙ ap (get_elem? l) n ∙ m.there) in
-          e ∙ ap₂ (λ (a : ℕ) (b : A). some (a, b)) n y
+          let y : j.1 ≡ k.1 = in_some (sym f.there ∙ ap (slice_get l) n ∙ m.there) in
+          e ∙ ap₂ (λ (a : ℕ) (b : A). Some (a, b)) n y
 
   -- an index, whatever it holds, alters no answer
   pub searched_first : (start : ℕ) (index : List ℕ) (l : List A) → Unique p l → (searched p start index l).found ≡ first p l
@@ -121,8 +121,8 @@ module _ {A : Type 0} (p : A → Bool) where
       go :
           (o : Option (ℕ × A)) → (looked p l (around start index)).found ≡ o
           → (or_else (looked p l (around start index)) (walked_from p 0 l)).found ≡ first_from p 0 l
-      go none e = rw e (walk_first 0 l)
-      go (some k) e = rw e (sym (meant_first l u k (looked_meant l (around start index) k e)))
+      go None e = rw e (walk_first 0 l)
+      go (Some k) e = rw e (sym (meant_first l u k (looked_meant l (around start index) k e)))
 
   -- ## The steps
 
@@ -131,17 +131,17 @@ module _ {A : Type 0} (p : A → Bool) where
   looked_few l [] = omega arith
   looked_few l (b ∷ bs) = go (is_free b) (offered p l b) (looked_few l bs)
     where
-      go : (t : Bool) (o : Option (ℕ × A)) → (looked p l bs).steps ≤ length bs → (cond t (ended none) (or_later o (looked p l bs))).steps ≤ suc (length bs)
+      go : (t : Bool) (o : Option (ℕ × A)) → (looked p l bs).steps ≤ length bs → (cond t (ended None) (or_later o (looked p l bs))).steps ≤ suc (length bs)
       go true o h = omega arith
-      go false none h = omega arith
-      go false (some k) h = omega arith
+      go false None h = omega arith
+      go false (Some k) h = omega arith
 
   walk_few : (n : ℕ) (l : List A) → (walked_from p n l).steps ≤ length l
   unfolding walked_from
   walk_few n [] = omega arith
   walk_few n (x ∷ l) = go (p x) (walk_few (suc n) l)
     where
-      go : (t : Bool) → (walked_from p (suc n) l).steps ≤ length l → (cond t (ended (some (n, x))) (later 1 (walked_from p (suc n) l))).steps ≤ suc (length l)
+      go : (t : Bool) → (walked_from p (suc n) l).steps ≤ length l → (cond t (ended (Some (n, x))) (later 1 (walked_from p (suc n) l))).steps ≤ suc (length l)
       go true h = omega arith
       go false h = omega arith
 
@@ -165,7 +165,7 @@ module _ {A : Type 0} (p : A → Bool) where
 
   -- k is found in its way: the search ends no sooner, since nothing else is meant, and no later
   record Ends (k : ℕ × A) (n : ℕ) (r : Sought A) : Type 0 where
-    pub found : r.found ≡ some k
+    pub found : r.found ≡ Some k
     pub few : r.steps ≤ n
 
   looked_met :
@@ -180,12 +180,12 @@ module _ {A : Type 0} (p : A → Bool) where
       (go (offered p l y) refl (looked_met l u k m ys n (omega arith) e (λ i j. w (suc i) (omega arith))))
     where
       go : (o : Option (ℕ × A)) → offered p l y ≡ o → Ends k (suc n) (looked p l ys) → Ends k (suc (suc n)) (or_later o (looked p l ys))
-      go none z r = let f = r.few in record { found = r.found; few = omega arith }
-      go (some j) z r =
+      go None z r = let f = r.few in record { found = r.found; few = omega arith }
+      go (Some j) z r =
           record { found = sym (meant_first l u j (offered_meant l y j z).0) ∙ meant_first l u k m; few = omega arith }
 
   module _ (start_of : A → ℕ) where
-    start_there : (l : List A) (i : ℕ) (x : A) → get_elem? l i ≡ some x → get_or (map start_of l) i 0 ≡ start_of x
+    start_there : (l : List A) (i : ℕ) (x : A) → slice_get l i ≡ Some x → get_or (map start_of l) i 0 ≡ start_of x
     start_there [] i x e = absurd (never e)
     start_there (y ∷ l) zero x e = ap start_of (in_some e)
     start_there (y ∷ l) (suc i) x e = start_there l i x e
@@ -241,6 +241,6 @@ module _ {A : Type 0} (p : A → Bool) where
 
     -- an accessible that is there is served by the index that is filled from the table
     pub filled_served :
-        (l : List A) → Unique p l → length l ≤ 128 → ((x : A) → start_of x < 128) → (k : ℕ × A) → first p l ≡ some k
+        (l : List A) → Unique p l → length l ≤ 128 → ((x : A) → start_of x < 128) → (k : ℕ × A) → first p l ≡ Some k
         → Served p l (start_of k.1) (filled (map start_of l)) k
     filled_served l u few low k e = served l u few low k (first_meant l k e)

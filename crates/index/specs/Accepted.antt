@@ -1,6 +1,5 @@
 -- What an index is good for, beside a table that is accepted. Assumes nothing.
-use Rattle.std.specs.Prelude.{ℕ, ◌≤◌, true, List, ◌++◌, ◌≡◌}
-use Rattle.std.proofs.Math.Option.{some}
+use Rattle.std.specs.Prelude.{ℕ, ◌≤◌, true, List, ◌++◌, ◌≡◌, Some}
 use Rattle.hash.specs.Hash.{start_place}
 use Rattle.table.specs.Table.{Accessible, Table}
 use Rattle.table.specs.Rules.{counts_good, names_good}
@@ -30,11 +29,11 @@ StepsAreFew = (t : Table) (lent m a : List ℕ) → counts_good t ≡ true → s
 
 -- "at most 64, with no walk, for a present name and an index filled from this table": the search is that among the index's bytes [I-7]
 pub record Quick (t : Table) (lent m a : List ℕ) (k : ℕ × Placed Accessible) : Type 0 where
-  pub found : (sought t lent m a).found ≡ some k
+  pub found : (sought t lent m a).found ≡ Some k
   pub unwalked : sought t lent m a ≡ looked (is_named m a) (accessibles t) (around (start_place m a) (index_of t))
   pub few : seek_steps t lent m a ≤ 64
 
 -- bytes past the 128 make no difference [I-7]
 abbrev pub PresentNamesAreQuick : Type 0
 PresentNamesAreQuick = (t : Table) (m a more : List ℕ) (k : ℕ × Placed Accessible) → counts_good t ≡ true → names_good t ≡ true
-    → find_accessible t m a ≡ some k → Quick t (index_of t ++ more) m a k
+    → find_accessible t m a ≡ Some k → Quick t (index_of t ++ more) m a k

@@ -1,6 +1,5 @@
 -- The accessibles of a table: parameters and commands together, by number and by name. Assumes nothing.
-use Rattle.std.specs.Prelude.{ℕ, Bool, cond, ◌&&◌, List, map, ltb, length, take}
-use Rattle.std.proofs.Math.Option.{Option, none, some}
+use Rattle.std.specs.Prelude.{ℕ, Bool, cond, ◌&&◌, List, map, ltb, length, take, Option, Some, None}
 use Rattle.ascii.specs.Bytes.{same, is_some}
 use Rattle.hash.specs.Hash.{start_place}
 use Rattle.table.specs.Table.{Parameter, Command, Accessible, parameter, command, Table}
@@ -41,18 +40,18 @@ seek_steps t lent m a = cond (is_some (find_module t m)) (sought t lent m a).ste
 
 -- an accessible, as a parameter and as a command
 unfoldable pub parameter_in : Accessible → Option Parameter
-parameter_in (parameter p) = some p
-parameter_in (command c) = none
+parameter_in (parameter p) = Some p
+parameter_in (command c) = None
 
 unfoldable pub command_in : Accessible → Option Command
-command_in (parameter p) = none
-command_in (command c) = some c
+command_in (parameter p) = None
+command_in (command c) = Some c
 
 -- the same of one with its module
 module _ {A : Type 0} (one : Accessible → Option A) where
   abbrev pub placed_as : Placed Accessible → Option A → Option (Placed A)
-  placed_as x none = none
-  placed_as x (some y) = some (record { home = x.home; module_name = x.module_name; it = y })
+  placed_as x None = None
+  placed_as x (Some y) = Some (record { home = x.home; module_name = x.module_name; it = y })
 
   abbrev pub placed_one : Placed Accessible → Option (Placed A)
   placed_one x = placed_as x (one x.it)

@@ -1,7 +1,5 @@
 -- What a filled index is good for. Assumes nothing.
-use Rattle.std.specs.Prelude.{ℕ, ◌≤◌, ◌<◌, Bool, true, List, ◌≡◌, eqb, length, get_or}
-use Rattle.std.proofs.Math.Option.{some}
-use Rattle.std.proofs.Math.ListN.{get_elem?}
+use Rattle.std.specs.Prelude.{ℕ, ◌≤◌, ◌<◌, Bool, true, List, ◌≡◌, eqb, length, get_or, Some, slice_get}
 use Rattle.ascii.specs.Bytes.{count}
 use Rattle.index.specs.Index.{is_used, around, place_from, filled}
 use Rattle.index.specs.Search.{looked, searched}
@@ -39,10 +37,10 @@ FillingNeverOverflows = (ps : List ℕ) (p : ℕ) → Places ps → length ps < 
 module _ {A : Type 0} (p : A → Bool) (l : List A) where
   -- at most one of the accessibles is meant
   pub record Unique : Type 0 where
-    pub one : (i j : ℕ) (x y : A) → get_elem? l i ≡ some x → get_elem? l j ≡ some y → p x ≡ true → p y ≡ true → i ≡ j
+    pub one : (i j : ℕ) (x y : A) → slice_get l i ≡ Some x → slice_get l j ≡ Some y → p x ≡ true → p y ≡ true → i ≡ j
 
   -- The accessible k is found in the index, in at most as many steps as there are accessibles, and there is no walk.
   pub record Served (start : ℕ) (index : List ℕ) (k : ℕ × A) : Type 0 where
-    pub found : (searched p start index l).found ≡ some k
+    pub found : (searched p start index l).found ≡ Some k
     pub unwalked : searched p start index l ≡ looked p l (around start index)
     pub few : (searched p start index l).steps ≤ length l

@@ -1,4 +1,5 @@
 -- Laws of the datainfos that are written, one for each way through a function. Assumes nothing.
+use Rattle.std.specs.Prelude.{Option, Some, None}
 use Prim.Native.Nat.{ℕ, zero, suc, ◌^◌, ◌<◌}
 use mathlib.Core.Path.{◌≡◌, refl, sym, ap, ◌∙◌}
 use mathlib.Core.List.{List, [], ◌++◌, append_assoc}
@@ -12,13 +13,10 @@ use native.Mathlib.Omega.{arith}
 use borrow.Author.Tests.{ne_eqb}
 use Rattle.ascii.specs.Text.{bytes}
 use Rattle.ascii.specs.Numbers.{decimal, integer, unsigned, signed}
-use Rattle.ascii.specs.Clauses.Read.{ReadsUnsigned, ReadsSigned}
-use Rattle.ascii.specs.declared.Unsigned as U
-use Rattle.ascii.specs.declared.Signed as S
+use Rattle.ascii.specs.Clauses.Read.{ReadsValue}
 use Rattle.decimal.specs.Decimal.{Decimal}
 use Rattle.decimal.specs.Clauses.Exact.{decimal as decimal_of}
 use Rattle.json_text.specs.Json.{quoted, compact, compact_members, more_members}
-use Rattle.datainfo.specs.declared.rules.Limit as L
 use Rattle.datainfo.specs.Clauses.Obeyed.{ReadsLimit}
 use Rattle.datainfo.specs.Datainfo.{Datainfo}
 use Rattle.datainfo.specs.Layout.{limit, double_at, int_at, string_at, array_at, scaled_at, blob_at, datainfo_in}
@@ -106,87 +104,87 @@ module _ (m p lo hi : ℤ) (f1 : mag m < 2 ^ hbits w64) (f2 : mag p < 2 ^ hbits 
 
 module _ (s : List ℕ) (i : ℕ) {d0 : List ℕ} {p0 : ℕ} where
   -- a double
-  module _ (q : L.Limit) (h : ReadsLimit s q (limit (drop i s))) where
-    pub double_none : {e : List ℕ} {r : ℕ} → q ≡ L.TheVariants.Short → Says (told datainfo_text (double_at (drop i s))) d0 p0 e r
+  module _ (q : Option (ℤ × ℤ × ℕ)) (h : ReadsLimit s q (limit (drop i s))) where
+    pub double_none : {e : List ℕ} {r : ℕ} → q ≡ None → Says (told datainfo_text (double_at (drop i s))) d0 p0 e r
     unfolding double_at
     double_none z = says_nothing (simp (rw z at h))
 
-    module _ (lo p : ℤ) (j : ℕ) (z : q ≡ L.TheVariants.Read lo p j) (q' : L.Limit) (h' : ReadsLimit s q' (limit (drop j s))) where
-      pub double_one : {e : List ℕ} {r : ℕ} → q' ≡ L.TheVariants.Short → Says (told datainfo_text (double_at (drop i s))) d0 p0 e r
+    module _ (lo p : ℤ) (j : ℕ) (z : q ≡ Some (lo, p, j)) (q' : Option (ℤ × ℤ × ℕ)) (h' : ReadsLimit s q' (limit (drop j s))) where
+      pub double_one : {e : List ℕ} {r : ℕ} → q' ≡ None → Says (told datainfo_text (double_at (drop i s))) d0 p0 e r
       unfolding double_at
       double_one z' = says_nothing (simp ((rw z at h).0, rw z' at h'))
 
-      pub double_told : (hi p' : ℤ) (k : ℕ) → q' ≡ L.TheVariants.Read hi p' k → mag lo < 2 ^ hbits w64 → mag p < 2 ^ hbits w8 → mag hi < 2 ^ hbits w64 → mag p' < 2 ^ hbits w8 → {d1 d2 d3 : List ℕ} {p1 p2 p3 : ℕ} → Emits d0 p0 (bytes "{\"type\":\"double\",\"min\":" ++ decimal_text (to_z w64 (of_z w64 lo)) (to_z w8 (of_z w8 p))) d1 p1 → Emits d1 p1 (bytes ",\"max\":" ++ decimal_text (to_z w64 (of_z w64 hi)) (to_z w8 (of_z w8 p'))) d2 p2 → Emits d2 p2 (bytes "}") d3 p3 → Says (told datainfo_text (double_at (drop i s))) d0 p0 d3 p3
+      pub double_told : (hi p' : ℤ) (k : ℕ) → q' ≡ Some (hi, p', k) → mag lo < 2 ^ hbits w64 → mag p < 2 ^ hbits w8 → mag hi < 2 ^ hbits w64 → mag p' < 2 ^ hbits w8 → {d1 d2 d3 : List ℕ} {p1 p2 p3 : ℕ} → Emits d0 p0 (bytes "{\"type\":\"double\",\"min\":" ++ decimal_text (to_z w64 (of_z w64 lo)) (to_z w8 (of_z w8 p))) d1 p1 → Emits d1 p1 (bytes ",\"max\":" ++ decimal_text (to_z w64 (of_z w64 hi)) (to_z w8 (of_z w8 p'))) d2 p2 → Emits d2 p2 (bytes "}") d3 p3 → Says (told datainfo_text (double_at (drop i s))) d0 p0 d3 p3
       unfolding double_at
       double_told hi p' k z' f1 g1 f2 g2 a b c =
           simp ((rw z at h).0, (rw z' at h').0)
           (says_text refl (double_text (record { whole = lo; power = p }) (record { whole = hi; power = p' }) (rw (handed lo f1, power_back p g1) at a) (rw (handed hi f2, power_back p' g2) at b) c))
 
   -- an int
-  module _ (q : S.Signed) (h : ReadsSigned s q (signed 8 (drop i s))) where
-    pub int_none : {e : List ℕ} {r : ℕ} → q ≡ S.TheVariants.Short → Says (told datainfo_text (int_at (drop i s))) d0 p0 e r
+  module _ (q : Option (ℤ × ℕ)) (h : ReadsValue s q (signed 8 (drop i s))) where
+    pub int_none : {e : List ℕ} {r : ℕ} → q ≡ None → Says (told datainfo_text (int_at (drop i s))) d0 p0 e r
     unfolding int_at
     int_none z = says_nothing (simp (rw z at h))
 
-    module _ (lo : ℤ) (j : ℕ) (z : q ≡ S.TheVariants.Read lo j) (q' : S.Signed) (h' : ReadsSigned s q' (signed 8 (drop j s))) where
-      pub int_one : {e : List ℕ} {r : ℕ} → q' ≡ S.TheVariants.Short → Says (told datainfo_text (int_at (drop i s))) d0 p0 e r
+    module _ (lo : ℤ) (j : ℕ) (z : q ≡ Some (lo, j)) (q' : Option (ℤ × ℕ)) (h' : ReadsValue s q' (signed 8 (drop j s))) where
+      pub int_one : {e : List ℕ} {r : ℕ} → q' ≡ None → Says (told datainfo_text (int_at (drop i s))) d0 p0 e r
       unfolding int_at
       int_one z' = says_nothing (simp ((rw z at h).0, rw z' at h'))
 
-      pub int_told : (hi : ℤ) (k : ℕ) → q' ≡ S.TheVariants.Read hi k → mag lo < 2 ^ hbits w64 → mag hi < 2 ^ hbits w64 → {d1 d2 d3 : List ℕ} {p1 p2 p3 : ℕ} → Emits d0 p0 (bytes "{\"type\":\"int\",\"min\":" ++ integer (to_z w64 (of_z w64 lo))) d1 p1 → Emits d1 p1 (bytes ",\"max\":" ++ integer (to_z w64 (of_z w64 hi))) d2 p2 → Emits d2 p2 (bytes "}") d3 p3 → Says (told datainfo_text (int_at (drop i s))) d0 p0 d3 p3
+      pub int_told : (hi : ℤ) (k : ℕ) → q' ≡ Some (hi, k) → mag lo < 2 ^ hbits w64 → mag hi < 2 ^ hbits w64 → {d1 d2 d3 : List ℕ} {p1 p2 p3 : ℕ} → Emits d0 p0 (bytes "{\"type\":\"int\",\"min\":" ++ integer (to_z w64 (of_z w64 lo))) d1 p1 → Emits d1 p1 (bytes ",\"max\":" ++ integer (to_z w64 (of_z w64 hi))) d2 p2 → Emits d2 p2 (bytes "}") d3 p3 → Says (told datainfo_text (int_at (drop i s))) d0 p0 d3 p3
       unfolding int_at
       int_told hi k z' f1 f2 a b c =
           simp ((rw z at h).0, (rw z' at h').0) (says_text refl (int_text lo hi (rw (handed lo f1) at a) (rw (handed hi f2) at b) c))
 
   -- a scaled
-  module _ (o : L.Limit) (g : ReadsLimit s o (limit (drop i s))) where
-    pub scaled_none : {e : List ℕ} {r : ℕ} → o ≡ L.TheVariants.Short → Says (told datainfo_text (scaled_at (drop i s))) d0 p0 e r
+  module _ (o : Option (ℤ × ℤ × ℕ)) (g : ReadsLimit s o (limit (drop i s))) where
+    pub scaled_none : {e : List ℕ} {r : ℕ} → o ≡ None → Says (told datainfo_text (scaled_at (drop i s))) d0 p0 e r
     unfolding scaled_at
     scaled_none z = says_nothing (simp (rw z at g))
 
-    module _ (m p : ℤ) (n : ℕ) (y : o ≡ L.TheVariants.Read m p n) (q : S.Signed) (h : ReadsSigned s q (signed 8 (drop n s))) where
-      pub scaled_one : {e : List ℕ} {r : ℕ} → q ≡ S.TheVariants.Short → Says (told datainfo_text (scaled_at (drop i s))) d0 p0 e r
+    module _ (m p : ℤ) (n : ℕ) (y : o ≡ Some (m, p, n)) (q : Option (ℤ × ℕ)) (h : ReadsValue s q (signed 8 (drop n s))) where
+      pub scaled_one : {e : List ℕ} {r : ℕ} → q ≡ None → Says (told datainfo_text (scaled_at (drop i s))) d0 p0 e r
       unfolding scaled_at
       scaled_one z = says_nothing (simp ((rw y at g).0, rw z at h))
 
-      module _ (lo : ℤ) (j : ℕ) (z : q ≡ S.TheVariants.Read lo j) (q' : S.Signed) (h' : ReadsSigned s q' (signed 8 (drop j s))) where
-        pub scaled_two : {e : List ℕ} {r : ℕ} → q' ≡ S.TheVariants.Short → Says (told datainfo_text (scaled_at (drop i s))) d0 p0 e r
+      module _ (lo : ℤ) (j : ℕ) (z : q ≡ Some (lo, j)) (q' : Option (ℤ × ℕ)) (h' : ReadsValue s q' (signed 8 (drop j s))) where
+        pub scaled_two : {e : List ℕ} {r : ℕ} → q' ≡ None → Says (told datainfo_text (scaled_at (drop i s))) d0 p0 e r
         unfolding scaled_at
         scaled_two z' = says_nothing (simp ((rw y at g).0, (rw z at h).0, rw z' at h'))
 
-        pub scaled_told : (hi : ℤ) (k : ℕ) → q' ≡ S.TheVariants.Read hi k → mag m < 2 ^ hbits w64 → mag p < 2 ^ hbits w8 → mag lo < 2 ^ hbits w64 → mag hi < 2 ^ hbits w64 → {e : List ℕ} {r : ℕ} → Emits d0 p0 (datainfo_text (Datainfo.scaled (decimal_of (to_z w64 (of_z w64 m)) (to_z w8 (of_z w8 p))) (to_z w64 (of_z w64 lo)) (to_z w64 (of_z w64 hi)))) e r → Says (told datainfo_text (scaled_at (drop i s))) d0 p0 e r
+        pub scaled_told : (hi : ℤ) (k : ℕ) → q' ≡ Some (hi, k) → mag m < 2 ^ hbits w64 → mag p < 2 ^ hbits w8 → mag lo < 2 ^ hbits w64 → mag hi < 2 ^ hbits w64 → {e : List ℕ} {r : ℕ} → Emits d0 p0 (datainfo_text (Datainfo.scaled (decimal_of (to_z w64 (of_z w64 m)) (to_z w8 (of_z w8 p))) (to_z w64 (of_z w64 lo)) (to_z w64 (of_z w64 hi)))) e r → Says (told datainfo_text (scaled_at (drop i s))) d0 p0 e r
         unfolding scaled_at
         scaled_told hi k z' f1 f2 f3 f4 x =
             simp ((rw y at g).0, (rw z at h).0, (rw z' at h').0) (says_text refl (rw (handed m f1, power_back p f2, handed lo f3, handed hi f4) at x))
 
   -- two counts
-  module _ (q : U.Unsigned) (h : ReadsUnsigned s q (unsigned 2 (drop i s))) where
-    pub chars_none : {e : List ℕ} {r : ℕ} → q ≡ U.TheVariants.Short → Says (told datainfo_text (string_at (drop i s))) d0 p0 e r
+  module _ (q : Option (ℕ × ℕ)) (h : ReadsValue s q (unsigned 2 (drop i s))) where
+    pub chars_none : {e : List ℕ} {r : ℕ} → q ≡ None → Says (told datainfo_text (string_at (drop i s))) d0 p0 e r
     unfolding string_at
     chars_none z = says_nothing (simp (rw z at h))
 
-    pub blob_none : {e : List ℕ} {r : ℕ} → q ≡ U.TheVariants.Short → Says (told datainfo_text (blob_at (drop i s))) d0 p0 e r
+    pub blob_none : {e : List ℕ} {r : ℕ} → q ≡ None → Says (told datainfo_text (blob_at (drop i s))) d0 p0 e r
     unfolding blob_at
     blob_none z = says_nothing (simp (rw z at h))
 
-    pub array_none : (l : ℕ) {e : List ℕ} {r : ℕ} → q ≡ U.TheVariants.Short → Says (told datainfo_text (array_at (datainfo_in l) (drop i s))) d0 p0 e r
+    pub array_none : (l : ℕ) {e : List ℕ} {r : ℕ} → q ≡ None → Says (told datainfo_text (array_at (datainfo_in l) (drop i s))) d0 p0 e r
     unfolding array_at
     array_none l z = says_nothing (simp (rw z at h))
 
-    module _ (lo j : ℕ) (z : q ≡ U.TheVariants.Read lo j) (q' : U.Unsigned) (h' : ReadsUnsigned s q' (unsigned 2 (drop j s))) where
-      pub chars_one : {e : List ℕ} {r : ℕ} → q' ≡ U.TheVariants.Short → Says (told datainfo_text (string_at (drop i s))) d0 p0 e r
+    module _ (lo j : ℕ) (z : q ≡ Some (lo, j)) (q' : Option (ℕ × ℕ)) (h' : ReadsValue s q' (unsigned 2 (drop j s))) where
+      pub chars_one : {e : List ℕ} {r : ℕ} → q' ≡ None → Says (told datainfo_text (string_at (drop i s))) d0 p0 e r
       unfolding string_at
       chars_one z' = says_nothing (simp ((rw z at h).0, rw z' at h'))
 
-      pub blob_one : {e : List ℕ} {r : ℕ} → q' ≡ U.TheVariants.Short → Says (told datainfo_text (blob_at (drop i s))) d0 p0 e r
+      pub blob_one : {e : List ℕ} {r : ℕ} → q' ≡ None → Says (told datainfo_text (blob_at (drop i s))) d0 p0 e r
       unfolding blob_at
       blob_one z' = says_nothing (simp ((rw z at h).0, rw z' at h'))
 
-      pub array_one : (l : ℕ) {e : List ℕ} {r : ℕ} → q' ≡ U.TheVariants.Short → Says (told datainfo_text (array_at (datainfo_in l) (drop i s))) d0 p0 e r
+      pub array_one : (l : ℕ) {e : List ℕ} {r : ℕ} → q' ≡ None → Says (told datainfo_text (array_at (datainfo_in l) (drop i s))) d0 p0 e r
       unfolding array_at
       array_one l z' = says_nothing (simp ((rw z at h).0, rw z' at h'))
 
-      module _ (hi k : ℕ) (z' : q' ≡ U.TheVariants.Read hi k) {d1 d2 d3 : List ℕ} {p1 p2 p3 : ℕ} where
+      module _ (hi k : ℕ) (z' : q' ≡ Some (hi, k)) {d1 d2 d3 : List ℕ} {p1 p2 p3 : ℕ} where
         pub chars_told : Emits d0 p0 (bytes "{\"type\":\"string\",\"minchars\":" ++ decimal lo) d1 p1 → Emits d1 p1 (bytes ",\"maxchars\":" ++ decimal hi) d2 p2 → Emits d2 p2 (bytes "}") d3 p3 → Says (told datainfo_text (string_at (drop i s))) d0 p0 d3 p3
         unfolding string_at
         chars_told a b c = simp ((rw z at h).0, (rw z' at h').0) (says_text refl (chars_text lo hi a b c))
@@ -228,9 +226,9 @@ module _ (k : ℕ) {d e : List ℕ} {at r : ℕ} where
   unfolding closing
   closing_other y z x = rw (ne_eqb k 7 y, ne_eqb k 11 z) x
 
-module _ (s : List ℕ) (i : ℕ) {d e : List ℕ} {at r : ℕ} (q : S.Signed) (h : ReadsSigned s q (signed 4 (drop i s))) where
-  pub number_none : q ≡ S.TheVariants.Short → Says (told integer (signed 4 (drop i s))) d at e r
+module _ (s : List ℕ) (i : ℕ) {d e : List ℕ} {at r : ℕ} (q : Option (ℤ × ℕ)) (h : ReadsValue s q (signed 4 (drop i s))) where
+  pub number_none : q ≡ None → Says (told integer (signed 4 (drop i s))) d at e r
   number_none z = says_nothing (simp (rw z at h))
 
-  pub number_told : (v : ℤ) (j : ℕ) → q ≡ S.TheVariants.Read v j → mag v < 2 ^ hbits w64 → Emits d at (integer (to_z w64 (of_z w64 v))) e r → Says (told integer (signed 4 (drop i s))) d at e r
+  pub number_told : (v : ℤ) (j : ℕ) → q ≡ Some (v, j) → mag v < 2 ^ hbits w64 → Emits d at (integer (to_z w64 (of_z w64 v))) e r → Says (told integer (signed 4 (drop i s))) d at e r
   number_told v j z f x = simp (rw z at h).0 (says_text refl (rw (handed v f) at x))

@@ -1,9 +1,9 @@
 -- Laws of the members of a datainfo, whatever its kind: their texts are those of the report, and what they leave. Assumes nothing.
+use Rattle.std.specs.Prelude.{Option, Some, None}
 use Prim.Native.Nat.{ℕ, zero, suc}
 use mathlib.Core.Path.{◌≡◌, refl, ap, ◌∙◌}
 use mathlib.Core.Bool.{Bool, true, false, cond}
 use mathlib.Core.List.{List, [], ◌∷◌, ◌++◌, append_assoc}
-use mathlib.Core.Option.{Option, none, some}
 use lib.Dec.{eqb}
 use lib.IntN.{ℤ}
 use Rattle.ascii.specs.Text.{bytes}
@@ -34,9 +34,9 @@ module _ (inner : List ℕ → Option (Datainfo × List ℕ)) where
   variants_text first zero xs = refl
   variants_text first (suc n) xs = go (counted xs) (variants_text false n)
     where
-      go : (o : Option (List ℕ × List ℕ)) → ((ys : List ℕ) → members_text inner 4 false n ys ≡ told (λ vs. listed false (variant_values vs)) (variants n ys)) → (((o >>= λ q. some ((false, q.0), q.1)) >>= λ (m : (Bool × List ℕ) × List ℕ). told (λ t. quoted m.0.1 ++ bytes ":" ++ t) (told integer (signed 4 m.1))) >>= λ p. told (λ t. comma first ++ p.0 ++ t) (members_text inner 4 false n p.1)) ≡ told (λ vs. listed first (variant_values vs)) (o >>= λ m. signed 4 m.1 >>= λ v. variants n v.1 >>= λ w. some (record { name = m.0; number = v.0 } ∷ w.0, w.1))
-      go none ih = refl
-      go (some m) ih =
+      go : (o : Option (List ℕ × List ℕ)) → ((ys : List ℕ) → members_text inner 4 false n ys ≡ told (λ vs. listed false (variant_values vs)) (variants n ys)) → (((o >>= λ q. Some ((false, q.0), q.1)) >>= λ (m : (Bool × List ℕ) × List ℕ). told (λ t. quoted m.0.1 ++ bytes ":" ++ t) (told integer (signed 4 m.1))) >>= λ p. told (λ t. comma first ++ p.0 ++ t) (members_text inner 4 false n p.1)) ≡ told (λ vs. listed first (variant_values vs)) (o >>= λ m. signed 4 m.1 >>= λ v. variants n v.1 >>= λ w. Some (record { name = m.0; number = v.0 } ∷ w.0, w.1))
+      go None ih = refl
+      go (Some m) ih =
           rw (told_told (λ t. quoted m.0 ++ bytes ":" ++ t) integer (signed 4 m.1))
           (list_step first (λ v. quoted m.0 ++ bytes ":" ++ integer v) (λ vs. listed first (variant_values vs)) (λ vs. listed false (variant_values vs)) (λ v vs. record { name = m.0; number = v } ∷ vs) (λ v vs. variant_same first m.0 v vs) (variants n) (members_text inner 4 false n) ih (signed 4 m.1))
 
@@ -71,9 +71,9 @@ module _ (inner : List ℕ → Option (Datainfo × List ℕ)) where
     where
       go : (o : Option ((Bool × List ℕ) × List ℕ)) → ((ys : List ℕ) → members_text inner k false n ys ≡ told (fields_listed false) (fields inner k n ys))
           → ((o >>= λ m. told (λ t. quoted m.0.1 ++ bytes ":" ++ t) (held_text inner k m.1)) >>= λ p. told (λ t. comma first ++ p.0 ++ t) (members_text inner k false n p.1))
-          ≡ told (fields_listed first) (o >>= λ m. inner m.1 >>= λ v. fields inner k n v.1 >>= λ w. some (joined m.0 v.0 w.0, w.1))
-      go none ih = refl
-      go (some m) ih =
+          ≡ told (fields_listed first) (o >>= λ m. inner m.1 >>= λ v. fields inner k n v.1 >>= λ w. Some (joined m.0 v.0 w.0, w.1))
+      go None ih = refl
+      go (Some m) ih =
           rw (b, told_told (λ t. quoted m.0.1 ++ bytes ":" ++ t) datainfo_text (inner m.1))
           (list_step first (λ d. quoted m.0.1 ++ bytes ":" ++ datainfo_text d) (fields_listed first) (fields_listed false) (joined m.0) (joined_same first m.0) (fields inner k n) (members_text inner k false n) ih (inner m.1))
 
@@ -83,8 +83,8 @@ module _ (inner : List ℕ → Option (Datainfo × List ℕ)) where
   count_members xs = go (unsigned 1 xs)
     where
       go : (o : Option (ℕ × List ℕ)) → (o >>= λ n. members_text inner 11 true n.0 n.1) ≡ told (fields_listed true) (o >>= λ p. fields inner 11 p.0 p.1)
-      go none = refl
-      go (some n) = fields_text 11 refl refl true n.0 n.1
+      go None = refl
+      go (Some n) = fields_text 11 refl refl true n.0 n.1
 
   -- ## A count byte and as many members
 
@@ -112,17 +112,17 @@ module _ (inner : List ℕ → Option (Datainfo × List ℕ)) where
 
   -- members of the kind k, which f reads and g tells, made into a datainfo
   module _ {A : Type 0} (k : ℕ) (f : ℕ → List ℕ → Option (A × List ℕ)) (g : A → List ℕ) (m : A → Datainfo) (are : (n : ℕ) (xs : List ℕ) → members_text inner k true n xs ≡ told g (f n xs)) (same : (a : A) → datainfo_text (m a) ≡ opening k ++ g a ++ closing k) where
-    list_is : (xs : List ℕ) → list_text inner k xs ≡ told datainfo_text (unsigned 1 xs >>= λ n. f n.0 n.1 >>= λ q. some (m q.0, q.1))
+    list_is : (xs : List ℕ) → list_text inner k xs ≡ told datainfo_text (unsigned 1 xs >>= λ n. f n.0 n.1 >>= λ q. Some (m q.0, q.1))
     unfolding list_text count_text
     list_is xs = go (unsigned 1 xs)
       where
-        last : (o : Option (A × List ℕ)) → told (λ t. opening k ++ t ++ closing k) (told g o) ≡ told datainfo_text (o >>= λ q. some (m q.0, q.1))
-        last none = refl
-        last (some q) = rw (same q.0)
+        last : (o : Option (A × List ℕ)) → told (λ t. opening k ++ t ++ closing k) (told g o) ≡ told datainfo_text (o >>= λ q. Some (m q.0, q.1))
+        last None = refl
+        last (Some q) = rw (same q.0)
 
-        go : (o : Option (ℕ × List ℕ)) → told (λ t. opening k ++ t ++ closing k) (o >>= λ n. members_text inner k true n.0 n.1) ≡ told datainfo_text (o >>= λ n. f n.0 n.1 >>= λ q. some (m q.0, q.1))
-        go none = refl
-        go (some n) = rw (are n.0 n.1) (last (f n.0 n.1))
+        go : (o : Option (ℕ × List ℕ)) → told (λ t. opening k ++ t ++ closing k) (o >>= λ n. members_text inner k true n.0 n.1) ≡ told datainfo_text (o >>= λ n. f n.0 n.1 >>= λ q. Some (m q.0, q.1))
+        go None = refl
+        go (Some n) = rw (are n.0 n.1) (last (f n.0 n.1))
 
   pub enum_list : (xs : List ℕ) → list_text inner 4 xs ≡ told datainfo_text (enum_at xs)
   unfolding enum_at
@@ -155,8 +155,8 @@ module _ (inner : List ℕ → Option (Datainfo × List ℕ)) where
   member_rest k xs = go (eqb k 7)
     where
       named : (o : Option ((Bool × List ℕ) × List ℕ)) → rest (o >>= λ n. told (λ t. quoted n.0.1 ++ bytes ":" ++ t) (held_text inner k n.1)) ≡ (rest o >>= after_held inner k)
-      named none = refl
-      named (some n) = rest_told (λ t. quoted n.0.1 ++ bytes ":" ++ t) (held_text inner k n.1) ∙ held_rest k n.1
+      named None = refl
+      named (Some n) = rest_told (λ t. quoted n.0.1 ++ bytes ":" ++ t) (held_text inner k n.1) ∙ held_rest k n.1
 
       go : (b : Bool) → rest (cond b (told datainfo_text (inner xs)) (entry k xs >>= λ n. told (λ t. quoted n.0.1 ++ bytes ":" ++ t) (held_text inner k n.1))) ≡ cond b (rest (inner xs)) (rest (entry k xs) >>= after_held inner k)
       go true = rest_told datainfo_text (inner xs)

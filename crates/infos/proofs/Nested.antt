@@ -1,16 +1,13 @@
 -- Laws of the datainfos that hold others, and of a datainfo by its type byte, one for each way through a function. Assumes nothing.
+use Rattle.std.specs.Prelude.{Option, Some, None, unwrap_or}
 use Prim.Native.Nat.{ℕ, zero, suc, ◌+◌, ◌-◌, ◌≤◌, ◌<◌}
 use native.Mathlib.Numerals.{sub-one}
 use native.Mathlib.Omega.{arith}
 use mathlib.Core.Path.{◌≡◌, refl, sym, ap, ◌∙◌}
 use mathlib.Core.Bool.{Bool, true, false}
 use mathlib.Core.List.{List, [], ◌++◌}
-use mathlib.Core.Option
-use mathlib.Core.Option.{Option, none, some}
 use lib.ListN.{length, get_or, drop}
 use borrow.Author.Tests.{eq-eqb, ne_eqb}
-use Rattle.ascii.specs.declared.Next.{Next}
-use Rattle.ascii.specs.declared.Next.TheVariants.{At, Bad}
 use Rattle.ascii.specs.Text.{bytes}
 use Rattle.ascii.specs.Bytes.{◌>>=◌}
 use Rattle.ascii.specs.Numbers.{integer, signed}
@@ -29,14 +26,14 @@ use Rattle.emit.proofs.Says.{never, says_nothing, says_text, Leads, parts_none, 
 use Rattle.infos.proofs.Lists.{enum_list, tuple_list, struct_list, partial_list, member_rest}
 
 -- past a member's name
-module _ (s : List ℕ) (i k : ℕ) (q : Next) (e : Ends s q (rest (entry k (drop i s)))) where
-  pub name_ends : (j : ℕ) → q ≡ At j → NameEnds s i k j
+module _ (s : List ℕ) (i k : ℕ) (q : Option ℕ) (e : Ends s q (rest (entry k (drop i s)))) where
+  pub name_ends : (j : ℕ) → q ≡ Some j → NameEnds s i k j
   name_ends j z = record { within = (rw z at e).1; is = λ g. go (sym (ap rest g) ∙ (rw z at e).0) }
     where
-      go : {x y : List ℕ} → some x ≡ some y → x ≡ y
+      go : {x y : List ℕ} → Some x ≡ Some y → x ≡ y
       go h = cc
 
-  pub nameless : i ≤ length s → q ≡ Bad → NameEnds s i k i
+  pub nameless : i ≤ length s → q ≡ None → NameEnds s i k i
   nameless w z = record { within = w; is = λ g. absurd (never (sym (rw z at e) ∙ ap rest g)) }
 
 -- ## A member of the kind k
@@ -52,12 +49,12 @@ module _ (s : List ℕ) (i l k : ℕ) {d h : List ℕ} {at r : ℕ} where
     named y = rw (ne_eqb k 7 n7) (go (entry k (drop i s)) refl x)
       where
         held : (name : List ℕ) → Emits d at (quoted name ++ bytes ":") f p → (o : Option (List ℕ × List ℕ)) → Says o f p h r → Says (told (λ t. quoted name ++ bytes ":" ++ t) o) d at h r
-        held name w none y = says_nothing refl
-        held name w (some t) y = says_text refl (both w (y.is refl))
+        held name w None y = says_nothing refl
+        held name w (Some t) y = says_text refl (both w (y.is refl))
 
-        go : (o : Option ((Bool × List ℕ) × List ℕ)) → entry k (drop i s) ≡ o → Emits d at (quoted (Option.get_or (o >>= λ p. some p.0.1) []) ++ bytes ":") f p → Says (o >>= λ n. told (λ t. quoted n.0.1 ++ bytes ":" ++ t) (held_text (datainfo_in l) k n.1)) d at h r
-        go none g w = says_nothing refl
-        go (some n) g w = rw (e.is g) (held n.0.1 w (held_text (datainfo_in l) k (drop j s)) y)
+        go : (o : Option ((Bool × List ℕ) × List ℕ)) → entry k (drop i s) ≡ o → Emits d at (quoted (unwrap_or (o >>= λ p. Some p.0.1) []) ++ bytes ":") f p → Says (o >>= λ n. told (λ t. quoted n.0.1 ++ bytes ":" ++ t) (held_text (datainfo_in l) k n.1)) d at h r
+        go None g w = says_nothing refl
+        go (Some n) g w = rw (e.is g) (held n.0.1 w (held_text (datainfo_in l) k (drop j s)) y)
 
     pub member_variant : k ≡ 4 → Says (told integer (signed 4 (drop j s))) f p h r → Says (member_text (datainfo_in l) k (drop i s)) d at h r
     unfolding held_text
@@ -87,8 +84,8 @@ module _ (s : List ℕ) (i l k : ℕ) {d : List ℕ} {at : ℕ} where
   list_told {e} {f} {h} {p} {q} {r} x y z = go (count_text (datainfo_in l) k (drop i s)) y
     where
       go : (o : Option (List ℕ × List ℕ)) → Says o e p f q → Says (told (λ t. opening k ++ t ++ closing k) o) d at h r
-      go none y = says_nothing refl
-      go (some t) y = says_text refl (both (both x (y.is refl)) z)
+      go None y = says_nothing refl
+      go (Some t) y = says_text refl (both (both x (y.is refl)) z)
 
 members_step : (f : List ℕ → Option (Datainfo × List ℕ)) (k : ℕ) (first : Bool) (n : ℕ) (xs : List ℕ) → 0 < n → members_text f k first n xs ≡ (member_text f k xs >>= λ p. told (λ t. comma first ++ p.0 ++ t) (members_text f k false (n - 1) p.1))
 unfolding members_text
@@ -101,13 +98,13 @@ module _ (s : List ℕ) (l k n j : ℕ) (first : Bool) (o : Option (List ℕ × 
   unfolding members_text
   members_end w h = let z : n ≡ 0 = omega arith in go.says (rw z (says_text refl (nothing d' p h)))
 
-  module _ (w : 0 < n) (q : Next) (e : Ends s q (after_member (datainfo_in l) k (drop j s))) where
-    pub members_bad : q ≡ Bad → {h : List ℕ} {r : ℕ} → Says o d at h r
+  module _ (w : 0 < n) (q : Option ℕ) (e : Ends s q (after_member (datainfo_in l) k (drop j s))) where
+    pub members_bad : q ≡ None → {h : List ℕ} {r : ℕ} → Says o d at h r
     members_bad z =
         go.says
         (says_nothing (rw (members_step (datainfo_in l) k first n (drop j s) w) (parts_none first (member_text (datainfo_in l) k (drop j s)) (members_text (datainfo_in l) k false (n - 1)) (member_rest (datainfo_in l) k (drop j s) ∙ rw z at e))))
 
-    pub members_more : (j' : ℕ) → q ≡ At j' → {f g : List ℕ} {p1 p2 : ℕ} → Emits d' p (comma first) f p1 → Says (member_text (datainfo_in l) k (drop j s)) f p1 g p2 → Leads o d at (to_come s l k false (n - 1) j') g p2
+    pub members_more : (j' : ℕ) → q ≡ Some j' → {f g : List ℕ} {p1 p2 : ℕ} → Emits d' p (comma first) f p1 → Says (member_text (datainfo_in l) k (drop j s)) f p1 g p2 → Leads o d at (to_come s l k false (n - 1) j') g p2
     members_more j' z x y =
         record {
           says = λ u. go.says

@@ -1,20 +1,16 @@
 -- Laws of a parameter's own datainfo: the names of its optional members are told. Assumes nothing.
+use Rattle.std.specs.Prelude.{Option, Some, None}
 use Prim.Native.Nat.{ℕ, ◌-◌, ◌≤◌, ◌<◌}
 use mathlib.Core.Path.{◌≡◌, refl, sym, ap, ◌∙◌}
 use mathlib.Core.Bool.{Bool, true, false, cond}
 use mathlib.Core.List.{List, [], ◌∷◌, ◌++◌, append_assoc, append-nil}
-use mathlib.Core.Option.{Option, none, some, some-injective}
 use lib.ListN.{drop}
 use lib.Dec.{eqb}
 use borrow.Author.Tests.{ne_eqb}
-use Rattle.ascii.specs.declared.Next.{Next}
-use Rattle.ascii.specs.declared.Next.TheVariants.{At, Bad}
-use Rattle.ascii.specs.declared.Unsigned as U
-use Rattle.ascii.specs.declared.Unsigned.{Unsigned}
 use Rattle.ascii.specs.Text.{bytes}
 use Rattle.ascii.specs.Bytes.{◌>>=◌}
 use Rattle.ascii.specs.Numbers.{unsigned}
-use Rattle.ascii.specs.Clauses.Read.{ReadsUnsigned}
+use Rattle.ascii.specs.Clauses.Read.{ReadsValue}
 use Rattle.ascii.specs.Clauses.Reader.{ByteAt, Ends}
 use Rattle.ascii.proofs.Follows.{then_then}
 use Rattle.json_text.specs.Json.{quoted, compact, compact_items, compact_members, more_members}
@@ -31,14 +27,15 @@ use Rattle.emit.proofs.Says.{never, says_nothing, says_text}
 use Rattle.emit.proofs.Listed.{listed, listed_first, listed_items, items_first, items_more}
 use Rattle.infos.specs.Clauses.Texts.{NamesOptional, StaysFirst, datainfo_text, own_text, names_text, opening, count_text}
 use Rattle.infos.proofs.Lists.{count_members}
+use Rattle.std.proofs.lemmas.Option.{same_Some}
 
 -- ## One member
 
 module _ (s : List ℕ) (i b : ℕ) (h : ByteAt s i b) where
-  flag_yes : b ≡ 1 → {a : Bool × List ℕ} {y : List ℕ} → entry 11 (drop i s) ≡ some (a, y) → a.0 ≡ true
+  flag_yes : b ≡ 1 → {a : Bool × List ℕ} {y : List ℕ} → entry 11 (drop i s) ≡ Some (a, y) → a.0 ≡ true
   flag_yes z e = entry_flag (drop i s) e ∙ rw (← h.is, z)
 
-  flag_no : (b ≡ 1 → ⊥) → {a : Bool × List ℕ} {y : List ℕ} → entry 11 (drop i s) ≡ some (a, y) → a.0 ≡ false
+  flag_no : (b ≡ 1 → ⊥) → {a : Bool × List ℕ} {y : List ℕ} → entry 11 (drop i s) ≡ Some (a, y) → a.0 ≡ false
   flag_no z e = entry_flag (drop i s) e ∙ rw (← h.is) (ne_eqb b 1 z)
 
   module _ (first : Bool) where
@@ -61,25 +58,25 @@ module _ (s : List ℕ) (i b : ℕ) (h : ByteAt s i b) where
 pub record NamesLeft (s : List ℕ) (m : Parts) (place left : ℕ) (first : Bool) (before : List ℕ) (at : ℕ) (out : List ℕ) (p : ℕ) : Type 0 where
   pub gs : Parts
   pub x : List ℕ
-  pub reads : fields (datainfo_in 3) 11 left (drop place s) ≡ some (gs, x)
+  pub reads : fields (datainfo_in 3) 11 left (drop place s) ≡ Some (gs, x)
   pub done : List ℕ
   pub wrote : Emits before at done out p
   pub whole : names_text m ≡ done ++ listed_items first (name_items gs.0)
 
 pub record NamesAt (s : List ℕ) (i place left : ℕ) (first : Bool) (before : List ℕ) (at : ℕ) (out : List ℕ) (p : ℕ) : Type 0 where
-  pub from : {m : Parts} {x : List ℕ} → members_at (datainfo_in 3) 11 (drop i s) ≡ some (m, x) → NamesLeft s m place left first before at out p
+  pub from : {m : Parts} {x : List ℕ} → members_at (datainfo_in 3) 11 (drop i s) ≡ Some (m, x) → NamesLeft s m place left first before at out p
 
-said : (o : Option (Parts × List ℕ)) {d h : List ℕ} {at r : ℕ} → ((m : Parts) (x : List ℕ) → o ≡ some (m, x) → Emits d at (names_text m) h r)
+said : (o : Option (Parts × List ℕ)) {d h : List ℕ} {at r : ℕ} → ((m : Parts) (x : List ℕ) → o ≡ Some (m, x) → Emits d at (names_text m) h r)
     → Says (told names_text o) d at h r
-said none f = says_nothing refl
-said (some q) f = says_text refl (f q.0 q.1 refl)
+said None f = says_nothing refl
+said (Some q) f = says_text refl (f q.0 q.1 refl)
 
-module _ (s : List ℕ) (i : ℕ) (u : Unsigned) (k : ReadsUnsigned s u (unsigned 1 (drop i s))) where
-  pub names_short : u ≡ U.TheVariants.Short → {d h : List ℕ} {at r : ℕ} → Says (told names_text (members_at (datainfo_in 3) 11 (drop i s))) d at h r
+module _ (s : List ℕ) (i : ℕ) (u : Option (ℕ × ℕ)) (k : ReadsValue s u (unsigned 1 (drop i s))) where
+  pub names_short : u ≡ None → {d h : List ℕ} {at r : ℕ} → Says (told names_text (members_at (datainfo_in 3) 11 (drop i s))) d at h r
   unfolding members_at
   names_short z = says_nothing (rw (rw z at k))
 
-  pub names_first : (n j : ℕ) → u ≡ U.TheVariants.Read n j → (out : List ℕ) (at : ℕ) → at ≤ 18446744073709551615 → NamesAt s i j n true out at out at
+  pub names_first : (n j : ℕ) → u ≡ Some (n, j) → (out : List ℕ) (at : ℕ) → at ≤ 18446744073709551615 → NamesAt s i j n true out at out at
   unfolding members_at names_text
   names_first n j z out at w = record {
     from = λ {m = m} e. record {
@@ -117,20 +114,20 @@ module _ (s : List ℕ) (i place left : ℕ) (first : Bool) (before : List ℕ) 
       let q = c.from e in
       rw (q.whole, none_of q.done first q.gs (fields_none (datainfo_in 3) 11 left (drop place s) h q.reads)) q.wrote
 
-  module _ (h : 0 < left) (r : Next) (l : Ends s r (after_field (datainfo_in 3) 11 (drop place s))) where
-    pub names_bad : r ≡ Bad → {after : List ℕ} {end : ℕ} → Says (told names_text (members_at (datainfo_in 3) 11 (drop i s))) before at after end
+  module _ (h : 0 < left) (r : Option ℕ) (l : Ends s r (after_field (datainfo_in 3) 11 (drop place s))) where
+    pub names_bad : r ≡ None → {after : List ℕ} {end : ℕ} → Says (told names_text (members_at (datainfo_in 3) 11 (drop i s))) before at after end
     names_bad z = said (members_at (datainfo_in 3) 11 (drop i s)) λ m x e.
         let q = c.from e in
         fields_some (datainfo_in 3) 11 left (drop place s) h q.reads λ a y d y' hs n j o w.
         absurd (never (sym (rw z at l) ∙ past_field (datainfo_in 3) 11 (drop place s) n j))
 
-    pub names_more : (e : ℕ) → r ≡ At e → (out1 : List ℕ) (p1 : ℕ) → NamesOptional (entry 11 (drop place s)) first out p out1 p1 → (then : Bool)
+    pub names_more : (e : ℕ) → r ≡ Some e → (out1 : List ℕ) (p1 : ℕ) → NamesOptional (entry 11 (drop place s)) first out p out1 p1 → (then : Bool)
         → StaysFirst (entry 11 (drop place s)) first then → NamesAt s i e (left - 1) then before at out1 p1
     names_more e z out1 p1 w then v = record {
       from = λ f. let q = c.from f in fields_some (datainfo_in 3) 11 left (drop place s) h q.reads λ a y d y' hs n j o w'. record {
         gs = hs;
         x = q.x;
-        reads = rw (some-injective _ _ (sym (past_field (datainfo_in 3) 11 (drop place s) n j) ∙ (rw z at l).0)) at o;
+        reads = rw (same_Some _ _ (sym (past_field (datainfo_in 3) 11 (drop place s) n j) ∙ (rw z at l).0)) at o;
         done = q.done ++ cond a.0 (comma first ++ quoted a.1) [];
         wrote = both q.wrote (w.is n);
         whole = q.whole ∙ rw (v.is n) (names_step q.done first a d hs q.gs w');
@@ -148,9 +145,9 @@ unfolding own_text datainfo_value compact compact_members more_members quoted by
 own_is ns fs = rw (listed_first (field_values fs)) (ap (λ (l : List ℕ). bytes "{\"type\":\"struct\",\"members\":{" ++ l) (named_with (compact_members (field_values fs)) (bytes ",\"optional\":[") (compact_items (name_items ns))))
 
 partial_there : (f : List ℕ → Option (Datainfo × List ℕ)) (xs : List ℕ)
-    → partial_at f xs ≡ (members_at f 11 xs >>= λ q. some (partial q.0.0 q.0.1, q.1))
+    → partial_at f xs ≡ (members_at f 11 xs >>= λ q. Some (partial q.0.0 q.0.1, q.1))
 unfolding partial_at members_at
-partial_there f xs = sym (then_then (unsigned 1 xs) (λ p. fields f 11 p.0 p.1) (λ q. some (partial q.0.0 q.0.1, q.1)))
+partial_there f xs = sym (then_then (unsigned 1 xs) (λ p. fields f 11 p.0 p.1) (λ q. Some (partial q.0.0 q.0.1, q.1)))
 
 pub own_partial : (s : List ℕ) (i : ℕ) {d0 d1 d2 d3 d4 d5 : List ℕ} {p0 p1 p2 p3 p4 p5 : ℕ} → Emits d0 p0 (opening 11) d1 p1
     → Says (count_text (datainfo_in 3) 11 (drop i s)) d1 p1 d2 p2 → Emits d2 p2 (bytes "},\"optional\":[") d3 p3
@@ -161,9 +158,9 @@ own_partial s i {d0} {d1} {d2} {d3} {d4} {d5} {p0} {p1} {p2} {p3} {p4} {p5} x y 
     rw (partial_there (datainfo_in 3) (drop i s)) (go (members_at (datainfo_in 3) 11 (drop i s)) (rw (count_members (datainfo_in 3) (drop i s)) at y) n)
   where
     go : (o : Option (Parts × List ℕ)) → Says (told (λ m. listed true (field_values m.1)) o) d1 p1 d2 p2 → Says (told names_text o) d3 p3 d4 p4
-        → Says (told own_text (o >>= λ q. some (partial q.0.0 q.0.1, q.1))) d0 p0 d5 p5
-    go none y n = says_nothing refl
-    go (some q) y n = says_text refl (rw (own_is q.0.0 q.0.1) (both (both (both (both x (y.is refl)) z) (n.is refl)) w))
+        → Says (told own_text (o >>= λ q. Some (partial q.0.0 q.0.1, q.1))) d0 p0 d5 p5
+    go None y n = says_nothing refl
+    go (Some q) y n = says_text refl (rw (own_is q.0.0 q.0.1) (both (both (both (both x (y.is refl)) z) (n.is refl)) w))
 
 -- ## By the type byte
 
@@ -187,15 +184,15 @@ other_own f k xs h = rw h
     P o = told own_text o ≡ told datainfo_text o
 
     struct : (o : Option (Datainfo × List ℕ)) → struct_at f xs ≡ o → P o
-    struct none e = refl
-    struct (some q) e = struct_members f xs e λ m a o. rw o
+    struct None e = refl
+    struct (Some q) e = struct_members f xs e λ m a o. rw o
 
-module _ (s : List ℕ) (i : ℕ) (u : Unsigned) (k : ReadsUnsigned s u (unsigned 1 (drop i s))) where
-  pub own_short_lem : u ≡ U.TheVariants.Short → {d h : List ℕ} {at r : ℕ} → Says (told own_text (datainfo_in 4 (drop i s))) d at h r
+module _ (s : List ℕ) (i : ℕ) (u : Option (ℕ × ℕ)) (k : ReadsValue s u (unsigned 1 (drop i s))) where
+  pub own_short_lem : u ≡ None → {d h : List ℕ} {at r : ℕ} → Says (told own_text (datainfo_in 4 (drop i s))) d at h r
   unfolding datainfo_in
   own_short_lem z = says_nothing (rw (rw z at k))
 
-  module _ (b inner : ℕ) (e : u ≡ U.TheVariants.Read b inner) where
+  module _ (b inner : ℕ) (e : u ≡ Some (b, inner)) where
     typed_there : datainfo_in 4 (drop i s) ≡ typed (datainfo_in 3) b (drop inner s)
     unfolding datainfo_in
     typed_there = simp (rw e at k).0

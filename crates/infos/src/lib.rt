@@ -19,9 +19,9 @@ ghost use Rattle.infos.specs.Clauses.Texts.{member_text};
 ghost use Rattle.infos.specs.Clauses.Texts.{count_text, list_text};
 
 use ascii::numbers::{signed, unsigned};
-use ascii::{Next, Signed, Unsigned, byte};
+use ascii::{byte};
 use datainfo::layout::{field_end, member_end, named_end, wide};
-use datainfo::rules::{Limit, limit_at, named_at};
+use datainfo::rules::{limit_at, named_at};
 use emit::{
     emit, emit_comma, emit_integer, emit_key, emit_labelled_decimal, emit_labelled_integer,
     emit_string,
@@ -43,10 +43,10 @@ fn emit_double(out: &mut [u8], at: usize, s: &[u8], i: usize) -> usize
     requires { i ≤ length s.now }
     ensures { Says (told datainfo_text (double_at (drop i s.now))) out.old at out.new result }
 {
-    let Limit::Read(lo, p, e) = limit_at(s, i) else {
+    let Some((lo, p, e)) = limit_at(s, i) else {
         return at;
     };
-    let Limit::Read(hi, q, _) = limit_at(s, e) else {
+    let Some((hi, q, _)) = limit_at(s, e) else {
         return at;
     };
     let a = emit_limit(out, at, b"{\"type\":\"double\",\"min\":", lo, p);
@@ -58,10 +58,10 @@ fn emit_int(out: &mut [u8], at: usize, s: &[u8], i: usize) -> usize
     requires { i ≤ length s.now }
     ensures { Says (told datainfo_text (int_at (drop i s.now))) out.old at out.new result }
 {
-    let Signed::Read(lo, e) = signed(s, i, 8) else {
+    let Some((lo, e)) = signed(s, i, 8) else {
         return at;
     };
-    let Signed::Read(hi, _) = signed(s, e, 8) else {
+    let Some((hi, _)) = signed(s, e, 8) else {
         return at;
     };
     let a = emit_labelled_integer(out, at, b"{\"type\":\"int\",\"min\":", lo);
@@ -73,10 +73,10 @@ fn emit_chars(out: &mut [u8], at: usize, s: &[u8], i: usize) -> usize
     requires { i ≤ length s.now }
     ensures { Says (told datainfo_text (string_at (drop i s.now))) out.old at out.new result }
 {
-    let Unsigned::Read(lo, e) = unsigned(s, i, 2) else {
+    let Some((lo, e)) = unsigned(s, i, 2) else {
         return at;
     };
-    let Unsigned::Read(hi, _) = unsigned(s, e, 2) else {
+    let Some((hi, _)) = unsigned(s, e, 2) else {
         return at;
     };
     let a = emit_labelled_decimal(out, at, b"{\"type\":\"string\",\"minchars\":", lo);
@@ -98,13 +98,13 @@ fn emit_scaled(out: &mut [u8], at: usize, s: &[u8], i: usize) -> usize
     requires { i ≤ length s.now }
     ensures { Says (told datainfo_text (scaled_at (drop i s.now))) out.old at out.new result }
 {
-    let Limit::Read(m, p, e) = limit_at(s, i) else {
+    let Some((m, p, e)) = limit_at(s, i) else {
         return at;
     };
-    let Signed::Read(lo, f) = signed(s, e, 8) else {
+    let Some((lo, f)) = signed(s, e, 8) else {
         return at;
     };
-    let Signed::Read(hi, _) = signed(s, f, 8) else {
+    let Some((hi, _)) = signed(s, f, 8) else {
         return at;
     };
     emit_scale(out, at, m, p, lo, hi)
@@ -114,10 +114,10 @@ fn emit_blob(out: &mut [u8], at: usize, s: &[u8], i: usize) -> usize
     requires { i ≤ length s.now }
     ensures { Says (told datainfo_text (blob_at (drop i s.now))) out.old at out.new result }
 {
-    let Unsigned::Read(lo, e) = unsigned(s, i, 2) else {
+    let Some((lo, e)) = unsigned(s, i, 2) else {
         return at;
     };
-    let Unsigned::Read(hi, _) = unsigned(s, e, 2) else {
+    let Some((hi, _)) = unsigned(s, e, 2) else {
         return at;
     };
     let a = emit_labelled_decimal(out, at, b"{\"type\":\"blob\",\"minbytes\":", lo);
@@ -139,10 +139,10 @@ fn emit_array(out: &mut [u8], at: usize, s: &[u8], i: usize, levels: usize) -> u
     requires { i ≤ length s.now }
     ensures { Says (told datainfo_text (array_at (datainfo_in levels) (drop i s.now))) out.old at out.new result }
 {
-    let Unsigned::Read(lo, e) = unsigned(s, i, 2) else {
+    let Some((lo, e)) = unsigned(s, i, 2) else {
         return at;
     };
-    let Unsigned::Read(hi, f) = unsigned(s, e, 2) else {
+    let Some((hi, f)) = unsigned(s, e, 2) else {
         return at;
     };
     let a = emit_array_limits(out, at, lo, hi);
@@ -181,7 +181,7 @@ fn emit_number(out: &mut [u8], at: usize, s: &[u8], i: usize) -> usize
     requires { i ≤ length s.now }
     ensures { Says (told integer (signed 4 (drop i s.now))) out.old at out.new result }
 {
-    let Signed::Read(v, _) = signed(s, i, 4) else {
+    let Some((v, _)) = signed(s, i, 4) else {
         return at;
     };
     emit_integer(out, at, v)
@@ -201,8 +201,8 @@ fn name_end(s: &[u8], i: usize, k: u8) -> usize
     ensures { NameEnds s.now i k result }
 {
     match named_end(s, i, k) {
-        Next::At(e) => e,
-        Next::Bad => i,
+        Some(e) => e,
+        None => i,
     }
 }
 
@@ -237,7 +237,7 @@ fn emit_members(out: &mut [u8], at: usize, s: &[u8], i: usize, levels: usize, k:
     let mut left = wide(s[i]);
     let mut first = true;
     while 0 < left {
-        let Next::At(e) = member_end(s, j, levels, k) else {
+        let Some(e) = member_end(s, j, levels, k) else {
             return p;
         };
         let c = emit_comma(out, p, first);
@@ -325,7 +325,7 @@ fn emit_names(out: &mut [u8], at: usize, s: &[u8], i: usize) -> usize
     requires { i ≤ length s.now }
     ensures { Says (told names_text (members_at (datainfo_in 3) 11 (drop i s.now))) out.old at out.new result }
 {
-    let Unsigned::Read(count, from) = unsigned(s, i, 1) else {
+    let Some((count, from)) = unsigned(s, i, 1) else {
         return at;
     };
     let mut p = at;
@@ -333,7 +333,7 @@ fn emit_names(out: &mut [u8], at: usize, s: &[u8], i: usize) -> usize
     let mut left = count;
     let mut first = true;
     while 0 < left {
-        let Next::At(e) = field_end(s, field, 3, 11) else {
+        let Some(e) = field_end(s, field, 3, 11) else {
             return p;
         };
         p = emit_optional(out, p, s, field, first);
@@ -361,7 +361,7 @@ pub fn emit_own(out: &mut [u8], at: usize, s: &[u8], i: usize) -> usize
     requires { i ≤ length s.now }
     ensures { Says (told own_text (datainfo_in 4 (drop i s.now))) out.old at out.new result }
 {
-    let Unsigned::Read(k, inner) = unsigned(s, i, 1) else {
+    let Some((k, inner)) = unsigned(s, i, 1) else {
         return at;
     };
     if k == 11 {

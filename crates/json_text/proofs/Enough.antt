@@ -1,11 +1,11 @@
 -- The counts of `chars`, `items` and `members` never cut a text short: with any more than there are bytes they read the same.
 -- The reason: no reader leaves more than it was given, and each turn takes a byte at least. Assumes nothing.
+use Rattle.std.specs.Prelude.{Option, Some, None}
 use Prim.Native.Nat.{ℕ, zero, suc, ◌≤◌}
 use native.Mathlib.Omega.{arith}
 use mathlib.Core.Path.{◌≡◌, refl, sym, ◌∙◌}
 use mathlib.Core.Bool.{Bool, true, false, cond}
 use mathlib.Core.List.{List, [], ◌∷◌}
-use mathlib.Core.Option.{Option, none, some}
 use lib.ListN.{length}
 use lib.Dec.{eqb}
 use Rattle.ascii.specs.Text.{bytes}
@@ -21,12 +21,12 @@ record Short (n : ℕ) (xs : List ℕ) : Type 0 where
 
 -- what is left is at most n bytes, if anything was read
 data Within {A : Type 0} (n : ℕ) : Option (A × List ℕ) → Type 0 where
-  failed : Within n none
-  left : {p : A × List ℕ} → Short n p.1 → Within n (some p)
+  failed : Within n None
+  left : {p : A × List ℕ} → Short n p.1 → Within n (Some p)
 
 data Rest (n : ℕ) : Option (List ℕ) → Type 0 where
-  failed : Rest n none
-  left : {r : List ℕ} → Short n r → Rest n (some r)
+  failed : Rest n None
+  left : {r : List ℕ} → Short n r → Rest n (Some r)
 
 module _ {n : ℕ} where
   l_cond : (b : Bool) {x y : List ℕ} → Short n x → Short n y → Short n (cond b x y)
@@ -107,10 +107,10 @@ nil : {xs : List ℕ} → Short 0 xs → xs ≡ []
 nil {xs = []} h = refl
 nil {xs = x ∷ xs} h = absurd (omega arith)
 
-out : {n : ℕ} {r : List ℕ} → Rest n (some r) → Short n r
+out : {n : ℕ} {r : List ℕ} → Rest n (Some r) → Short n r
 out (left h) = h
 
-chars_nil : (n : ℕ) → chars n [] ≡ none
+chars_nil : (n : ℕ) → chars n [] ≡ None
 unfolding chars char head tail is_in
 chars_nil zero = refl
 chars_nil (suc n) = refl
@@ -161,16 +161,16 @@ module _ {n : ℕ} where
   unfolding key string_end
   w_key {xs} h = w_cond (eqb (head (skip xs)) 34) (go (r_chars (length (tail (skip xs))) (l_tail (l_drop is_space h)))) failed
     where
-      go : {o : Option (List ℕ)} → Rest n o → Within n (o >>= λ r. cond (eqb (head (skip r)) 58) (some (inside (tail (skip xs)) r, tail (skip r))) none)
+      go : {o : Option (List ℕ)} → Rest n o → Within n (o >>= λ r. cond (eqb (head (skip r)) 58) (Some (inside (tail (skip xs)) r, tail (skip r))) None)
       go failed = failed
       go (left {r = r} g) = w_cond (eqb (head (skip r)) 58) (left (l_tail (l_drop is_space g))) failed
 
-out_p : {A : Type 0} {n : ℕ} {p : A × List ℕ} → Within n (some p) → Short n p.1
+out_p : {A : Type 0} {n : ℕ} {p : A × List ℕ} → Within n (Some p) → Short n p.1
 out_p (left h) = h
 
-then_none : {A B : Type 0} (o : Option A) → ◌≡◌ {A = Option B} (o >>= λ a. none) none
-then_none none = refl
-then_none (some a) = refl
+then_none : {A B : Type 0} (o : Option A) → ◌≡◌ {A = Option B} (o >>= λ a. None) None
+then_none None = refl
+then_none (Some a) = refl
 
 less : {n : ℕ} (x : ℕ) {xs : List ℕ} → Short (suc n) (x ∷ xs) → Short n xs
 less x h = record { short = omega arith }
@@ -178,17 +178,17 @@ less x h = record { short = omega arith }
 -- items and members, read by an f that leaves no more than it was given
 module _ (f : List ℕ → Option (Json × List ℕ)) (w : (n : ℕ) (xs : List ℕ) → Short n xs → Within n (f xs)) where
   abbrev Turn : ℕ → Json → List ℕ → Option (Items × List ℕ)
-  Turn n v q = cond (eqb (head q) 93) (some (item v no_items, tail q)) (cond (eqb (head q) 44) (items f n (tail q) >>= λ r. some (item v r.0, r.1)) none)
+  Turn n v q = cond (eqb (head q) 93) (Some (item v no_items, tail q)) (cond (eqb (head q) 44) (items f n (tail q) >>= λ r. Some (item v r.0, r.1)) None)
 
   w_items : (m : ℕ) {n : ℕ} {xs : List ℕ} → Short n xs → Within n (items f m xs)
   unfolding items
   w_items zero h = failed
   w_items (suc m) {n} {xs} h = w_then (w n xs h) (λ p g. w_cond (eqb (head p.1) 93) (left (l_tail g)) (w_cond (eqb (head p.1) 44) (w_then (w_items m (l_tail g)) (λ q k. left k)) failed))
 
-  items_nil : (n : ℕ) → items f n [] ≡ none
+  items_nil : (n : ℕ) → items f n [] ≡ None
   unfolding items head
   items_nil zero = refl
-  items_nil (suc n) = then_same (f []) _ (λ p. none) (λ p e. rw (nil (out_p (rw e at (w 0 [] (record { short = omega arith })))))) ∙ then_none (f [])
+  items_nil (suc n) = then_same (f []) _ (λ p. None) (λ p e. rw (nil (out_p (rw e at (w 0 [] (record { short = omega arith })))))) ∙ then_none (f [])
 
   turn : (a b : ℕ) (v : Json) (q : List ℕ) → ((ys : List ℕ) → Short a ys → Short b ys → items f a ys ≡ items f b ys) → Short (suc a) q → Short (suc b) q → Turn a v q ≡ Turn b v q
   unfolding head tail
@@ -202,14 +202,14 @@ module _ (f : List ℕ → Option (Json × List ℕ)) (w : (n : ℕ) (xs : List 
   items_same (suc a) (suc b) xs h g = then_same (f xs) _ _ (λ p e. turn a b p.0 p.1 (items_same a b) (out_p (rw e at (w (suc a) xs h))) (out_p (rw e at (w (suc b) xs g))))
 
   abbrev Pair : ℕ → List ℕ → Json → List ℕ → Option (Members × List ℕ)
-  Pair n k v q = cond (eqb (head q) 125) (some (member k v no_members, tail q)) (cond (eqb (head q) 44) (members f n (tail q) >>= λ r. some (member k v r.0, r.1)) none)
+  Pair n k v q = cond (eqb (head q) 125) (Some (member k v no_members, tail q)) (cond (eqb (head q) 44) (members f n (tail q) >>= λ r. Some (member k v r.0, r.1)) None)
 
   w_members : (m : ℕ) {n : ℕ} {xs : List ℕ} → Short n xs → Within n (members f m xs)
   unfolding members
   w_members zero h = failed
   w_members (suc m) {n} {xs} h = w_then (w_key h) (λ k j. w_then (w n k.1 j) (λ p g. w_cond (eqb (head p.1) 125) (left (l_tail g)) (w_cond (eqb (head p.1) 44) (w_then (w_members m (l_tail g)) (λ q k. left k)) failed)))
 
-  members_nil : (n : ℕ) → members f n [] ≡ none
+  members_nil : (n : ℕ) → members f n [] ≡ None
   unfolding members key head drop_while
   members_nil zero = refl
   members_nil (suc n) = refl

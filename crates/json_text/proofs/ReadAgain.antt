@@ -1,10 +1,10 @@
 -- The bytes that a reader of a number or of a string took, it takes again whatever follows them. Assumes nothing.
+use Rattle.std.specs.Prelude.{Option, Some, None}
 use Prim.Native.Nat.{ℕ, zero, suc, ◌-◌, ◌<◌}
 use native.Mathlib.Omega.{arith}
 use mathlib.Core.Path.{◌≡◌, refl, sym, ◌∙◌, ap}
 use mathlib.Core.Bool.{Bool, true, false, cond, ◌||◌}
 use mathlib.Core.List.{List, [], ◌∷◌, ◌++◌, append_assoc}
-use mathlib.Core.Option.{Option, none, some}
 use lib.ListN.{length, length-append}
 use lib.Dec.{eqb}
 use lib.Seq.{take_at}
@@ -15,8 +15,8 @@ use Rattle.json_text.specs.Json.{is_hex, is_escape, hex, hex4, escape, char, cha
 
 -- P holds of what was read, if anything was
 pub data Of {A : Type 0} (P : A → Type 0) : Option A → Type 0 where
-  failed : Of P none
-  gave : {a : A} → P a → Of P (some a)
+  failed : Of P None
+  gave : {a : A} → P a → Of P (Some a)
 
 pub of_cond : {A : Type 0} {P : A → Type 0} (b : Bool) {x y : Option A} → Of P x → Of P y → Of P (cond b x y)
 of_cond true p q = p
@@ -32,7 +32,7 @@ pub of_bind : {A B : Type 0} {P : A → Type 0} {Q : B → Type 0} {o : Option A
 of_bind failed h = failed
 of_bind (gave {a = a} p) h = h a p
 
-pub of_some : {A : Type 0} {P : A → Type 0} {a : A} → Of P (some a) → P a
+pub of_some : {A : Type 0} {P : A → Type 0} {a : A} → Of P (Some a) → P a
 of_some (gave p) = p
 
 pub of_map : {A : Type 0} {P Q : A → Type 0} {o : Option A} → Of P o → ((a : A) → P a → Q a) → Of Q o
@@ -43,7 +43,7 @@ of_map (gave {a = a} p) h = gave (h a p)
 pub record Follows (f : List ℕ → Option (List ℕ)) (In Out : List ℕ → Type 0) (xs r : List ℕ) : Type 0 where
   pub t : List ℕ
   pub is : xs ≡ t ++ r
-  pub again : (rest : List ℕ) → In rest → f (t ++ rest) ≡ some rest
+  pub again : (rest : List ℕ) → In rest → f (t ++ rest) ≡ Some rest
   pub out : (rest : List ℕ) → In rest → Out (t ++ rest)
 
 -- whatever follows
@@ -56,12 +56,12 @@ Keeps f In Out = (xs : List ℕ) → Of (Follows f In Out xs) (f xs)
 
 -- the same, of a reader that takes a byte at least
 abbrev pub Takes : (List ℕ → Option (List ℕ)) → (List ℕ → Type 0) → Type 0
-Takes f In = (f [] ≡ none) × ((x : ℕ) → Keeps (λ z. f (x ∷ z)) In Any)
+Takes f In = (f [] ≡ None) × ((x : ℕ) → Keeps (λ z. f (x ∷ z)) In Any)
 
 module _ {In Out : List ℕ → Type 0} where
   -- nothing was there to read
-  nothing : (f : List ℕ → Option (List ℕ)) → ((rest : List ℕ) → In rest → f rest ≡ some rest)
-      → ((rest : List ℕ) → In rest → Out rest) → (xs : List ℕ) → Of (Follows f In Out xs) (some xs)
+  nothing : (f : List ℕ → Option (List ℕ)) → ((rest : List ℕ) → In rest → f rest ≡ Some rest)
+      → ((rest : List ℕ) → In rest → Out rest) → (xs : List ℕ) → Of (Follows f In Out xs) (Some xs)
   nothing f h g xs = gave (record { t = []; is = refl; again = h; out = g })
 
   keeps_cond : (b : Bool) {f g : List ℕ → Option (List ℕ)} → Keeps f In Out → Keeps g In Out
@@ -79,8 +79,8 @@ module _ {In Out : List ℕ → Type 0} where
   }
 
 -- past a byte, nothing more is looked at
-byte : {In : List ℕ → Type 0} → Keeps some In Any
-byte = nothing some (λ rest i. refl) (λ rest i. tt)
+byte : {In : List ℕ → Type 0} → Keeps Some In Any
+byte = nothing Some (λ rest i. refl) (λ rest i. tt)
 
 module _ {f : List ℕ → Option (List ℕ)} {In : List ℕ → Type 0} where
   pub takes_keeps : Takes f In → Keeps f In Any
@@ -127,7 +127,7 @@ stays p (x ∷ xs) e = rw e
 
 -- past the digits
 abbrev past : List ℕ → Option (List ℕ)
-past xs = some (drop_while is_digit xs)
+past xs = Some (drop_while is_digit xs)
 
 past_keeps : Keeps past NoDigit Any
 unfolding drop_while
@@ -135,7 +135,7 @@ past_keeps [] = nothing past (λ rest i. rw (stays is_digit rest i)) (λ rest i.
 past_keeps (x ∷ xs) = go (is_digit x) refl (past_keeps xs)
   where
     go : (b : Bool) → is_digit x ≡ b → Of (Follows past NoDigit Any xs) (past xs)
-        → Of (Follows past NoDigit Any (x ∷ xs)) (some (cond b (drop_while is_digit xs) (x ∷ xs)))
+        → Of (Follows past NoDigit Any (x ∷ xs)) (Some (cond b (drop_while is_digit xs) (x ∷ xs)))
     go true e h = of_map h λ r p.
         record { t = x ∷ p.t; is = ap (λ z. x ∷ z) p.is; again = λ rest i. rw e (p.again rest i); out = λ rest i. tt }
     go false e h = nothing past (λ rest i. rw (stays is_digit rest i)) (λ rest i. tt) (x ∷ xs)
@@ -144,7 +144,7 @@ digits_takes : Takes digits NoDigit
 unfolding digits drop_while head is_in
 digits_takes = (refl, λ x. go x (is_digit x))
   where
-    go : (x : ℕ) (b : Bool) → Keeps (λ z. cond b (some (cond b (drop_while is_digit z) (x ∷ z))) none) NoDigit Any
+    go : (x : ℕ) (b : Bool) → Keeps (λ z. cond b (Some (cond b (drop_while is_digit z) (x ∷ z))) None) NoDigit Any
     go x true = past_keeps
     go x false = λ xs. failed
 
@@ -160,7 +160,7 @@ unfolding frac head tail is_in
 frac_keeps [] = nothing frac (λ rest i. rw i.1) (λ rest i. i.0) []
 frac_keeps (x ∷ xs) = go (eqb x 46) refl
   where
-    go : (b : Bool) → eqb x 46 ≡ b → Of (Follows frac NoFraction NoDigit (x ∷ xs)) (cond b (digits xs) (some (x ∷ xs)))
+    go : (b : Bool) → eqb x 46 ≡ b → Of (Follows frac NoFraction NoDigit (x ∷ xs)) (cond b (digits xs) (Some (x ∷ xs)))
     go true e = of_map (digits_keeps xs) λ r p. record {
       t = x ∷ p.t;
       is = ap (λ z. x ∷ z) p.is;
@@ -193,7 +193,7 @@ unfolding exp head tail
 exp_keeps [] = nothing exp (λ rest i. rw i.e) (λ rest i. (i.digit, i.dot)) []
 exp_keeps (x ∷ xs) = go (is_e x) refl
   where
-    go : (b : Bool) → is_e x ≡ b → Of (Follows exp Stop NoFraction (x ∷ xs)) (cond b (digits (sign xs)) (some (x ∷ xs)))
+    go : (b : Bool) → is_e x ≡ b → Of (Follows exp Stop NoFraction (x ∷ xs)) (cond b (digits (sign xs)) (Some (x ∷ xs)))
     go true e = of_map (signed_keeps xs) λ r p. record {
       t = x ∷ p.t;
       is = ap (λ z. x ∷ z) p.is;
@@ -247,7 +247,7 @@ char_takes = (
 pub record Quoted (xs r : List ℕ) : Type 0 where
   pub s : List ℕ
   pub is : xs ≡ s ++ 34 ∷ r
-  pub again : (n : ℕ) (rest : List ℕ) → length s < n → chars n (s ++ 34 ∷ rest) ≡ some rest
+  pub again : (n : ℕ) (rest : List ℕ) → length s < n → chars n (s ++ 34 ∷ rest) ≡ Some rest
 
 pub chars_quoted : (n : ℕ) (xs : List ℕ) → Of (Quoted xs) (chars n xs)
 unfolding chars char head tail is_in
@@ -256,10 +256,10 @@ chars_quoted (suc n) [] = failed
 chars_quoted (suc n) (x ∷ xs) = go (eqb x 34) refl (chars_quoted n)
   where
     go : (b : Bool) → eqb x 34 ≡ b → ((ys : List ℕ) → Of (Quoted ys) (chars n ys))
-        → Of (Quoted (x ∷ xs)) (cond b (some xs) (char (x ∷ xs) >>= chars n))
+        → Of (Quoted (x ∷ xs)) (cond b (Some xs) (char (x ∷ xs) >>= chars n))
     go true e h = gave {a = xs} (record { s = []; is = ap (λ b. b ∷ xs) (eqb-true x 34 e); again = first })
       where
-        first : (n : ℕ) (rest : List ℕ) → 0 < n → chars n (34 ∷ rest) ≡ some rest
+        first : (n : ℕ) (rest : List ℕ) → 0 < n → chars n (34 ∷ rest) ≡ Some rest
         first zero rest h = absurd (omega arith)
         first (suc n) rest h = refl
     go false e h = of_bind (char_takes.1 x xs) λ y p. of_map (h y) λ r q. record {
@@ -269,7 +269,7 @@ chars_quoted (suc n) (x ∷ xs) = go (eqb x 34) refl (chars_quoted n)
     }
       where
         more : {y r : List ℕ} (p : Follows (λ z. char (x ∷ z)) Any Any xs y) (q : Quoted y r) (n : ℕ) (rest : List ℕ)
-            → suc (length (p.t ++ q.s)) < n → chars n (x ∷ (p.t ++ q.s) ++ 34 ∷ rest) ≡ some rest
+            → suc (length (p.t ++ q.s)) < n → chars n (x ∷ (p.t ++ q.s) ++ 34 ∷ rest) ≡ Some rest
         more p q zero rest h = absurd (omega arith)
         more p q (suc n) rest h =
             rw (append_assoc, e, p.again (q.s ++ 34 ∷ rest) tt) (q.again n rest (omega (arith, length-append p.t q.s)))

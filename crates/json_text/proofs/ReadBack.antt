@@ -1,10 +1,10 @@
 -- What is read is a readable tree, and the compact text of a readable tree is read as that tree, whatever may follow a value. Assumes nothing.
+use Rattle.std.specs.Prelude.{Option, Some, None}
 use Prim.Native.Nat.{ℕ, zero, suc, ◌≤◌, ◌<◌}
 use native.Mathlib.Omega.{arith}
 use mathlib.Core.Path.{◌≡◌, refl, sym, ap, ap₂, ◌∙◌}
 use mathlib.Core.Bool.{Bool, true, false, cond, ◌&&◌, and-eq-true_iff}
 use mathlib.Core.List.{List, [], ◌∷◌, ◌++◌, append_assoc, append-nil}
-use mathlib.Core.Option.{Option, none, some}
 use lib.ListN.{length, length-append}
 use lib.Dec.{eqb, leb}
 use borrow.Author.Tests.{eqb-true, leb-true, eq-eqb, le-leb}
@@ -31,8 +31,8 @@ of_giving f failed h = failed
 of_giving f (gave {a = r} q) h = gave (h r q)
 
 all : (o : Option (List ℕ)) → Of Any o
-all none = failed
-all (some r) = gave tt
+all None = failed
+all (Some r) = gave tt
 
 -- the bytes that were read up to a quote
 raw : {xs r : List ℕ} (q : Quoted xs r) → IsRaw q.s
@@ -102,14 +102,14 @@ text_gives xs = of_bind (spaced_gives 8 (bare 8) (bare_gives 8) xs) λ p r. of_c
 
 -- ## Tokens and strings are read again, whatever follows them
 
-raw_again : (s : List ℕ) → IsRaw s → (n : ℕ) (rest : List ℕ) → length s < n → chars n (s ++ 34 ∷ rest) ≡ some rest
+raw_again : (s : List ℕ) → IsRaw s → (n : ℕ) (rest : List ℕ) → length s < n → chars n (s ++ 34 ∷ rest) ≡ Some rest
 unfolding string_end
 raw_again s e = go (of_some (rw e at (chars_quoted (length (s ++ 34 ∷ [])) (s ++ 34 ∷ []))))
   where
-    go : Quoted (s ++ 34 ∷ []) [] → (n : ℕ) (rest : List ℕ) → length s < n → chars n (s ++ 34 ∷ rest) ≡ some rest
+    go : Quoted (s ++ 34 ∷ []) [] → (n : ℕ) (rest : List ℕ) → length s < n → chars n (s ++ 34 ∷ rest) ≡ Some rest
     go q = rw (sym (inside_is s []) ∙ ap (λ z. inside z []) q.is ∙ inside_is q.s []) q.again
 
-raw_end : (s : List ℕ) → IsRaw s → (rest : List ℕ) → string_end (s ++ 34 ∷ rest) ≡ some rest
+raw_end : (s : List ℕ) → IsRaw s → (rest : List ℕ) → string_end (s ++ 34 ∷ rest) ≡ Some rest
 unfolding string_end
 raw_end s e rest = raw_again s e (length (s ++ 34 ∷ rest)) rest (simp length-append (omega arith))
 
@@ -126,14 +126,14 @@ token_starts x t e = go (eqb x 45) refl (eqb x 48) refl (is_digit x) refl e
   where
     go :
         (a : Bool) → eqb x 45 ≡ a → (b : Bool) → eqb x 48 ≡ b → (c : Bool) → is_digit x ≡ c
-        → (Token.int (cond a t (x ∷ t)) >>= Token.frac >>= Token.exp) ≡ some []
+        → (Token.int (cond a t (x ∷ t)) >>= Token.frac >>= Token.exp) ≡ Some []
         → is_in 45 57 x ≡ true
     go true f b g c h e = rw (eqb-true x 45 f)
     go false f true g c h e = rw (eqb-true x 48 g)
     go false f false g true h e = digit_starts x h
     go false f false g false h e = let z : ◌≡◌ {A = ℕ} 0 1 = cc in absurd (omega arith)
 
-after_is : (w rest : List ℕ) → after w (w ++ rest) ≡ some rest
+after_is : (w rest : List ℕ) → after w (w ++ rest) ≡ Some rest
 unfolding after
 after_is [] rest = refl
 after_is (x ∷ w) rest = rw (eq-eqb x x refl) (after_is w rest)
@@ -155,7 +155,7 @@ record Spelled (f : Reader) (v : Json) : Type 0 where
   is : compact v ≡ x ∷ t
   space : eqb x 32 ≡ false
   bracket : eqb x 93 ≡ false
-  again : (rest : List ℕ) → Stop rest → f (x ∷ t ++ rest) ≡ some (v, rest)
+  again : (rest : List ℕ) → Stop rest → f (x ∷ t ++ rest) ≡ Some (v, rest)
 
 -- a text that begins as a scalar does
 scalar_first : (n x : ℕ) (t : List ℕ) → eqb x 91 ≡ false → eqb x 123 ≡ false → bare n (x ∷ t) ≡ scalar (x ∷ t)
@@ -215,7 +215,7 @@ number_spelled n (x ∷ t) e = go (of_some (rw e at (number_takes.1 x t)))
     go : Follows (λ z. Token.number (x ∷ z)) Stop Any t [] → Spelled (bare n) (number (x ∷ t))
     go p =
         let is : t ≡ p.t = p.is ∙ append-nil p.t in
-        let again : (rest : List ℕ) → Stop rest → Token.number (x ∷ t ++ rest) ≡ some rest = λ rest s. rw is (p.again rest s) in
+        let again : (rest : List ℕ) → Stop rest → Token.number (x ∷ t ++ rest) ≡ Some rest = λ rest s. rw is (p.again rest s) in
         record {
           x = x;
           t = t;
@@ -239,7 +239,7 @@ number_spelled n (x ∷ t) e = go (of_some (rw e at (number_takes.1 x t)))
 record Written (f : Reader) (v : Json) : Type 0 where
   space : (rest : List ℕ) → eqb (head (compact v ++ rest)) 32 ≡ false
   bracket : (rest : List ℕ) → eqb (head (compact v ++ rest)) 93 ≡ false
-  again : (rest : List ℕ) → Stop rest → f (compact v ++ rest) ≡ some (v, rest)
+  again : (rest : List ℕ) → Stop rest → f (compact v ++ rest) ≡ Some (v, rest)
 
 spaced_written : (f : Reader) {v : Json} → Spelled f v → Written (spaced f) v
 unfolding spaced head drop_while
@@ -255,9 +255,9 @@ pub quoted_is : (s rest : List ℕ) → quoted s ++ rest ≡ 34 ∷ s ++ 34 ∷ 
 unfolding quoted
 quoted_is s rest = rw append_assoc
 
-pub key_again : (k : List ℕ) → IsRaw k → (rest : List ℕ) → key (quoted k ++ 58 ∷ rest) ≡ some (k, rest)
+pub key_again : (k : List ℕ) → IsRaw k → (rest : List ℕ) → key (quoted k ++ 58 ∷ rest) ≡ Some (k, rest)
 unfolding key drop_while head tail
-key_again k e rest = rw (quoted_is k (58 ∷ rest), raw_end k e (58 ∷ rest)) (ap (λ s. some (s, rest)) (inside_is k (58 ∷ rest)))
+key_again k e rest = rw (quoted_is k (58 ∷ rest), raw_end k e (58 ∷ rest)) (ap (λ s. Some (s, rest)) (inside_is k (58 ∷ rest)))
 
 -- ## Arrays and objects, of values that g reads
 
@@ -275,11 +275,11 @@ module _ (g : Reader) where
   -- a turn for each byte is enough
   abbrev ItemsAgain : Items → Type 0
   ItemsAgain is = (n : ℕ) (rest : List ℕ) → length (compact_items is ++ 93 ∷ rest) ≤ n
-      → items g n (compact_items is ++ 93 ∷ rest) ≡ some (is, rest)
+      → items g n (compact_items is ++ 93 ∷ rest) ≡ Some (is, rest)
 
   abbrev MembersAgain : Members → Type 0
   MembersAgain ms = (n : ℕ) (rest : List ℕ) → length (compact_members ms ++ 125 ∷ rest) ≤ n
-      → members g n (compact_members ms ++ 125 ∷ rest) ≡ some (ms, rest)
+      → members g n (compact_members ms ++ 125 ∷ rest) ≡ Some (ms, rest)
 
   -- the text of the items begins with neither a space nor ']', stands behind a comma where an item precedes it, and is read
   record Listed (is : Items) : Type 0 where
@@ -320,7 +320,7 @@ module _ (g : Reader) where
           l.again n rest (omega (arith, simp (length-append (compact v)) at (rw (items_text, l.more) at b))),
         )
 
-    module _ {k : List ℕ} (j : (rest : List ℕ) → key (quoted k ++ 58 ∷ rest) ≡ some (k, rest)) where
+    module _ {k : List ℕ} (j : (rest : List ℕ) → key (quoted k ++ 58 ∷ rest) ≡ Some (k, rest)) where
       first_member : (ms : Members) → MembersAgain (member k v ms) → Joined (member k v ms)
       unfolding compact bytes quoted head
       first_member ms a = record { starts = λ rest. refl; more = refl; again = a }
@@ -346,14 +346,14 @@ module _ (g : Reader) where
           )
 
   array_again : {is : Items} → Listed is
-      → (rest : List ℕ) → array_end g (compact_items is ++ 93 ∷ rest) ≡ some (array is, rest)
+      → (rest : List ℕ) → array_end g (compact_items is ++ 93 ∷ rest) ≡ Some (array is, rest)
   unfolding array_end
   array_again {is} l rest =
       let xs : List ℕ = compact_items is ++ 93 ∷ rest in
       rw (stays is_space xs (l.space (93 ∷ rest)), l.bracket (93 ∷ rest), l.again (length xs) rest (omega arith))
 
   object_again : {ms : Members} → Joined ms
-      → (rest : List ℕ) → object_end g (compact_members ms ++ 125 ∷ rest) ≡ some (object ms, rest)
+      → (rest : List ℕ) → object_end g (compact_members ms ++ 125 ∷ rest) ≡ Some (object ms, rest)
   unfolding object_end
   object_again {ms} l rest =
       let xs : List ℕ = compact_members ms ++ 125 ∷ rest in
@@ -425,15 +425,15 @@ mutual
       more_members_lem (value n) ms r.0 (spaced_written (bare n) (spelled v n r.1)) (joining ms n r.2)
 
 -- a value in front of what may follow one, and the members of an object up to its end
-pub value_again : (n : ℕ) (v : Json) → Readable n v → (rest : List ℕ) → Stop rest → value n (compact v ++ rest) ≡ some (v, rest)
+pub value_again : (n : ℕ) (v : Json) → Readable n v → (rest : List ℕ) → Stop rest → value n (compact v ++ rest) ≡ Some (v, rest)
 value_again n v r rest s = (spaced_written (bare n) (spelled v n r)).again rest s
 
-pub members_end : (n : ℕ) (ms : Members) → ReadableMembers n ms → (rest : List ℕ) → object_end (value n) (compact_members ms ++ 125 ∷ rest) ≡ some (object ms, rest)
+pub members_end : (n : ℕ) (ms : Members) → ReadableMembers n ms → (rest : List ℕ) → object_end (value n) (compact_members ms ++ 125 ∷ rest) ≡ Some (object ms, rest)
 unfolding object_end compact drop_while head tail
 members_end n no_members r rest = refl
 members_end n (member k v ms) r rest = object_again (value n) (joining (member k v ms) n r) rest
 
-readable_back : (v : Json) → Readable 8 v → text (compact v) ≡ some v
+readable_back : (v : Json) → Readable 8 v → text (compact v) ≡ Some v
 unfolding text
 readable_back v r =
     let w = spaced_written (bare 8) (spelled v 8 r) in

@@ -4,7 +4,7 @@ ghost use Rattle.ascii.specs.Bytes.{after, is_some};
 ghost use Rattle.ascii.specs.Clauses.Reader.{Left, Ends, rest};
 ghost use Rattle.json_text.specs.Json.{is_hex, is_escape, hex, hex4, escape, char, string_end, skip, scalar, array_end, key, object_end, bare, value, text};
 
-use ascii::{Next, byte, is_in, is_printable};
+use ascii::{byte, is_in, is_printable};
 use decimal::token::number_end;
 use limits::JSON_LEVELS;
 
@@ -41,34 +41,34 @@ pub fn spaces_end(s: &[u8], at: usize) -> usize
     i
 }
 
-fn hex_end(s: &[u8], at: usize) -> Next
+fn hex_end(s: &[u8], at: usize) -> Option<usize>
     requires { at ≤ length s.now }
     ensures { Ends s.now result (hex (drop at s.now)) }
 {
     if is_hex(byte(s, at)) {
-        return Next::At(at + 1);
+        return Some(at + 1);
     }
-    Next::Bad
+    None
 }
 
-fn hex4_end(s: &[u8], at: usize) -> Next
+fn hex4_end(s: &[u8], at: usize) -> Option<usize>
     requires { at ≤ length s.now }
     ensures { Ends s.now result (hex4 (drop at s.now)) }
 {
-    let Next::At(i) = hex_end(s, at) else {
-        return Next::Bad;
+    let Some(i) = hex_end(s, at) else {
+        return None;
     };
-    let Next::At(j) = hex_end(s, i) else {
-        return Next::Bad;
+    let Some(j) = hex_end(s, i) else {
+        return None;
     };
-    let Next::At(k) = hex_end(s, j) else {
-        return Next::Bad;
+    let Some(k) = hex_end(s, j) else {
+        return None;
     };
     hex_end(s, k)
 }
 
 // Past an escape, at the byte after its backslash.
-fn escape_end(s: &[u8], at: usize) -> Next
+fn escape_end(s: &[u8], at: usize) -> Option<usize>
     requires { at ≤ length s.now }
     ensures { Ends s.now result (escape (drop at s.now)) }
 {
@@ -77,13 +77,13 @@ fn escape_end(s: &[u8], at: usize) -> Next
         return hex4_end(s, at + 1);
     }
     if is_escape(b) {
-        return Next::At(at + 1);
+        return Some(at + 1);
     }
-    Next::Bad
+    None
 }
 
 // Past one character of a string.
-fn char_end(s: &[u8], at: usize) -> Next
+fn char_end(s: &[u8], at: usize) -> Option<usize>
     requires { at ≤ length s.now }
     ensures { Ends s.now result (char (drop at s.now)) }
 {
@@ -92,13 +92,13 @@ fn char_end(s: &[u8], at: usize) -> Next
         return escape_end(s, at + 1);
     }
     if is_printable(b) {
-        return Next::At(at + 1);
+        return Some(at + 1);
     }
-    Next::Bad
+    None
 }
 
 // Past a string, at the byte after its opening quote.
-pub fn string_end(s: &[u8], at: usize) -> Next
+pub fn string_end(s: &[u8], at: usize) -> Option<usize>
     requires { at ≤ length s.now }
     ensures { Ends s.now result (string_end (drop at s.now)) }
 {
@@ -106,19 +106,19 @@ pub fn string_end(s: &[u8], at: usize) -> Next
     let mut left = s.len() - at;
     while 0 < left {
         if byte(s, i) == b'"' {
-            return Next::At(i + 1);
+            return Some(i + 1);
         }
-        let Next::At(e) = char_end(s, i) else {
-            return Next::Bad;
+        let Some(e) = char_end(s, i) else {
+            return None;
         };
         i = e;
         left -= 1;
     }
-    Next::Bad
+    None
 }
 
 // Past the bytes of `w`, if they stand at a position.
-fn word_end(s: &[u8], at: usize, w: &[u8]) -> Next
+fn word_end(s: &[u8], at: usize, w: &[u8]) -> Option<usize>
     requires { at ≤ length s.now }
     ensures { Ends s.now result (after w.now (drop at s.now)) }
 {
@@ -126,19 +126,19 @@ fn word_end(s: &[u8], at: usize, w: &[u8]) -> Next
     let mut k = 0;
     while k < w.len() {
         if s.len() <= i {
-            return Next::Bad;
+            return None;
         }
         if s[i] != w[k] {
-            return Next::Bad;
+            return None;
         }
         i += 1;
         k += 1;
     }
-    Next::At(i)
+    Some(i)
 }
 
 // Past a value that is neither an array nor an object.
-pub fn scalar_end(s: &[u8], at: usize) -> Next
+pub fn scalar_end(s: &[u8], at: usize) -> Option<usize>
     requires { at ≤ length s.now }
     ensures { Ends s.now result (rest (scalar (drop at s.now))) }
 {
@@ -160,87 +160,87 @@ pub fn scalar_end(s: &[u8], at: usize) -> Next
 
 // Past the values of an array, at the byte after its '['.
 #[cycle(array_end_bare_end_object_end_value_end)]
-fn array_end(s: &[u8], at: usize, depth: usize) -> Next
+fn array_end(s: &[u8], at: usize, depth: usize) -> Option<usize>
     requires { at ≤ length s.now }
     ensures { Ends s.now result (rest (array_end (value depth) (drop at s.now))) }
 {
     let first = spaces_end(s, at);
     if byte(s, first) == b']' {
-        return Next::At(first + 1);
+        return Some(first + 1);
     }
     let mut i = at;
     let mut left = s.len() - at;
     while 0 < left {
-        let Next::At(e) = value_end(s, i, depth) else {
-            return Next::Bad;
+        let Some(e) = value_end(s, i, depth) else {
+            return None;
         };
         let b = byte(s, e);
         if b == b']' {
-            return Next::At(e + 1);
+            return Some(e + 1);
         }
         if b != b',' {
-            return Next::Bad;
+            return None;
         }
         i = e + 1;
         left -= 1;
     }
-    Next::Bad
+    None
 }
 
 // Past a key and its colon.
-pub fn key_end(s: &[u8], at: usize) -> Next
+pub fn key_end(s: &[u8], at: usize) -> Option<usize>
     requires { at ≤ length s.now }
     ensures { Ends s.now result (rest (key (drop at s.now))) }
 {
     let i = spaces_end(s, at);
     if byte(s, i) != b'"' {
-        return Next::Bad;
+        return None;
     }
-    let Next::At(e) = string_end(s, i + 1) else {
-        return Next::Bad;
+    let Some(e) = string_end(s, i + 1) else {
+        return None;
     };
     let c = spaces_end(s, e);
     if byte(s, c) != b':' {
-        return Next::Bad;
+        return None;
     }
-    Next::At(c + 1)
+    Some(c + 1)
 }
 
 // Past the members of an object, at the byte after its '{'.
 #[cycle(array_end_bare_end_object_end_value_end)]
-fn object_end(s: &[u8], at: usize, depth: usize) -> Next
+fn object_end(s: &[u8], at: usize, depth: usize) -> Option<usize>
     requires { at ≤ length s.now }
     ensures { Ends s.now result (rest (object_end (value depth) (drop at s.now))) }
 {
     let first = spaces_end(s, at);
     if byte(s, first) == b'}' {
-        return Next::At(first + 1);
+        return Some(first + 1);
     }
     let mut i = at;
     let mut left = s.len() - at;
     while 0 < left {
-        let Next::At(v) = key_end(s, i) else {
-            return Next::Bad;
+        let Some(v) = key_end(s, i) else {
+            return None;
         };
-        let Next::At(e) = value_end(s, v, depth) else {
-            return Next::Bad;
+        let Some(e) = value_end(s, v, depth) else {
+            return None;
         };
         let b = byte(s, e);
         if b == b'}' {
-            return Next::At(e + 1);
+            return Some(e + 1);
         }
         if b != b',' {
-            return Next::Bad;
+            return None;
         }
         i = e + 1;
         left -= 1;
     }
-    Next::Bad
+    None
 }
 
 // Past a value that starts at a position, of at most `depth` levels of arrays and objects.
 #[cycle(array_end_bare_end_object_end_value_end)]
-fn bare_end(s: &[u8], at: usize, depth: usize) -> Next
+fn bare_end(s: &[u8], at: usize, depth: usize) -> Option<usize>
     requires { at ≤ length s.now }
     ensures { Ends s.now result (rest (bare depth (drop at s.now))) }
 {
@@ -259,21 +259,21 @@ fn bare_end(s: &[u8], at: usize, depth: usize) -> Next
 
 // Past a value and the spaces around it.
 #[cycle(array_end_bare_end_object_end_value_end)]
-pub fn value_end(s: &[u8], at: usize, depth: usize) -> Next
+pub fn value_end(s: &[u8], at: usize, depth: usize) -> Option<usize>
     requires { at ≤ length s.now }
     ensures { Ends s.now result (rest (value depth (drop at s.now))) }
 {
-    let Next::At(e) = bare_end(s, spaces_end(s, at), depth) else {
-        return Next::Bad;
+    let Some(e) = bare_end(s, spaces_end(s, at), depth) else {
+        return None;
     };
-    Next::At(spaces_end(s, e))
+    Some(spaces_end(s, e))
 }
 
 // Whether a whole text is JSON.
 pub fn is_text(s: &[u8]) -> bool
     ensures { result ≡ is_some (text s.now) }
 {
-    let Next::At(e) = value_end(s, 0, JSON_LEVELS) else {
+    let Some(e) = value_end(s, 0, JSON_LEVELS) else {
         return false;
     };
     s.len() - e == 0

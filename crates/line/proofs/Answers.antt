@@ -1,4 +1,5 @@
 -- Laws of a line that is answered: from what a request comes to, and what follows from it, to what the plain node answers. Assumes nothing.
+use Rattle.std.specs.Prelude.{Option, Some, None}
 use Prim.Native.Nat.{ℕ, ◌≤◌, ◌<◌}
 use native.Mathlib.Omega.{arith}
 use mathlib.Core.Path.{◌≡◌, refl, sym, ap, subst, ◌∙◌}
@@ -46,8 +47,6 @@ use Rattle.sound.proofs.Lists.{there_low}
 use Rattle.state.proofs.Views.{client_view}
 use Rattle.outcome.specs.Clauses.Outcome.{status_settings, stored_by, Holds, StatusHolds, Carries, IsDenied, Sends, Activates, Stores, OutcomeIs, Comes, Answers}
 use Rattle.outcome.specs.Clauses.Ready.{Ready}
-use Rattle.outcome.specs.declared.Status.{Status}
-use Rattle.outcome.specs.declared.Status.TheVariants.{Stays, Busy}
 use Rattle.outcome.specs.declared.Outcome.{Outcome}
 use Rattle.outcome.specs.declared.Outcome.TheVariants.{Denied, Unreadable, Sent, Active, Stored}
 use Rattle.outcome.specs.declared.Answered.{Answered}
@@ -156,19 +155,19 @@ module _ (table : List ℕ) (s : Bare) (values before : List ℕ) (c t : ℕ) (g
     settable : t ≤ latest → {p : ℕ} {x : List ℕ} → Holds w p x → Settable w (record { parameter = p; held = valued x; time = t })
     settable h y = record { it = y.parameter; there = y.there; fits = y.fits; in_time = h }
 
-    all_settable : t ≤ latest → (f : Status) → StatusHolds w f → {k : ℕ} {x : List ℕ} → Holds w k x → AllSettable w (stored_by f k x t)
-    all_settable h Stays i y = (settable h y, tt)
-    all_settable h (Busy j b) i y = (settable h i, (settable h y, tt))
+    all_settable : t ≤ latest → (f : Option (ℕ × ℕ)) → StatusHolds w f → {k : ℕ} {x : List ℕ} → Holds w k x → AllSettable w (stored_by f k x t)
+    all_settable h None i y = (settable h y, tt)
+    all_settable h (Some (j, b)) i y = (settable h i, (settable h y, tt))
 
     -- lengths and times, of a status and then of the parameter
-    settings_are : (g : Settings) (f : Status) (k : ℕ) (x : List ℕ)
+    settings_are : (g : Settings) (f : Option (ℕ × ℕ)) (k : ℕ) (x : List ℕ)
         → with_length (settings_with g (status_settings f t)) k (length x) t ≡ settings_with g (stored_by f k x t)
     unfolding settings_with with_setting
-    settings_are g Stays k x = refl
-    settings_are g (Busy j b) k x = refl
+    settings_are g None k x = refl
+    settings_are g (Some (j, b)) k x = refl
 
     stored_answered : Settled.Sized s.settings → t ≤ latest
-        → (f : Status) (k size written : ℕ) → Stores w n c t before mid values stored o f k size written → Sets mid after s c t r f k size written
+        → (f : Option (ℕ × ℕ)) (k size written : ℕ) → Stores w n c t before mid values stored o f k size written → Sets mid after s c t r f k size written
         → Answers table s values before r stored after (conclude w n c t p o) (settings_of o)
     unfolding is_unfit
     stored_answered z h f k size written x y =
@@ -207,9 +206,9 @@ module _ (table : List ℕ) (s : Bare) (values before : List ℕ) (c t : ℕ) (g
   holds_low : {k : ℕ} {x : List ℕ} → Holds w k x → k < 64
   holds_low {k} y = omega (arith, there_low (parameters w) k y.parameter y.there, (accepted table given.lent.accepted).few)
 
-  status_numbered : (f : Status) → StatusHolds w f → StatusNumbered f
-  status_numbered Stays x = tt
-  status_numbered (Busy k b) x = holds_low x
+  status_numbered : (f : Option (ℕ × ℕ)) → StatusHolds w f → StatusNumbered f
+  status_numbered None x = tt
+  status_numbered (Some (k, b)) x = holds_low x
 
   module _ (xs : List ℕ) (short : length xs ≤ 1024) (a p d : Part) (h : Parted xs a p d) where
     -- room for an error; numbers of parameters and a stored length

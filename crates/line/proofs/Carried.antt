@@ -1,10 +1,10 @@
 -- Laws of requests that are carried out: replies of one record, data that is missing, and a client's active modules. Assumes nothing.
+use Rattle.std.specs.Prelude.{Option, Some, None}
 use Prim.Native.Nat.{ℕ, ◌^◌, ◌≤◌, ◌<◌}
 use native.Mathlib.Omega.{arith}
 use mathlib.Core.Path.{◌≡◌, refl, sym, ap₂, ◌∙◌, subst}
 use mathlib.Core.Bool.{Bool, true, false, cond}
 use mathlib.Core.List.{List, []}
-use mathlib.Core.Option.{Option, none, some}
 use lib.ListN.{length, get_or, length-append, length-take}
 use Rattle.ascii.specs.Numbers.{two_bytes, latest}
 use Rattle.ascii.specs.Text.{bytes}
@@ -22,7 +22,6 @@ use Rattle.message.proofs.Said.{data_length, pong_length, error_length, class_sh
 use Rattle.table.specs.Table.{Table}
 use Rattle.table.specs.Layout.{table_of}
 use Rattle.table.specs.Clauses.At.{bytes_of, Inside, EditionIs}
-use Rattle.table.specs.declared.edition.Edition as E
 use Rattle.table.specs.declared.layout.Part as TablePart
 use Rattle.report.specs.Judge.{table_number}
 use Rattle.sound.proofs.Accepted.{GoodEdition, accepted}
@@ -49,7 +48,7 @@ use Rattle.outcome.specs.declared.Outcome.TheVariants.{Sent}
 
 -- ## Where the text of an edition lies
 
-module _ (s : List ℕ) (r : E.Edition) (h : EditionIs s r) (p : TablePart.Part) (z : r ≡ E.TheVariants.Given p) where
+module _ (s : List ℕ) (r : Option TablePart.Part) (h : EditionIs s r) (p : TablePart.Part) (z : r ≡ Some p) where
   given_inside : Inside s p
   given_inside = (subst (EditionIs s) z h).inside
 
@@ -66,16 +65,16 @@ module _ (d : List ℕ) (c : ℕ) (room : 32768 ≤ length d) where
   unfolding encode mark client body two_bytes bytes
   final_room r h = record { fits = simp length-append (omega arith); short = simp length-append (omega arith) }
 
-  pub identification_room : RoomFor d 0 (final c (identification none))
+  pub identification_room : RoomFor d 0 (final c (identification None))
   unfolding reply_line identity bytes
-  identification_room = final_room (identification none) (omega arith)
+  identification_room = final_room (identification None) (omega arith)
 
-  pub edition_room : (s : List ℕ) → table_number s ≡ 0 → (r : E.Edition) → EditionIs s r → (p : TablePart.Part) → r ≡ E.TheVariants.Given p
-      → RoomFor d 0 (final c (identification (some (bytes_of s p))))
+  pub edition_room : (s : List ℕ) → table_number s ≡ 0 → (r : Option TablePart.Part) → EditionIs s r → (p : TablePart.Part) → r ≡ Some p
+      → RoomFor d 0 (final c (identification (Some (bytes_of s p))))
   unfolding reply_line identity
   edition_room s e r h p z =
       let x = (subst GoodEdition (subst (EditionIs s) z h).is (accepted s e).edition).short in
-      final_room (identification (some (bytes_of s p))) (omega arith)
+      final_room (identification (Some (bytes_of s p))) (omega arith)
 
   pub pong_room : (t : ℕ) → t ≤ latest → (token : List ℕ) → length token ≤ 1024 → RoomFor d 0 (final c (pong token t))
   unfolding bytes
@@ -129,20 +128,20 @@ module _ {before after : List ℕ} {c written : ℕ} where
       }
 
   -- by the edition that the code finds in the table
-  module _ (table : List ℕ) (r : E.Edition) (h : EditionIs table r) where
+  module _ (table : List ℕ) (r : Option TablePart.Part) (h : EditionIs table r) where
     identified : (e : Option (List ℕ)) → (table_of table).edition ≡ e → Puts before 0 (encode (final c (identification e))) after written
         → (t : ℕ) → ComesAtAny table before c t (Sent written) after R.identify
     unfolding outcome
     identified e i x t n values = sends (table_of table) n t values _ (identification e) (rw i refl) x
 
-    pub identified_first : r ≡ E.TheVariants.First → Puts before 0 (encode (final c (identification none))) after written → (t : ℕ)
+    pub identified_first : r ≡ None → Puts before 0 (encode (final c (identification None))) after written → (t : ℕ)
         → ComesAtAny table before c t (Sent written) after R.identify
-    identified_first z x = identified none (subst (EditionIs table) z h) x
+    identified_first z x = identified None (subst (EditionIs table) z h) x
 
-    pub identified_given : (p : TablePart.Part) → r ≡ E.TheVariants.Given p
-        → Puts before 0 (encode (final c (identification (some (bytes_of table p))))) after written → (t : ℕ)
+    pub identified_given : (p : TablePart.Part) → r ≡ Some p
+        → Puts before 0 (encode (final c (identification (Some (bytes_of table p))))) after written → (t : ℕ)
         → ComesAtAny table before c t (Sent written) after R.identify
-    identified_given p z x = identified (some (bytes_of table p)) (subst (EditionIs table) z h).is x
+    identified_given p z x = identified (Some (bytes_of table p)) (subst (EditionIs table) z h).is x
 
   pub ponged : (token : List ℕ) (t : ℕ) → Puts before 0 (encode (final c (pong token t))) after written → (table : List ℕ)
       → ComesAtAny table before c t (Sent written) after (R.ping token)

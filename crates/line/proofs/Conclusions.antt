@@ -1,4 +1,5 @@
 -- Laws of what follows from an outcome, one for each case. Assumes nothing.
+use Rattle.std.specs.Prelude.{Option, Some, None}
 use Prim.Native.Nat.{ℕ, ◌≤◌, ◌<◌}
 use mathlib.Core.Path.{◌≡◌, sym, subst, ◌∙◌}
 use mathlib.Core.List.{List}
@@ -12,8 +13,6 @@ use Rattle.state.specs.declared.Bare.{Bare}
 use Rattle.state.specs.declared.Settings.{Settings}
 use Rattle.state.specs.View.{with_length, with_setting, settings_with}
 use Rattle.outcome.specs.Clauses.Outcome.{status_settings}
-use Rattle.outcome.specs.declared.Status.{Status}
-use Rattle.outcome.specs.declared.Status.TheVariants.{Stays, Busy}
 use Rattle.outcome.specs.declared.Outcome.{Outcome}
 use Rattle.outcome.specs.declared.Outcome.TheVariants.{Denied, Unreadable, Sent, Active, Stored}
 use Rattle.outcome.specs.declared.Answered.{Answered}
@@ -26,22 +25,22 @@ module _ (out action specifier : List ℕ) (came : Outcome) where
   pub may_deny_read : (f : Fault) (since : ℕ) → came ≡ Unreadable f since → Concludable out action specifier came → Deniable out action specifier
   may_deny_read f since h k = subst (Concludable out action specifier) h k
 
-  pub may_store : (f : Status) (k size written : ℕ) → came ≡ Stored f k size written → Concludable out action specifier came
+  pub may_store : (f : Option (ℕ × ℕ)) (k size written : ℕ) → came ≡ Stored f k size written → Concludable out action specifier came
       → StatusNumbered f × ((k < 64) × (size ≤ 256))
   may_store f k size written h i = subst (Concludable out action specifier) h i
 
 -- ## A status that is set first
 
-module _ (f : Status) where
-  pub busy_low : (k h : ℕ) → f ≡ Busy k h → StatusNumbered f → k < 64
+module _ (f : Option (ℕ × ℕ)) where
+  pub busy_low : (k h : ℕ) → f ≡ Some (k, h) → StatusNumbered f → k < 64
   busy_low k h e l = subst StatusNumbered e l
 
-  pub no_settings_lem : (s : Settings) (t : ℕ) → f ≡ Stays → s ≡ settings_with s (status_settings f t)
+  pub no_settings_lem : (s : Settings) (t : ℕ) → f ≡ None → s ≡ settings_with s (status_settings f t)
   unfolding settings_with
   no_settings_lem s t e = rw e
 
   -- with the length of its text
-  pub busy_settings_lem : (s : Settings) (t k h : ℕ) → f ≡ Busy k h → (r : Settings) → r ≡ with_length s k 22 t → r ≡ settings_with s (status_settings f t)
+  pub busy_settings_lem : (s : Settings) (t k h : ℕ) → f ≡ Some (k, h) → (r : Settings) → r ≡ with_length s k 22 t → r ≡ settings_with s (status_settings f t)
   unfolding settings_with with_setting busy bytes
   busy_settings_lem s t k h e r i = i ∙ rw e
 
@@ -61,6 +60,6 @@ module _ {before after : List ℕ} {s : Bare} {c t : ℕ} {r : Answered} (action
   pub switches : {mask written : ℕ} → came ≡ Active mask written → Switches before after s c t r mask written → Concludes before after s c t r action specifier came
   switches h d = subst (Concludes before after s c t r action specifier) (sym h) d
 
-  pub stores : {f : Status} {k size written : ℕ} → came ≡ Stored f k size written → Sets before after s c t r f k size written
+  pub stores : {f : Option (ℕ × ℕ)} {k size written : ℕ} → came ≡ Stored f k size written → Sets before after s c t r f k size written
       → Concludes before after s c t r action specifier came
   stores h d = subst (Concludes before after s c t r action specifier) (sym h) d

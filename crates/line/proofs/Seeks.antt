@@ -1,10 +1,12 @@
 -- Laws of the search that a request needs. Assumes nothing.
+use Rattle.std.specs.Prelude.{Option, Some, None}
 use Prim.Native.Nat.{ℕ}
 use native.Mathlib.Omega.{arith}
 use mathlib.Core.Bool.{Bool, true, false, not, false≢true}
 use mathlib.Core.List.{List}
 use mathlib.Core.Path.{◌≡◌, refl, sym, ap, ◌∙◌}
 use borrow.Author.Tests.{not-true, not-false}
+use Rattle.std.proofs.lemmas.Option.{same_Some}
 use Rattle.table.specs.Layout.{table_of}
 use Rattle.search.specs.Clauses.Found.{Locates}
 use Rattle.search.specs.declared.locate.Located as L
@@ -20,21 +22,23 @@ use Rattle.message.specs.declared.line.Switch.TheVariants.{On, Off}
 use Rattle.message.specs.declared.line.Verb.{Verb}
 use Rattle.message.proofs.Requests.{requested}
 use Rattle.plain.specs.Answer.{request_steps}
-use Rattle.line.specs.declared.locating.Names.{Names}
-use Rattle.line.specs.declared.locating.Names.TheVariants as N
 use Rattle.line.specs.Clauses.Asked.{is_built}
 use Rattle.line.specs.Clauses.Names.{names_of, LocatedAt, SoughtFor}
 
 abbrev unsought : Placed
 unsought = record { located = L.TheVariants.NoModule; steps = 0 }
 
-named_not : {v : Verb} {m a : Part} → N.At v m a ≡ N.Nothing → ⊥
+named_not : {v : Verb} {m a : Part} → ◌≡◌ {A = Option (Verb × Part × Part)} (Some (v, m, a)) None → ⊥
 named_not e = let z : ◌≡◌ {A = ℕ} 0 1 = cc in omega arith
 
-not_named : {v : Verb} {m a : Part} → N.Nothing ≡ N.At v m a → ⊥
+not_named : {v : Verb} {m a : Part} → ◌≡◌ {A = Option (Verb × Part × Part)} None (Some (v, m, a)) → ⊥
 not_named e = named_not (sym e)
 
-pub named_at : (asked : Request) (v : Verb) (m a : Part) → asked ≡ Q.Named v m a → N.At v m a ≡ names_of asked
+same_names : {u v : Verb} {k m b a : Part} → ◌≡◌ {A = Option (Verb × Part × Part)} (Some (u, k, b)) (Some (v, m, a)) → (u ≡ v) × (k ≡ m) × (b ≡ a)
+same_names {u} {v} {k} {m} {b} {a} e = let p = same_Some {A = Verb × Part × Part} (u, k, b) (v, m, a) e in
+    (ap (λ (q : Verb × Part × Part). q.0) p, ap (λ (q : Verb × Part × Part). q.1) p, ap (λ (q : Verb × Part × Part). q.2) p)
+
+pub named_at : (asked : Request) (v : Verb) (m a : Part) → asked ≡ Q.Named v m a → Some (v, m, a) ≡ names_of asked
 named_at asked v m a e = rw e
 
 module _ (s index line : List ℕ) where
@@ -42,7 +46,7 @@ module _ (s index line : List ℕ) where
   found_located asked r h = h.located
 
   -- a request that is about no accessible
-  pub seeks_nothing : (asked : Request) → names_of asked ≡ N.Nothing → SoughtFor s index line asked unsought
+  pub seeks_nothing : (asked : Request) → names_of asked ≡ None → SoughtFor s index line asked unsought
   unfolding request_steps
   seeks_nothing Q.Identify e = record { located = tt; steps = λ p d. refl }
   seeks_nothing Q.Describe e = record { located = tt; steps = λ p d. refl }
@@ -72,27 +76,27 @@ module _ (s index line : List ℕ) where
   verb_idle Verb.Check b x m a = rw b
 
   module _ (v : Verb) (m a : Part) where
-    pub names_in : (asked : Request) → Inside line asked → names_of asked ≡ N.At v m a → Within line m × Within line a
+    pub names_in : (asked : Request) → Inside line asked → names_of asked ≡ Some (v, m, a) → Within line m × Within line a
     names_in Q.Identify h e = absurd (not_named e)
     names_in Q.Describe h e = absurd (not_named e)
     names_in Q.Ping h e = absurd (not_named e)
     names_in (Q.All v) h e = absurd (not_named e)
     names_in (Q.Scoped v k) h e = absurd (not_named e)
     names_in (Q.Named u k b) h e =
-        let p : k ≡ m = cc in
-        let q : b ≡ a = cc in
+        let p : k ≡ m = (same_names e).1 in
+        let q : b ≡ a = (same_names e).2 in
         (rw p at h.0, rw q at h.1)
     names_in Q.Count h e = absurd (not_named e)
     names_in Q.Malformed h e = absurd (not_named e)
 
-    pub module_in : (asked : Request) → Inside line asked → (r : Names) → r ≡ names_of asked → r ≡ N.At v m a → Within line m
+    pub module_in : (asked : Request) → Inside line asked → (r : Option (Verb × Part × Part)) → r ≡ names_of asked → r ≡ Some (v, m, a) → Within line m
     module_in asked h r e z = (names_in asked h (sym e ∙ z)).0
 
-    pub name_in_lem : (asked : Request) → Inside line asked → (r : Names) → r ≡ names_of asked → r ≡ N.At v m a → Within line a
+    pub name_in_lem : (asked : Request) → Inside line asked → (r : Option (Verb × Part × Part)) → r ≡ names_of asked → r ≡ Some (v, m, a) → Within line a
     name_in_lem asked h r e z = (names_in asked h (sym e ∙ z)).1
 
     seeks_names :
-        is_built (table_of s) v ≡ true → (asked : Request) → names_of asked ≡ N.At v m a → (r : Placed) → Locates s (part line m) (part line a) r.located
+        is_built (table_of s) v ≡ true → (asked : Request) → names_of asked ≡ Some (v, m, a) → (r : Placed) → Locates s (part line m) (part line a) r.located
         → r.steps ≡ seek_steps (table_of s) index (part line m) (part line a) → SoughtFor s index line asked r
     seeks_names g Q.Identify e r x y = absurd (not_named e)
     seeks_names g Q.Describe e r x y = absurd (not_named e)
@@ -100,9 +104,9 @@ module _ (s index line : List ℕ) where
     seeks_names g (Q.All v) e r x y = absurd (not_named e)
     seeks_names g (Q.Scoped v k) e r x y = absurd (not_named e)
     seeks_names g (Q.Named u k b) e r x y =
-        let o : u ≡ v = cc in
-        let p : m ≡ k = cc in
-        let q : a ≡ b = cc in
+        let o : u ≡ v = (same_names e).0 in
+        let p : m ≡ k = sym (same_names e).1 in
+        let q : a ≡ b = sym (same_names e).2 in
         let f : is_built (table_of s) u ≡ true = rw o g in
         record {
           located = λ _. rw (p, q) at x;
@@ -112,14 +116,14 @@ module _ (s index line : List ℕ) where
     seeks_names g Q.Malformed e r x y = absurd (not_named e)
 
     -- a verb that the edition doesn't have
-    seeks_idle : is_built (table_of s) v ≡ false → (asked : Request) → names_of asked ≡ N.At v m a → SoughtFor s index line asked unsought
+    seeks_idle : is_built (table_of s) v ≡ false → (asked : Request) → names_of asked ≡ Some (v, m, a) → SoughtFor s index line asked unsought
     seeks_idle g Q.Identify e = absurd (not_named e)
     seeks_idle g Q.Describe e = absurd (not_named e)
     seeks_idle g Q.Ping e = absurd (not_named e)
     seeks_idle g (Q.All u) e = absurd (not_named e)
     seeks_idle g (Q.Scoped u k) e = absurd (not_named e)
     seeks_idle g (Q.Named u k b) e =
-        let o : u ≡ v = cc in
+        let o : u ≡ v = (same_names e).0 in
         let f : is_built (table_of s) u ≡ false = rw o g in
         record {
           located = λ h. absurd (false≢true (sym f ∙ h));
@@ -130,13 +134,13 @@ module _ (s index line : List ℕ) where
 
     -- as the code has them
     pub seeks_unbuilt :
-        (r : Bool) → r ≡ is_built (table_of s) v → not r ≡ true → (asked : Request) (n : Names) → n ≡ names_of asked → n ≡ N.At v m a
+        (r : Bool) → r ≡ is_built (table_of s) v → not r ≡ true → (asked : Request) (n : Option (Verb × Part × Part)) → n ≡ names_of asked → n ≡ Some (v, m, a)
         → SoughtFor s index line asked unsought
     seeks_unbuilt r b f asked n e z = seeks_idle (sym b ∙ not-true r f) asked (sym e ∙ z)
 
     pub seeks_found :
         (b : Bool) → b ≡ is_built (table_of s) v → not b ≡ false
-        → (asked : Request) (n : Names) → n ≡ names_of asked → n ≡ N.At v m a → (xs ys : List ℕ) → xs ≡ part line m → ys ≡ part line a
+        → (asked : Request) (n : Option (Verb × Part × Part)) → n ≡ names_of asked → n ≡ Some (v, m, a) → (xs ys : List ℕ) → xs ≡ part line m → ys ≡ part line a
         → (r : Placed) → Locates s xs ys r.located × (r.steps ≡ seek_steps (table_of s) index xs ys) → SoughtFor s index line asked r
     seeks_found b f g asked n e z xs ys p q r h =
         let x = rw (p, q) at h.0 in
@@ -151,7 +155,7 @@ module _ (s index line : List ℕ) where
       let f : is_built (table_of s) v ≡ true → Locates s (part line m) (part line a) l = rw e at h in
       rw (p, q) (f b)
 
-  pub seeks_none : (asked : Request) (n : Names) → n ≡ names_of asked → n ≡ N.Nothing → SoughtFor s index line asked unsought
+  pub seeks_none : (asked : Request) (n : Option (Verb × Part × Part)) → n ≡ names_of asked → n ≡ None → SoughtFor s index line asked unsought
   seeks_none asked n e z = seeks_nothing asked (sym e ∙ z)
 
   -- the steps of the whole line

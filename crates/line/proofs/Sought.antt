@@ -1,9 +1,9 @@
 -- Laws of what a line's names find, and of the errors that come first. Assumes nothing.
+use Rattle.std.specs.Prelude.{Option, Some, None}
 use Prim.Native.Nat.{ℕ}
 use mathlib.Core.Path.{◌≡◌, refl, sym, subst, ◌∙◌}
 use mathlib.Core.Bool.{Bool, true, false, not, false≢true}
 use mathlib.Core.List.{List}
-use mathlib.Core.Option.{Option, none, some}
 use lib.Dec.{eqb}
 use borrow.Author.Tests.{not-true, not-false}
 use lib.ListN.{length}
@@ -13,14 +13,12 @@ use Rattle.table.specs.Table.{Parameter, Command, Table}
 use Rattle.table.specs.Layout.{table_of}
 use Rattle.table.specs.Search.{Placed, find_module, find_parameter, find_command}
 use Rattle.table.specs.Clauses.At.{EditionIs}
-use Rattle.table.specs.declared.edition.Edition as E
 use Rattle.table.specs.declared.layout.Part.{Part}
 use Rattle.table.specs.declared.layout.ParameterAt.{ParameterAt}
 use Rattle.table.specs.declared.layout.CommandAt.{CommandAt}
 use Rattle.report.specs.Judge.{table_number}
 use Rattle.search.specs.Clauses.Found.{FindsModule, ParameterLocated, CommandLocated, NothingLocated, Locates}
 use Rattle.search.specs.declared.locate.Located as L
-use Rattle.search.specs.declared.find.FoundModule as F
 use Rattle.table.proofs.Search.{module_there, module_named_lem}
 use Rattle.message.specs.Error as Error
 use Rattle.message.specs.Clauses.Parsed.{switch_request, verb_request}
@@ -45,18 +43,18 @@ use Rattle.line.specs.Clauses.Asked.{missing_of, is_built}
 -- ## Names
 
 -- what is not found is denied; what is found goes on
-none_found : {A : Type 0} (e : Error.Class) (o : Option A) (f : A → Outcome) → o ≡ none → found e o f ≡ denied (Error.class e)
+none_found : {A : Type 0} (e : Error.Class) (o : Option A) (f : A → Outcome) → o ≡ None → found e o f ≡ denied (Error.class e)
 unfolding found
 none_found e o f z = rw z
 
-some_found : {A : Type 0} (e : Error.Class) (o : Option A) (f : A → Outcome) (x : A) → o ≡ some x → found e o f ≡ f x
+some_found : {A : Type 0} (e : Error.Class) (o : Option A) (f : A → Outcome) (x : A) → o ≡ Some x → found e o f ≡ f x
 unfolding found
 some_found e o f x z = rw z
 
 past : {A : Type 0} (e : Error.Class) (o : Option A) (x : Outcome) → is_some o ≡ true → found e o (λ _. x) ≡ x
 unfolding found
-past e none x h = absurd (false≢true h)
-past e (some a) x h = refl
+past e None x h = absurd (false≢true h)
+past e (Some a) x h = refl
 
 module _ (s m a : List ℕ) where
   -- an accessible of the names, of a kind, which f is asked of
@@ -64,18 +62,18 @@ module _ (s m a : List ℕ) where
     abbrev asked : Outcome
     asked = found Error.NoSuchModule (find_module (table_of s) m) λ x. found e o f
 
-    lacking : o ≡ none → asked ≡ denied (Error.class e)
+    lacking : o ≡ None → asked ≡ denied (Error.class e)
     lacking z = past Error.NoSuchModule (find_module (table_of s) m) (found e o f) h ∙ none_found e o f z
 
-    there : (x : A) → o ≡ some x → asked ≡ f x
+    there : (x : A) → o ≡ Some x → asked ≡ f x
     there x z = past Error.NoSuchModule (find_module (table_of s) m) (found e o f) h ∙ some_found e o f x z
 
   -- what a verb takes is not there
   abbrev Lacks : Verb → Type 0
-  Lacks Verb.Read = find_parameter (table_of s) m a ≡ none
-  Lacks Verb.Change = find_parameter (table_of s) m a ≡ none
-  Lacks Verb.Execute = find_command (table_of s) m a ≡ none
-  Lacks Verb.Check = find_parameter (table_of s) m a ≡ none
+  Lacks Verb.Read = find_parameter (table_of s) m a ≡ None
+  Lacks Verb.Change = find_parameter (table_of s) m a ≡ None
+  Lacks Verb.Execute = find_command (table_of s) m a ≡ None
+  Lacks Verb.Check = find_parameter (table_of s) m a ≡ None
 
   -- the errors, in their order
   module _ (v : Verb) (xs : List ℕ) (n : Node) (c t : ℕ) (before values : List ℕ) where
@@ -94,7 +92,7 @@ module _ (s m a : List ℕ) where
         go Verb.Check b = rw b
 
     module _ (b : is_built (table_of s) v ≡ true) where
-      pub homeless : find_module (table_of s) m ≡ none → DeniedWith K.NoSuchModule
+      pub homeless : find_module (table_of s) m ≡ None → DeniedWith K.NoSuchModule
       unfolding outcome
       homeless z = record { is = go v b; quiet = refl; area = refl }
         where
@@ -144,11 +142,11 @@ module _ (s m a : List ℕ) where
 
 -- ## The edition
 
-module _ (s : List ℕ) (r : E.Edition) (h : EditionIs s r) where
-  pub edited : (p : Part) → r ≡ E.TheVariants.Given p → true ≡ is_some (table_of s).edition
+module _ (s : List ℕ) (r : Option Part) (h : EditionIs s r) where
+  pub edited : (p : Part) → r ≡ Some p → true ≡ is_some (table_of s).edition
   edited p z = rw (subst (EditionIs s) z h).is
 
-  pub unedited : r ≡ E.TheVariants.First → false ≡ is_some (table_of s).edition
+  pub unedited : r ≡ None → false ≡ is_some (table_of s).edition
   unedited z = rw (subst (EditionIs s) z h)
 
 module _ (w : Table) (v : Verb) where
@@ -185,16 +183,16 @@ abbrev switches : Switch → Table → Node → ℕ → ℕ → (ℕ → Bool) �
 switches On w n c t = activates w n c t
 switches Off w n c t = deactivates w n c t
 
-module _ (s m : List ℕ) (r : F.FoundModule) (g : FindsModule s m r) where
-  pub no_module : r ≡ F.TheVariants.Nothing → (v : Switch) (n : Node) (c t : ℕ) (before values : List ℕ)
-      → IsDenied (table_of s) n c t before before values values (outcome (table_of s) n c t (switch_request v (some m))) (denied (Error.class Error.NoSuchModule))
+module _ (s m : List ℕ) (r : Option (ℕ × ℕ)) (g : FindsModule s m r) where
+  pub no_module : r ≡ None → (v : Switch) (n : Node) (c t : ℕ) (before values : List ℕ)
+      → IsDenied (table_of s) n c t before before values values (outcome (table_of s) n c t (switch_request v (Some m))) (denied (Error.class Error.NoSuchModule))
   unfolding outcome in_scope
   no_module z On n c t before values =
       record { is = none_found Error.NoSuchModule (find_module (table_of s) m) _ (subst (FindsModule s m) z g); quiet = refl; area = refl }
   no_module z Off n c t before values =
       record { is = none_found Error.NoSuchModule (find_module (table_of s) m) _ (subst (FindsModule s m) z g); quiet = refl; area = refl }
 
-  module _ (i at : ℕ) (z : r ≡ F.TheVariants.At i at) where
+  module _ (i at : ℕ) (z : r ≡ Some (i, at)) where
     pub module_scoped : table_number s ≡ 0 → Scoped (length (table_of s).modules) i m
     module_scoped e =
         let f = subst (FindsModule s m) z g in
@@ -210,13 +208,13 @@ module _ (s m : List ℕ) (r : F.FoundModule) (g : FindsModule s m r) where
     module_low e = record { low = few s e i m (module_scoped e); named = (module_scoped e).named }
 
     module_is : (v : Switch) (n : Node) (c t : ℕ)
-        → switches v (table_of s) n c t (λ j. eqb j i) (some m) ≡ outcome (table_of s) n c t (switch_request v (some m))
+        → switches v (table_of s) n c t (λ j. eqb j i) (Some m) ≡ outcome (table_of s) n c t (switch_request v (Some m))
     unfolding outcome in_scope
     module_is On n c t = sym (some_found Error.NoSuchModule (find_module (table_of s) m) _ _ (subst (FindsModule s m) z g).is)
     module_is Off n c t = sym (some_found Error.NoSuchModule (find_module (table_of s) m) _ _ (subst (FindsModule s m) z g).is)
 
     pub module_comes : (v : Switch) (st : State) (values before : List ℕ) (c t : ℕ) (o : Code.Outcome) (stored after : List ℕ)
-        → ComesTo s st values before c t o stored after (λ w n c t. switches v w n c t (λ j. eqb j i) (some m))
-        → Comes s st values before c t o stored after (switch_request v (some m))
+        → ComesTo s st values before c t o stored after (λ w n c t. switches v w n c t (λ j. eqb j i) (Some m))
+        → Comes s st values before c t o stored after (switch_request v (Some m))
     module_comes v st values before c t o stored after y =
         subst (λ (x : Outcome). OutcomeIs (table_of s) (view s st values) c t before after values stored o x) (module_is v (view s st values) c t) y

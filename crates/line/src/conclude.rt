@@ -8,7 +8,7 @@ ghost use Rattle.line.specs.Clauses.Concluded.{StatusNumbered, Concludable, Conc
 use message::line::Part;
 use message::say::Denial;
 use outbox::write::put_final_error;
-use outcome::{Answered, Outcome, Status};
+use outcome::{Answered, Outcome};
 use state::client::with_active;
 use state::setting::stored;
 use state::{Bare, Settings};
@@ -27,13 +27,13 @@ pub(crate) fn bytes_of(line: &[u8], p: Part) -> &[u8]
 const BUSY_LENGTH: usize = 22;
 
 // The settings with those of a status that a change sets first (M-100).
-fn with_status(settings: Settings, status: Status, time: u64) -> Settings
+fn with_status(settings: Settings, status: Option<(usize, usize)>, time: u64) -> Settings
     requires { StatusNumbered status }
     ensures { result ≡ settings_with settings (status_settings status time) }
 {
     match status {
-        Status::Stays => settings,
-        Status::Busy(k, _) => stored(settings, k, BUSY_LENGTH, time),
+        None => settings,
+        Some((k, _)) => stored(settings, k, BUSY_LENGTH, time),
     }
 }
 

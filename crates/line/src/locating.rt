@@ -10,25 +10,18 @@ use message::line::{Part, Request, Verb};
 use search::locate::Located;
 use seek::locate::{Placed, locate};
 
-// The verb of a request that is about an accessible, and where the names lie.
-#[derive(Clone, Copy)]
-pub(crate) enum Names {
-    At(Verb, Part, Part),
-    Nothing,
-}
-
-fn names_of(asked: Request) -> Names
+fn names_of(asked: Request) -> Option<(Verb, Part, Part)>
     ensures { result ≡ names_of asked }
 {
     match asked {
-        Request::Identify => Names::Nothing,
-        Request::Describe => Names::Nothing,
-        Request::Ping => Names::Nothing,
-        Request::All(_) => Names::Nothing,
-        Request::Scoped(_, _) => Names::Nothing,
-        Request::Named(verb, m, a) => Names::At(verb, m, a),
-        Request::Count => Names::Nothing,
-        Request::Malformed => Names::Nothing,
+        Request::Identify => None,
+        Request::Describe => None,
+        Request::Ping => None,
+        Request::All(_) => None,
+        Request::Scoped(_, _) => None,
+        Request::Named(verb, m, a) => Some((verb, m, a)),
+        Request::Count => None,
+        Request::Malformed => None,
     }
 }
 
@@ -37,7 +30,7 @@ pub(crate) fn sought(table: &[u8], index: &[u8], line: &[u8], asked: Request) ->
     requires { (table_number table.now ≡ 0) × Inside line.now asked }
     ensures { SoughtFor table.now index.now line.now asked result }
 {
-    let Names::At(verb, m, a) = names_of(asked) else {
+    let Some((verb, m, a)) = names_of(asked) else {
         return Placed {
             located: Located::NoModule,
             steps: 0,

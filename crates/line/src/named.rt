@@ -16,7 +16,7 @@ use message::say::Class;
 use outcome::Outcome;
 use search::locate::Located;
 use state::Bare;
-use table::edition::{Edition, edition_of};
+use table::edition::{edition_of};
 use table::layout::{CommandAt, ParameterAt};
 
 // The error where what a verb takes is not there.
@@ -37,8 +37,8 @@ fn is_edited(table: &[u8]) -> bool
     ensures { result ≡ is_some (table_of table.now).edition }
 {
     match edition_of(table) {
-        Edition::Given(_) => true,
-        Edition::First => false,
+        Some(_) => true,
+        None => false,
     }
 }
 

@@ -25,7 +25,7 @@ use search::locate::Located;
 use state::Bare;
 use state::bits::bit_count;
 use state::count::counts_of;
-use table::edition::{Edition, edition_of};
+use table::edition::{edition_of};
 
 // The identification of the first edition, or the one that the table gives.
 fn identify(table: &[u8], out: &mut [u8], client: u8) -> Outcome
@@ -33,8 +33,8 @@ fn identify(table: &[u8], out: &mut [u8], client: u8) -> Outcome
     ensures { (t : ℕ) → ComesAtAny table.now out.old client t result out.new R.identify }
 {
     match edition_of(table) {
-        Edition::First => Outcome::Sent(put_final_identification(out, 0, client)),
-        Edition::Given(text) => {
+        None => Outcome::Sent(put_final_identification(out, 0, client)),
+        Some(text) => {
             let from = text.from;
             let to = text.to;
             Outcome::Sent(put_final_edition(out, 0, client, &table[from..to]))

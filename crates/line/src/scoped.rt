@@ -1,6 +1,5 @@
 // `activate` and `deactivate`, of all modules and of one.
-ghost use Rattle.std.proofs.Math.Option.{none, some};
-ghost use Rattle.std.specs.Prelude.{ℕ};
+ghost use Rattle.std.specs.Prelude.{ℕ, Some, None};
 ghost use Rattle.message.specs.Clauses.Parsed.{switch_request};
 ghost use Rattle.outcome.specs.Clauses.Ready.{Ready};
 ghost use Rattle.outcome.specs.Clauses.Outcome.{Comes};
@@ -9,7 +8,7 @@ ghost use Rattle.state.specs.Clauses.Bare.{unlined};
 use message::line::Switch;
 use message::say::Class;
 use outcome::Outcome;
-use search::find::{FoundModule, find_module};
+use search::find::{find_module};
 use state::Bare;
 use switch::{activate, activate_all, deactivate, deactivate_all};
 
@@ -23,7 +22,7 @@ pub(crate) fn switch_all<'a>(
 ) -> Outcome
     requires { Ready table.now (unlined state) values.now out.old client }
     ensures { (t : ℕ) → Comes table.now (unlined state) values.now out.old client t result values.now
-        out.new (switch_request switch none) }
+        out.new (switch_request switch None) }
 {
     match switch {
         Switch::On => activate_all(table, values, out, state, client),
@@ -43,9 +42,9 @@ pub(crate) fn switch_module<'a>(
 ) -> Outcome
     requires { Ready table.now (unlined state) values.now out.old client }
     ensures { (t : ℕ) → Comes table.now (unlined state) values.now out.old client t result values.now
-        out.new (switch_request switch (some «module».now)) }
+        out.new (switch_request switch (Some «module».now)) }
 {
-    let FoundModule::At(i, _) = find_module(table, module) else {
+    let Some((i, _)) = find_module(table, module) else {
         return Outcome::Denied(Class::NoSuchModule);
     };
     let clients = state.clients;

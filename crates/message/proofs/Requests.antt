@@ -1,4 +1,5 @@
 -- Laws of a line's parts and of what they ask for, one for each way through a function. Assumes nothing.
+use Rattle.std.specs.Prelude.{Some, None}
 use Prim.Native.Nat.{ℕ, ◌-◌}
 use native.Mathlib.Omega.{arith}
 use native.Mathlib.Nat.{sub-zero}
@@ -6,7 +7,6 @@ use borrow.Author.Tests.{eq-eqb, ne_eqb}
 use mathlib.Core.Path.{◌≡◌, refl, sym, ap, ◌∙◌}
 use mathlib.Core.Bool.{Bool, true, false, cond, ◌&&◌}
 use mathlib.Core.List.{List, []}
-use mathlib.Core.Option.{none, some}
 use lib.ListN.{length, take, length-drop}
 use lib.Seq.{length-take-le}
 use Rattle.ascii.specs.Text.{bytes}
@@ -38,7 +38,7 @@ module _ (xs : List ℕ) (end : ℕ) (e : UpTo xs end (content (whole xs))) wher
       let w : take (end - 0) xs ≡ content (whole xs) = ap (λ (n : ℕ). take n xs) (sub-zero end) ∙ e.is in
       let n : end ≡ length (content (whole xs)) = sym (length-take-le end xs e.within) ∙ ap length e.is in
       record {
-        some = rw (← e.is, length-take-le end xs e.within) (omega arith);
+        Some = rw (← e.is, length-take-le end xs e.within) (omega arith);
         action_is = k.first ∙ rw w;
         specifier_is = k.second ∙ rw w;
         payload_is = k.rest ∙ rw w;
@@ -173,7 +173,7 @@ module _ (xs : List ℕ) (p : Part) (w : Within xs p) where
       length-take-le _ _ (rw length-drop (omega arith))
 
   module _ (v : Switch) where
-    all_modules_lem : p.from ≡ p.to → scoped (switch_request v) (part xs p) ≡ switch_request v none
+    all_modules_lem : p.from ≡ p.to → scoped (switch_request v) (part xs p) ≡ switch_request v None
     unfolding scoped
     all_modules_lem e =
         let z : length (part xs p) ≡ 0 = part_length ∙ (omega arith) in
@@ -183,7 +183,7 @@ module _ (xs : List ℕ) (p : Part) (w : Within xs p) where
     asks_all e = record { is = λ x. sym (all_modules_lem e); inside = tt; begin = tt }
 
     module _ (n : p.from ≡ p.to → ⊥) (r : Cut) (k : Cuts xs p 58 r) {t : Bool} (d : t ≡ is_name (part xs r.first)) where
-      one_module_lem : scoped (switch_request v) (part xs p) ≡ cond t (switch_request v (some (part xs r.first))) R.malformed
+      one_module_lem : scoped (switch_request v) (part xs p) ≡ cond t (switch_request v (Some (part xs r.first))) R.malformed
       unfolding scoped module_part before
       one_module_lem =
           let o = w.ordered in

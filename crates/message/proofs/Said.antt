@@ -1,10 +1,10 @@
 -- Laws of what the node says: a line's parts are written one after another, each has room, and together they are the line.
 -- Assumes nothing.
+use Rattle.std.specs.Prelude.{Option, Some, None}
 use Prim.Native.Nat.{ℕ, ◌+◌, ◌≤◌, ◌<◌}
 use native.Mathlib.Omega.{arith}
 use mathlib.Core.Path.{◌≡◌}
 use mathlib.Core.List.{List, ◌++◌}
-use mathlib.Core.Option.{Option, none, some}
 use borrow.Author.Tests.{ne_eqb}
 use lib.ListN.{length, length-append}
 use Rattle.ascii.specs.Text.{bytes}
@@ -125,8 +125,8 @@ fault_short f t = omega (arith, fault_length f t, front_short f)
 
 pub held_short : (o : Option Error.Fault) (v : List ℕ) (t : ℕ) → length (held_report (held_as o v) t) ≤ length v + length (seconds t) + 52
 unfolding held_report
-held_short none v t = omega (arith, data_length v t)
-held_short (some f) v t = omega (arith, fault_short f t)
+held_short None v t = omega (arith, data_length v t)
+held_short (Some f) v t = omega (arith, fault_short f t)
 
 -- ## A report with its names
 
@@ -286,22 +286,22 @@ module _ (d : Denial) (f : Fault) (t : ℕ) (w : d ≡ Denial.Fault f t) where
 -- ## The numbers of the classes
 
 module _ (k : ℕ) where
-  pub number_1 : k ≡ 1 → some Error.HardwareError ≡ fault_of k
+  pub number_1 : k ≡ 1 → Some Error.HardwareError ≡ fault_of k
   unfolding fault_of
   number_1 e = rw e
 
-  pub number_2 : k ≡ 2 → some Error.CommunicationFailed ≡ fault_of k
+  pub number_2 : k ≡ 2 → Some Error.CommunicationFailed ≡ fault_of k
   unfolding fault_of
   number_2 e = rw e
 
-  pub number_3 : k ≡ 3 → some Error.ReadFailed ≡ fault_of k
+  pub number_3 : k ≡ 3 → Some Error.ReadFailed ≡ fault_of k
   unfolding fault_of
   number_3 e = rw e
 
-  pub number_4 : k ≡ 4 → some Error.OutOfRange ≡ fault_of k
+  pub number_4 : k ≡ 4 → Some Error.OutOfRange ≡ fault_of k
   unfolding fault_of
   number_4 e = rw e
 
-  pub number_none : (k ≡ 1 → ⊥) → (k ≡ 2 → ⊥) → (k ≡ 3 → ⊥) → (k ≡ 4 → ⊥) → none ≡ fault_of k
+  pub number_none : (k ≡ 1 → ⊥) → (k ≡ 2 → ⊥) → (k ≡ 3 → ⊥) → (k ≡ 4 → ⊥) → None ≡ fault_of k
   unfolding fault_of
   number_none a b c d = simp (ne_eqb k 1 a, ne_eqb k 2 b, ne_eqb k 3 c, ne_eqb k 4 d)

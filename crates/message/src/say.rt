@@ -1,6 +1,5 @@
 // What the node says: reports and lines, written at a position of a lent buffer, and their lengths.
-ghost use Rattle.std.specs.Prelude.{◌≡◌, ◌∷◌, ◌++◌, ◌+◌, ◌≤◌, length};
-ghost use Rattle.std.proofs.Math.Option.{none, some};
+ghost use Rattle.std.specs.Prelude.{◌≡◌, ◌∷◌, ◌++◌, ◌+◌, ◌≤◌, length, Some, None};
 ghost use Rattle.ascii.specs.Numbers.{decimal};
 ghost use Rattle.ascii.specs.Clauses.Writer.{Puts};
 ghost use Rattle.message.specs.Error.{fault_number, fault_of};
@@ -239,8 +238,8 @@ fn put_error_report(out: &mut [u8], at: usize, denial: Denial) -> usize
 
 // The identification of the first edition.
 pub fn put_identification(out: &mut [u8], at: usize) -> usize
-    requires { at + length (reply_line (identification none)) ≤ length out.old }
-    ensures { Puts out.old at (reply_line (identification none)) out.new result }
+    requires { at + length (reply_line (identification None)) ≤ length out.old }
+    ensures { Puts out.old at (reply_line (identification None)) out.new result }
 {
     put(out, at, b"ISSE&SINE2020,SECoP,V2019-09-16,v1.0")
 }
@@ -262,22 +261,22 @@ pub fn put_pong(out: &mut [u8], at: usize, token: &[u8], time: u64) -> usize
 // A word alone, `active` or `inactive`.
 pub fn put_word(out: &mut [u8], at: usize, word: &[u8]) -> usize
     requires { at + length word.now ≤ length out.old }
-    ensures { Puts out.old at (optionally word.now none) out.new result }
+    ensures { Puts out.old at (optionally word.now None) out.new result }
 {
     put(out, at, word)
 }
 
 pub fn word_name_length(word: &[u8], name: &[u8]) -> usize
     requires { length word.now + length name.now ≤ 65536 }
-    ensures { result ≡ length (optionally word.now (some name.now)) }
+    ensures { result ≡ length (optionally word.now (Some name.now)) }
 {
     word.len() + 1 + name.len()
 }
 
 // A word with a module's name.
 pub fn put_word_name(out: &mut [u8], at: usize, word: &[u8], name: &[u8]) -> usize
-    requires { at + length (optionally word.now (some name.now)) ≤ length out.old }
-    ensures { Puts out.old at (optionally word.now (some name.now)) out.new result }
+    requires { at + length (optionally word.now (Some name.now)) ≤ length out.old }
+    ensures { Puts out.old at (optionally word.now (Some name.now)) out.new result }
 {
     put3(out, at, word, b" ", name)
 }

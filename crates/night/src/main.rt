@@ -18,7 +18,7 @@ use std::rt::Files;
 use std::{env, io};
 use summary::figured::put_figures;
 use summary::{put_start, put_summary};
-use time::{Time, time_argument};
+use time::{time_argument};
 
 // A table that is too long is refused (1), so one byte more than the longest is enough.
 const TABLE: usize = 16385;
@@ -97,7 +97,7 @@ fn main(rt: HostRuntime) -> io::Result<()> {
     ) else {
         return eprintln!(rt; "usage: night TABLE TIME TRACE");
     };
-    let Time::At(time) = time_argument(time.as_str()) else {
+    let Some(time) = time_argument(time.as_str()) else {
         return eprintln!(rt; "night: TIME is not in decimal digits, 64 at most");
     };
     run(&rt, table.as_str(), time, trace.as_str())

@@ -1,10 +1,3 @@
-// A time in decimal digits.
-#[derive(Clone, Copy)]
-pub(crate) enum Time {
-    At(u64),
-    Bad,
-}
-
 // n with one more digit; what has more than 64 bits stays the largest number, which is above the limit.
 fn with_digit(n: u64, digit: u8) -> u64 {
     if n > 1844674407370955160 {
@@ -18,28 +11,28 @@ fn with_digit(n: u64, digit: u8) -> u64 {
     tens + d
 }
 
-fn time_of(text: &[u8]) -> Time {
+fn time_of(text: &[u8]) -> Option<u64> {
     if text.len() == 0 {
-        return Time::Bad;
+        return None;
     }
     let mut n: u64 = 0;
     for b in text {
         if *b < b'0' {
-            return Time::Bad;
+            return None;
         }
         if *b > b'9' {
-            return Time::Bad;
+            return None;
         }
         n = with_digit(n, *b - b'0');
     }
-    Time::At(n)
+    Some(n)
 }
 
 // Of an argument; more than 64 digits are not read.
-pub(crate) fn time_argument(text: &str) -> Time {
+pub(crate) fn time_argument(text: &str) -> Option<u64> {
     let bytes = text.as_bytes();
     if bytes.len() > 64 {
-        return Time::Bad;
+        return None;
     }
     time_of(bytes)
 }

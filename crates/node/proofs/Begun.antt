@@ -1,11 +1,11 @@
 -- The start, one law for each way through the code: the view of a blank state is the plain node's beginning, for every table. Assumes nothing.
+use Rattle.std.specs.Prelude.{Option, Some, None}
 use Prim.Native.Nat.{ℕ, ◌≤◌, ◌<◌}
 use native.Mathlib.Omega.{arith}
 use borrow.Author.Tests.{lt-ltb, le-ltb, ne_eqb}
 use mathlib.Core.Bool.{Bool, cond}
 use mathlib.Core.List.{List, []}
 use mathlib.Core.Logic.{◌≢◌}
-use mathlib.Core.Option.{Option, none, some}
 use mathlib.Core.Path.{◌≡◌, refl, sym, ap, ap₂, subst, fun_ext, ◌∙◌}
 use lib.Dec.{eqb}
 use lib.ListN.{length, get_or, get_or-replicate}
@@ -51,7 +51,7 @@ unfolding blank
 blank_closed t c = not_open (blank t).clients c (zeros 8 c)
 
 -- bytes that can't be read are a table of no parameters
-unread_view : (table : List ℕ) → read_table table ≡ none → (s : State) (values : List ℕ) (t : ℕ) → ((c : ℕ) → client_at s.clients c ≡ closed)
+unread_view : (table : List ℕ) → read_table table ≡ None → (s : State) (values : List ℕ) (t : ℕ) → ((c : ℕ) → client_at s.clients c ≡ closed)
     → ((c : ℕ) → counts_at s.counts c ≡ no_counts) → view table s values ≡ begin (table_of table) t
 unfolding view begin table_of or_empty parameters placed_from value_at initially
 unread_view table e s values t h z =
@@ -64,8 +64,8 @@ unfolding table_of or_empty
 blank_view table values t h = go (read_table table) refl
   where
     go : (o : Option Table) → read_table table ≡ o → view table (blank t) values ≡ begin (table_of table) t
-    go none e = unread_view table e (blank t) values t (blank_closed t) (blank_counts t)
-    go (some w) e =
+    go None e = unread_view table e (blank t) values t (blank_closed t) (blank_counts t)
+    go (Some w) e =
         let is : table_of table ≡ w = ap or_empty e in
         begun_view table w e (blank t) values t (blank_closed t) (λ p l. blank_size t p) (λ p l. blank_error t p) (λ p l. h p (rw is l)) (blank_counts t)
         ∙ ap (λ (x : Table). begin x t) (sym is)

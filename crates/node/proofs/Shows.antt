@@ -1,14 +1,14 @@
 -- The value that a parameter shows, one law for each way through the code. Assumes nothing.
+use Rattle.std.specs.Prelude.{Option, Some, None, slice_get}
 use Prim.Native.Nat.{ℕ, zero, suc, ◌*◌, ◌-◌, ◌≤◌, ◌<◌}
 use native.Mathlib.Omega.{arith}
 use borrow.Author.Tests.{ne_eqb, eqb-true, eqb-false}
 use mathlib.Core.Bool.{Bool, true, false, cond, false≢true}
 use mathlib.Core.List.{List, []}
 use mathlib.Core.Logic.{◌≢◌}
-use mathlib.Core.Option.{Option, none, some}
 use mathlib.Core.Path.{◌≡◌, refl, sym, subst, ◌∙◌}
 use lib.Dec.{eqb}
-use lib.ListN.{length, get_or, take, drop, get_elem?, length-drop}
+use lib.ListN.{length, get_or, take, drop, length-drop}
 use lib.Seq.{length-take-le}
 use Rattle.table.specs.Layout.{table_of, Readable}
 use Rattle.table.specs.Table.{Parameter}
@@ -21,8 +21,6 @@ use Rattle.message.specs.Error.{Fault, fault_of}
 use Rattle.message.specs.Reply.{held_as}
 use Rattle.report.specs.Judge.{first_fault}
 use Rattle.search.specs.declared.cursor.Cursor.{Cursor}
-use Rattle.search.specs.declared.cursor.NextParameter.{NextParameter}
-use Rattle.search.specs.declared.cursor.NextParameter.TheVariants.{At, End}
 use Rattle.search.specs.Clauses.Left.{placed}
 use Rattle.search.specs.Clauses.Found.{ParameterNumbered, NumberedParameter}
 use Rattle.state.specs.declared.Settings.{Settings}
@@ -74,8 +72,8 @@ class_known (suc (suc (suc (suc (suc e))))) n h = absurd (omega arith)
 
 -- where one is known, a text is not looked at
 fault_alone : (o : Option Fault) → is_some o ≡ true → (v x : List ℕ) → held_as o v ≡ held_as o x
-fault_alone none h v x = absurd (false≢true h)
-fault_alone (some f) h v x = refl
+fault_alone None h v x = absurd (false≢true h)
+fault_alone (Some f) h v x = refl
 
 -- ## The call
 
@@ -104,18 +102,18 @@ module _ (table values : List ℕ) (s : State) (k : ℕ) where
       pub value_table : Readable table
       value_table = accepted_readable table known.accepted
 
-      no_parameter : {r : Shown} → get_elem? (parameters (table_of table)) k ≡ none → Refuses r 14 → Shows table values s k r
+      no_parameter : {r : Shown} → slice_get (parameters (table_of table)) k ≡ None → Refuses r 14 → Shows table values s k r
       unfolding value_number first_fault
       no_parameter e q = refused (rw (none_lent, e) refl) (λ z. absurd (omega arith)) q
 
       pub value_past : {r : Shown} → 63 < k → Refuses r 14 → Shows table values s k r
       value_past h q = no_parameter (none_past table known.accepted k h) q
 
-      module _ (p : NextParameter) (f : NumberedParameter table k p) where
-        pub value_none : {r : Shown} → p ≡ End → Refuses r 14 → Shows table values s k r
+      module _ (p : Option (ParameterAt × Cursor)) (f : NumberedParameter table k p) where
+        pub value_none : {r : Shown} → p ≡ None → Refuses r 14 → Shows table values s k r
         value_none e q = no_parameter (none_found table known.accepted k p f e) q
 
-        module _ (at : ParameterAt) (c : Cursor) (e : p ≡ At at c) where
+        module _ (at : ParameterAt) (c : Cursor) (e : p ≡ Some (at, c)) where
           found : ParameterNumbered table k at c
           found = parameter_at_lem table k p f at c e
 
@@ -127,7 +125,7 @@ module _ (table values : List ℕ) (s : State) (k : ℕ) where
           abbrev it : Placed Parameter
           it = placed table c (parameter_of table at found.held.datainfo)
 
-          there : get_elem? (parameters (table_of table)) k ≡ some it
+          there : slice_get (parameters (table_of table)) k ≡ Some it
           there = found.is
 
           is_number : 0 ≡ value_number table values s k

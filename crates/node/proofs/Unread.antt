@@ -1,14 +1,14 @@
 -- A driver's report that a parameter can't be read, one law for each way through the code. Assumes nothing.
+use Rattle.std.specs.Prelude.{Option, Some, None, slice_get}
 use Prim.Native.Nat.{ℕ, ◌≤◌, ◌<◌}
 use native.Mathlib.Omega.{arith}
 use borrow.Author.Tests.{ltb-false}
 use mathlib.Core.Bool.{Bool, not}
 use mathlib.Core.List.{List}
 use mathlib.Core.Logic.{◌≢◌}
-use mathlib.Core.Option.{none, some}
 use mathlib.Core.Path.{◌≡◌, refl, sym, ap, ◌∙◌}
 use lib.Dec.{ltb}
-use lib.ListN.{length, get_elem?}
+use lib.ListN.{length}
 use Rattle.ascii.specs.Bytes.{is_some}
 use Rattle.table.specs.Layout.{table_of}
 use Rattle.table.specs.Search.{parameters}
@@ -21,8 +21,6 @@ use Rattle.message.specs.declared.say.Sensor.{Sensor}
 use Rattle.message.specs.declared.say.Sensor.TheVariants.{Works, Fails}
 use Rattle.report.specs.Judge.{fault, table_number}
 use Rattle.search.specs.declared.cursor.Cursor.{Cursor}
-use Rattle.search.specs.declared.cursor.NextParameter.{NextParameter}
-use Rattle.search.specs.declared.cursor.NextParameter.TheVariants.{At, End}
 use Rattle.search.specs.Clauses.Left.{placed}
 use Rattle.search.specs.Clauses.Found.{ParameterNumbered, NumberedParameter}
 use Rattle.plain.specs.Calls.{Unreadable, Call, with_outbox, beside, sends, is_small, own_faults, event_steps}
@@ -48,7 +46,7 @@ module _ (table : List ℕ) (s : State) (values outbox index : List ℕ) (k t x 
   small = ltb (length outbox) 32768
 
   abbrev unknown : Bool
-  unknown = not (is_some (get_elem? (parameters (table_of table)) k))
+  unknown = not (is_some (slice_get (parameters (table_of table)) k))
 
   abbrev no_class : Bool
   no_class = not (is_some (fault_of x))
@@ -71,22 +69,22 @@ module _ (table : List ℕ) (s : State) (values outbox index : List ℕ) (k t x 
       taken_table : table_number table ≡ 0
       taken_table = (good table s values small index t none_lent).accepted
 
-      no_parameter : {r : Done} → get_elem? (parameters (table_of table)) k ≡ none → Quiet r 14 s → Refused r
+      no_parameter : {r : Done} → slice_get (parameters (table_of table)) k ≡ None → Quiet r 14 s → Refused r
       no_parameter e q = refused_first table s values outbox report numbered lent ok {j = 13} (rw e refl) q
 
       -- number 14, "no such parameter number"
       pub unread_past : {r : Done} → 63 < k → Quiet r 14 s → Refused r
       unread_past h q = no_parameter (none_past table taken_table k h) q
 
-      module _ (p : NextParameter) (f : NumberedParameter table k p) where
-        pub unread_none : {r : Done} → p ≡ End → Quiet r 14 s → Refused r
+      module _ (p : Option (ParameterAt × Cursor)) (f : NumberedParameter table k p) where
+        pub unread_none : {r : Done} → p ≡ None → Quiet r 14 s → Refused r
         unread_none e q = no_parameter (none_found table taken_table k p f e) q
 
-        module _ (at : ParameterAt) (c : Cursor) (e : p ≡ At at c) where
+        module _ (at : ParameterAt) (c : Cursor) (e : p ≡ Some (at, c)) where
           found : ParameterNumbered table k at c
           found = parameter_at_lem table k p f at c e
 
-          there : get_elem? (parameters (table_of table)) k ≡ some (placed table c (parameter_of table at found.held.datainfo))
+          there : slice_get (parameters (table_of table)) k ≡ Some (placed table c (parameter_of table at found.held.datainfo))
           there = found.is
 
           module _ (o : Sensor) (so : sensor_fault o ≡ fault_of x) where
@@ -96,7 +94,7 @@ module _ (table : List ℕ) (s : State) (values outbox index : List ℕ) (k t x 
                 refused_second table s values outbox report numbered lent ok {j = 15} (rw there refl) (rw (← so, z) refl) q
 
             module _ (i : Fault) (z : o ≡ Fails i) where
-              known : fault_of x ≡ some (fault_as i)
+              known : fault_of x ≡ Some (fault_as i)
               known = sym so ∙ ap sensor_fault z
 
               pub unread_tells : k ≤ 63 → Tellable table outbox k t at c
@@ -107,7 +105,7 @@ module _ (table : List ℕ) (s : State) (values outbox index : List ℕ) (k t x 
 
               -- no number is given. The state is handed on without its lines
               pub unread_taken : {b : Bare} → b ≡ bare_of s → {d : BareDone} {outbox' : List ℕ}
-                  → ((lines own : List ℕ) (class : ℕ) → Standing table (lined b lines) own → fault_of class ≡ some (fault_as i)
+                  → ((lines own : List ℕ) (class : ℕ) → Standing table (lined b lines) own → fault_of class ≡ Some (fault_as i)
                   → Taken table (lined b lines) own outbox (Unreadable k class t) (done_by d lines) own outbox')
                   → {r : Done} → r ≡ done_by d s.clients.lines
                   → Kept table report s values outbox r values outbox'

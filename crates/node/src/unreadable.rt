@@ -8,7 +8,6 @@ use limits::{LAST_PARAMETER, OUTBOX};
 use message::say::{Sensor, sensor_of};
 use promise::Done;
 use rack::judge::{done_by, lent_number, quiet};
-use search::cursor::NextParameter;
 use search::find::parameter_by_number;
 use state::State;
 use state::client::bare_of;
@@ -37,7 +36,7 @@ pub fn jihfasul_unreadable(
         return quiet(14, state);
     }
     let k = parameter as usize;
-    let NextParameter::At(p, home) = parameter_by_number(table, k) else {
+    let Some((p, home)) = parameter_by_number(table, k) else {
         return quiet(14, state);
     };
     let Sensor::Fails(fault) = sensor_of(class) else {

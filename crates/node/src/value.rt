@@ -6,7 +6,6 @@ ghost use Rattle.node.specs.Clauses.Part.{part_shown, held_shown};
 use limits::{LAST_PARAMETER, PLACE};
 use promise::Shown;
 use rack::judge::lent_number;
-use search::cursor::NextParameter;
 use search::find::parameter_by_number;
 use state::{Settings, State};
 use table::layout::Part;
@@ -86,7 +85,7 @@ pub fn jihfasul_value(table: &[u8], values: &[u8], state: State, parameter: u64)
         return not_shown(14);
     }
     let k = parameter as usize;
-    let NextParameter::At(p, _) = parameter_by_number(table, k) else {
+    let Some((p, _)) = parameter_by_number(table, k) else {
         return not_shown(14);
     };
     held_shown(state.settings, k, p.initial)

@@ -1,8 +1,8 @@
 -- Replies and reports are read back from their lines. Assumes nothing.
+use Rattle.std.specs.Prelude.{Option, Some, None}
 use Prim.Native.Nat.{ℕ}
 use mathlib.Core.Bool.{true, false, cond, not, ◌&&◌, ◌||◌}
 use mathlib.Core.List.{List, [], ◌∷◌, ◌++◌, append_assoc}
-use mathlib.Core.Option.{Option, none, some}
 use mathlib.Core.Path.{◌≡◌, refl, ◌∙◌, ap}
 use lib.Dec.{leb}
 use lib.ListN.{length, drop}
@@ -227,8 +227,8 @@ counted_read x n now =
     rw (value_read, time_read, counts_parts) (simp (before_at, beyond_at, number_read))
 
 read_scope : List ℕ → Option (List ℕ)
-read_scope [] = none
-read_scope (b ∷ m) = some m
+read_scope [] = None
+read_scope (b ∷ m) = Some m
 
 read_error : List ℕ → Reply
 read_error xs = error (before 32 xs) (before 32 (beyond 32 xs)) (read_denial (beyond 32 (beyond 32 xs)))
@@ -239,8 +239,8 @@ error_read a s d h k = simp (append_assoc, before_at, beyond_at, denial_read)
 
 pub read_reply : List ℕ → Reply
 read_reply xs =
-    cond (begins (bytes "ISSE,SECoP,") xs) (identification (some xs))
-    (cond (begins (bytes "ISSE") xs) (identification none)
+    cond (begins (bytes "ISSE,SECoP,") xs) (identification (Some xs))
+    (cond (begins (bytes "ISSE") xs) (identification None)
     (cond (begins (bytes "describing") xs) (describing (drop 13 xs))
     (cond (begins (bytes "pong") xs) (read_pong (drop 5 xs))
     (cond (begins (bytes "active") xs) (active (read_scope (drop 6 xs)))
@@ -253,20 +253,20 @@ read_reply xs =
     (read_error (drop 6 xs))))))))))))
 
 -- what a table gives begins as no other line does
-given_read : (x : List ℕ) (r : Reply) → Edition (some x) → cond (begins (bytes "ISSE,SECoP,") x) (identification (some x)) r ≡ identification (some x)
+given_read : (x : List ℕ) (r : Reply) → Edition (Some x) → cond (begins (bytes "ISSE,SECoP,") x) (identification (Some x)) r ≡ identification (Some x)
 unfolding begins
 given_read x r h = rw h
 
 pub reply_read : (r : Reply) → WellFormedReply r → read_reply (reply_line r) ≡ r
 unfolding read_reply read_scope begins after reply_line identity optionally bytes
-reply_read (identification none) h = refl
-reply_read (identification (some x)) h = given_read x _ h
+reply_read (identification None) h = refl
+reply_read (identification (Some x)) h = given_read x _ h
 reply_read (describing r) h = refl
 reply_read (pong token now) h = pong_read token now h
-reply_read (active none) h = refl
-reply_read (active (some m)) h = refl
-reply_read (inactive none) h = refl
-reply_read (inactive (some m)) h = refl
+reply_read (active None) h = refl
+reply_read (active (Some m)) h = refl
+reply_read (inactive None) h = refl
+reply_read (inactive (Some m)) h = refl
 reply_read (reply r) h = ap reply (report_read r h)
 reply_read (changed r) h = ap changed (report_read r h)
 reply_read (done r) h = ap done (report_read r h)

@@ -1,11 +1,11 @@
 -- Laws of records that are counted where they stand. Assumes nothing.
+use Rattle.std.specs.Prelude.{None}
 use Prim.Native.Nat.{ℕ, ◌+◌, ◌-◌, ◌/◌, ◌%◌, ◌≤◌, ◌<◌}
 use native.Mathlib.Nat.{div-add-mod', zero-add, add-zero, add_assoc}
 use native.Mathlib.Omega.{arith}
 use borrow.Author.Tests.{eq-eqb, ne_eqb}
 use mathlib.Core.Bool.{Bool, true, false, cond, not, ◌&&◌, false≢true}
 use mathlib.Core.List.{List, [], ◌∷◌, ◌++◌, append_assoc}
-use mathlib.Core.Option.{none}
 use mathlib.Core.Path.{◌≡◌, refl, sym, ap, ap₂, ◌∙◌}
 use lib.Dec.{eqb}
 use lib.ListN.{length, take, drop, length-append, length-drop}
@@ -34,12 +34,12 @@ unfolding begins after
 line_begins [] h l x = refl
 line_begins (b ∷ w) h [] x = go (eqb 10 b) (all_parts (λ b. not (eqb 10 b)) b w h).0
   where
-    go : (t : Bool) → not t ≡ true → is_some (cond t (after w x) none) ≡ false
+    go : (t : Bool) → not t ≡ true → is_some (cond t (after w x) None) ≡ false
     go true e = absurd (false≢true e)
     go false e = refl
 line_begins (b ∷ w) h (y ∷ l) x = go (eqb y b) (line_begins w (all_parts (λ b. not (eqb 10 b)) b w h).1 l x)
   where
-    go : (t : Bool) → is_some (after w (l ++ 10 ∷ x)) ≡ is_some (after w l) → is_some (cond t (after w (l ++ 10 ∷ x)) none) ≡ is_some (cond t (after w l) none)
+    go : (t : Bool) → is_some (after w (l ++ 10 ∷ x)) ≡ is_some (after w l) → is_some (cond t (after w (l ++ 10 ∷ x)) None) ≡ is_some (cond t (after w l) None)
     go true e = e
     go false e = refl
 
@@ -50,7 +50,7 @@ front_begins [] xs h = refl
 front_begins (b ∷ w) [] h = absurd (omega arith)
 front_begins (b ∷ w) (y ∷ xs) h = go (eqb y b) (front_begins w xs (omega arith))
   where
-    go : (t : Bool) → same (take (length w) xs) w ≡ is_some (after w xs) → (t && same (take (length w) xs) w) ≡ is_some (cond t (after w xs) none)
+    go : (t : Bool) → same (take (length w) xs) w ≡ is_some (after w xs) → (t && same (take (length w) xs) w) ≡ is_some (cond t (after w xs) None)
     go true e = e
     go false e = refl
 
@@ -60,7 +60,7 @@ short_begins [] xs h = absurd (omega arith)
 short_begins (b ∷ w) [] h = refl
 short_begins (b ∷ w) (y ∷ xs) h = go (eqb y b) (short_begins w xs (omega arith))
   where
-    go : (t : Bool) → false ≡ is_some (after w xs) → false ≡ is_some (cond t (after w xs) none)
+    go : (t : Bool) → false ≡ is_some (after w xs) → false ≡ is_some (cond t (after w xs) None)
     go true e = e
     go false e = refl
 

@@ -1,9 +1,9 @@
 -- Laws of records that are written part by part: each part has room, and together they are the record. Assumes nothing.
+use Rattle.std.specs.Prelude.{Some}
 use Prim.Native.Nat.{ℕ, ◌+◌, ◌/◌, ◌%◌, ◌≤◌, ◌<◌}
 use native.Mathlib.Omega.{arith}
 use mathlib.Core.Path.{◌≡◌, sym, ap, subst, ◌∙◌}
 use mathlib.Core.List.{List, [], ◌∷◌, ◌++◌, append_assoc}
-use mathlib.Core.Option.{some}
 use lib.ListN.{length, length-append}
 use Rattle.ascii.specs.Text.{bytes}
 use Rattle.ascii.specs.Numbers.{two_bytes}
@@ -215,7 +215,7 @@ error_names d at c a s k h =
     let i = h.short in
     omega arith
 
-pub word_names : (d : List ℕ) (at : ℕ) (m : List ℕ) (c : ℕ) (w n : List ℕ) → LineRoom d at m c (optionally w (some n)) → length w + length n ≤ 65536
+pub word_names : (d : List ℕ) (at : ℕ) (m : List ℕ) (c : ℕ) (w n : List ℕ) → LineRoom d at m c (optionally w (Some n)) → length w + length n ≤ 65536
 unfolding optionally
 word_names d at m c w n h =
     let i : length w + length (bytes " ") + length n < 65535 = simp length-append at h.short in

@@ -1,6 +1,5 @@
 -- What is proved of the definitions of this layer. Assumes nothing.
-use Rattle.std.specs.Prelude.{ℕ, true, not, List, [], ◌∷◌, ◌≡◌}
-use Rattle.std.proofs.Math.Option.{Option, none, some}
+use Rattle.std.specs.Prelude.{ℕ, true, not, List, [], ◌∷◌, ◌≡◌, Option, Some, None}
 use Rattle.ascii.specs.Text.{bytes}
 use Rattle.ascii.specs.Bytes.{is_some, after, all, is_space}
 use Rattle.ascii.specs.Names.{is_name}
@@ -13,8 +12,8 @@ abbrev pub Word : List ℕ → Type 0
 Word xs = all (λ b. not (is_space b)) xs ≡ true
 
 abbrev pub Named : Option (List ℕ) → Type 0
-Named none = Unit {0}
-Named (some m) = is_name m ≡ true
+Named None = Unit {0}
+Named (Some m) = is_name m ≡ true
 
 -- a report by good names
 abbrev pub NamedReport : DataReport → Type 0
@@ -30,8 +29,8 @@ ValueReport r = NamedReport r × IsValue r.held
 
 -- an identification that a table gives: no other line begins so [C-21]
 abbrev pub Edition : Option (List ℕ) → Type 0
-Edition none = Unit {0}
-Edition (some x) = is_some (after (bytes "ISSE,SECoP,") x) ≡ true
+Edition None = Unit {0}
+Edition (Some x) = is_some (after (bytes "ISSE,SECoP,") x) ≡ true
 
 -- records as a node writes them: names are names, what was sent as a word is a word, a reply with a report tells a value, and an identification
 -- that a table gives begins as its edition has to [C-21]

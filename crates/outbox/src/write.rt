@@ -1,6 +1,5 @@
 // Outbox records, written at a position of a lent buffer: mark, client byte, length in two bytes, body.
-ghost use Rattle.std.specs.Prelude.{◌∷◌, ◌++◌, ◌+◌, ◌≤◌, length};
-ghost use Rattle.std.proofs.Math.Option.{none, some};
+ghost use Rattle.std.specs.Prelude.{◌∷◌, ◌++◌, ◌+◌, ◌≤◌, length, Some, None};
 ghost use Rattle.ascii.specs.Text.{bytes};
 ghost use Rattle.ascii.specs.Numbers.{two_bytes};
 ghost use Rattle.ascii.specs.Clauses.Writer.{Puts};
@@ -46,8 +45,8 @@ fn put_header(out: &mut [u8], at: usize, mark: &[u8], client: u8, size: usize) -
 
 // The identification of the first edition. The line has 36 bytes, and its line feed is the 37th.
 pub fn put_final_identification(out: &mut [u8], at: usize, client: u8) -> usize
-    requires { RoomFor out.old at (final client (identification none)) }
-    ensures { Puts out.old at (encode (final client (identification none))) out.new result }
+    requires { RoomFor out.old at (final client (identification None)) }
+    ensures { Puts out.old at (encode (final client (identification None))) out.new result }
 {
     let line = put_header(out, at, b"RP", client, 37);
     let end = put_identification(out, line);
@@ -56,8 +55,8 @@ pub fn put_final_identification(out: &mut [u8], at: usize, client: u8) -> usize
 
 // The identification that a table gives. "a text that is the whole identification reply"
 pub fn put_final_edition(out: &mut [u8], at: usize, client: u8, text: &[u8]) -> usize
-    requires { RoomFor out.old at (final client (identification (some text.now))) }
-    ensures { Puts out.old at (encode (final client (identification (some text.now)))) out.new result }
+    requires { RoomFor out.old at (final client (identification (Some text.now))) }
+    ensures { Puts out.old at (encode (final client (identification (Some text.now)))) out.new result }
 {
     let size = text.len();
     let line = put_header(out, at, b"RP", client, size + 1);
@@ -132,8 +131,8 @@ pub fn put_describing_start(out: &mut [u8], at: usize, client: u8, size: usize) 
 
 // A word alone, `active` or `inactive`.
 fn put_final_word(out: &mut [u8], at: usize, client: u8, word: &[u8]) -> usize
-    requires { LineRoom out.old at (bytes "RP") client (optionally word.now none) }
-    ensures { Puts out.old at (sealed (bytes "RP") client (optionally word.now none ++ bytes "\n")) out.new result }
+    requires { LineRoom out.old at (bytes "RP") client (optionally word.now None) }
+    ensures { Puts out.old at (sealed (bytes "RP") client (optionally word.now None ++ bytes "\n")) out.new result }
 {
     let size = word.len();
     let line = put_header(out, at, b"RP", client, size + 1);
@@ -142,8 +141,8 @@ fn put_final_word(out: &mut [u8], at: usize, client: u8, word: &[u8]) -> usize
 }
 
 pub fn put_final_switched(out: &mut [u8], at: usize, client: u8, switched: Switched) -> usize
-    requires { RoomFor out.old at (final client (switched_reply switched none)) }
-    ensures { Puts out.old at (encode (final client (switched_reply switched none))) out.new result }
+    requires { RoomFor out.old at (final client (switched_reply switched None)) }
+    ensures { Puts out.old at (encode (final client (switched_reply switched None))) out.new result }
 {
     match switched {
         Switched::Active => put_final_word(out, at, client, b"active"),
@@ -153,8 +152,8 @@ pub fn put_final_switched(out: &mut [u8], at: usize, client: u8, switched: Switc
 
 // A word with a module's name.
 fn put_final_word_name(out: &mut [u8], at: usize, client: u8, word: &[u8], name: &[u8]) -> usize
-    requires { LineRoom out.old at (bytes "RP") client (optionally word.now (some name.now)) }
-    ensures { Puts out.old at (sealed (bytes "RP") client (optionally word.now (some name.now) ++ bytes "\n"))
+    requires { LineRoom out.old at (bytes "RP") client (optionally word.now (Some name.now)) }
+    ensures { Puts out.old at (sealed (bytes "RP") client (optionally word.now (Some name.now) ++ bytes "\n"))
         out.new result }
 {
     let size = word_name_length(word, name);
@@ -170,8 +169,8 @@ pub fn put_final_switched_name(
     switched: Switched,
     name: &[u8],
 ) -> usize
-    requires { RoomFor out.old at (final client (switched_reply switched (some name.now))) }
-    ensures { Puts out.old at (encode (final client (switched_reply switched (some name.now)))) out.new result }
+    requires { RoomFor out.old at (final client (switched_reply switched (Some name.now))) }
+    ensures { Puts out.old at (encode (final client (switched_reply switched (Some name.now)))) out.new result }
 {
     match switched {
         Switched::Active => put_final_word_name(out, at, client, b"active", name),

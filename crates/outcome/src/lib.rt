@@ -4,15 +4,6 @@
 use message::say::{Class, Fault};
 use state::Bare;
 
-// The status that a change sets before its own parameter (M-100).
-#[derive(Clone, Copy)]
-pub enum Status {
-    // None, or it stays as it is.
-    Stays,
-    // The parameter of this number, in the module of this number, is busy.
-    Busy(usize, usize),
-}
-
 #[derive(Clone, Copy)]
 pub enum Outcome {
     // An error: nothing is written yet, and nothing is altered.
@@ -24,7 +15,7 @@ pub enum Outcome {
     // The client's active modules are those of a mask; so many bytes are written.
     Active(u16, usize),
     // After a status a parameter has a stored value of so many bytes; so many bytes are written.
-    Stored(Status, usize, usize, usize),
+    Stored(Option<(usize, usize)>, usize, usize, usize),
 }
 
 // The next state, without the lines, which an answer leaves as they are, and how many bytes are written.

@@ -1,11 +1,10 @@
 -- The status that a change of `target` sets first: it is another parameter of the same module, and the value is stored as it stands. Assumes
 -- nothing.
+use Rattle.std.specs.Prelude.{Option, Some, None, slice_get}
 use Prim.Native.Nat.{ℕ}
 use mathlib.Core.Bool.{Bool, true, false, cond, ◌&&◌, true≢false}
 use mathlib.Core.List.{List, [], ◌∷◌, ◌++◌, map}
-use mathlib.Core.Option.{Option, none, some, some-injective}
 use mathlib.Core.Path.{◌≡◌, refl, sym, ap, ap₂, subst, ◌∙◌}
-use lib.ListN.{get_elem?}
 use Rattle.ascii.specs.Text.{bytes}
 use Rattle.ascii.specs.Bytes.{all, same, head, tail, drop_while, is_in, is_letter}
 use Rattle.ascii.specs.Names.{is_name, is_name_byte, unique}
@@ -24,38 +23,39 @@ use Rattle.table.specs.Search.{Placed, parameters, find_parameter}
 use Rattle.table.proofs.Search.{parameter_there, parameter_named}
 use Rattle.plain.specs.Node.{Value, Setting, put, setting_value, set_values}
 use Rattle.plain.specs.Answer.{busy, admitting, status_of}
+use Rattle.std.proofs.lemmas.Option.{same_Some}
 
 -- ## Which status it is
 
 -- the status s that a change of the parameter p sets first
 pub record IsStatus (w : Table) (p : Placed Parameter) (s : ℕ × Placed Parameter) : Type 0 where
   pub target : p.it.name ≡ bytes "target"
-  pub found : find_parameter w p.module_name (bytes "status") ≡ some s
+  pub found : find_parameter w p.module_name (bytes "status") ≡ Some s
   pub admits : is_fit (verdict s.1.it.datainfo busy) ≡ true
-  pub there : get_elem? (parameters w) s.0 ≡ some s.1
+  pub there : slice_get (parameters w) s.0 ≡ Some s.1
   pub home : s.1.module_name ≡ p.module_name
   pub named : s.1.it.name ≡ bytes "status"
 
-admitted : (o : Option (ℕ × Placed Parameter)) (s : ℕ × Placed Parameter) → admitting o ≡ some s
-    → (o ≡ some s) × (is_fit (verdict s.1.it.datainfo busy) ≡ true)
+admitted : (o : Option (ℕ × Placed Parameter)) (s : ℕ × Placed Parameter) → admitting o ≡ Some s
+    → (o ≡ Some s) × (is_fit (verdict s.1.it.datainfo busy) ≡ true)
 unfolding admitting
-admitted none s e = let z : true ≡ false = cc in absurd (true≢false z)
-admitted (some x) s e = go (is_fit (verdict x.1.it.datainfo busy)) refl e
+admitted None s e = let z : true ≡ false = cc in absurd (true≢false z)
+admitted (Some x) s e = go (is_fit (verdict x.1.it.datainfo busy)) refl e
   where
-    go : (q : Bool) → is_fit (verdict x.1.it.datainfo busy) ≡ q → cond q (some x) none ≡ some s
-        → (some x ≡ some s) × (is_fit (verdict s.1.it.datainfo busy) ≡ true)
-    go true i e = (e, subst (λ (y : ℕ × Placed Parameter). is_fit (verdict y.1.it.datainfo busy) ≡ true) (some-injective x s e) i)
+    go : (q : Bool) → is_fit (verdict x.1.it.datainfo busy) ≡ q → cond q (Some x) None ≡ Some s
+        → (Some x ≡ Some s) × (is_fit (verdict s.1.it.datainfo busy) ≡ true)
+    go true i e = (e, subst (λ (y : ℕ × Placed Parameter). is_fit (verdict y.1.it.datainfo busy) ≡ true) (same_Some x s e) i)
     go false i e = let z : true ≡ false = cc in absurd (true≢false z)
 
 module _ (w : Table) (p : Placed Parameter) (s : ℕ × Placed Parameter) where
-  pub status_is : status_of w p ≡ some s → IsStatus w p s
+  pub status_is : status_of w p ≡ Some s → IsStatus w p s
   unfolding status_of
   status_is e = go (same p.it.name (bytes "target")) refl e
     where
       found : Option (ℕ × Placed Parameter)
       found = find_parameter w p.module_name (bytes "status")
 
-      go : (q : Bool) → same p.it.name (bytes "target") ≡ q → cond q (admitting found) none ≡ some s → IsStatus w p s
+      go : (q : Bool) → same p.it.name (bytes "target") ≡ q → cond q (admitting found) None ≡ Some s → IsStatus w p s
       go true i e =
           let a = admitted found s e in
           let n = parameter_named w p.module_name (bytes "status") s a.0 in
@@ -70,33 +70,33 @@ module _ (w : Table) (p : Placed Parameter) (s : ℕ × Placed Parameter) where
       go false i e = let z : true ≡ false = cc in absurd (true≢false z)
 
   -- the reverse: one that is found and admits the value is set
-  pub is_status : p.it.name ≡ bytes "target" → find_parameter w p.module_name (bytes "status") ≡ some s
-      → is_fit (verdict s.1.it.datainfo busy) ≡ true → status_of w p ≡ some s
+  pub is_status : p.it.name ≡ bytes "target" → find_parameter w p.module_name (bytes "status") ≡ Some s
+      → is_fit (verdict s.1.it.datainfo busy) ≡ true → status_of w p ≡ Some s
   unfolding status_of admitting
   is_status t f a = rw (t, same_self (bytes "target"), f, a)
 
   -- one that doesn't admit it is not
-  pub no_status : find_parameter w p.module_name (bytes "status") ≡ some s → is_fit (verdict s.1.it.datainfo busy) ≡ false → status_of w p ≡ none
+  pub no_status : find_parameter w p.module_name (bytes "status") ≡ Some s → is_fit (verdict s.1.it.datainfo busy) ≡ false → status_of w p ≡ None
   unfolding status_of admitting
   no_status f a = rw (f, a) (go (same p.it.name (bytes "target")))
     where
-      go : (q : Bool) → ◌≡◌ {A = Option (ℕ × Placed Parameter)} (cond q none none) none
+      go : (q : Bool) → ◌≡◌ {A = Option (ℕ × Placed Parameter)} (cond q None None) None
       go true = refl
       go false = refl
 
   -- a status is not the target itself
-  pub named_other : p.it.name ≡ bytes "target" → find_parameter w p.module_name (bytes "status") ≡ some s → (k : ℕ) → get_elem? (parameters w) k ≡ some p
+  pub named_other : p.it.name ≡ bytes "target" → find_parameter w p.module_name (bytes "status") ≡ Some s → (k : ℕ) → slice_get (parameters w) k ≡ Some p
       → s.0 ≡ k → ⊥
   unfolding bytes same
   named_other t f k e z =
       let there = parameter_there w p.module_name (bytes "status") s f in
       let named = (parameter_named w p.module_name (bytes "status") s f).1 in
-      let o : some s.1 ≡ some p = sym there ∙ ap (get_elem? (parameters w)) z ∙ e in
-      let n : bytes "status" ≡ bytes "target" = sym named ∙ ap (λ (x : Placed Parameter). x.it.name) (some-injective s.1 p o) ∙ t in
+      let o : Some s.1 ≡ Some p = sym there ∙ ap (slice_get (parameters w)) z ∙ e in
+      let n : bytes "status" ≡ bytes "target" = sym named ∙ ap (λ (x : Placed Parameter). x.it.name) (same_Some s.1 p o) ∙ t in
       let q : true ≡ false = sym (same_self (bytes "status")) ∙ ap (same (bytes "status")) n in
       true≢false q
 
-  pub status_other : IsStatus w p s → (k : ℕ) → get_elem? (parameters w) k ≡ some p → s.0 ≡ k → ⊥
+  pub status_other : IsStatus w p s → (k : ℕ) → slice_get (parameters w) k ≡ Some p → s.0 ≡ k → ⊥
   status_other i = named_other i.target i.found
 
 -- ## It is stored as it stands: "a name has no space", so no enum names the string in it
@@ -105,15 +105,15 @@ module _ (w : Table) (p : Placed Parameter) (s : ℕ × Placed Parameter) where
 abbrev words : List ℕ
 words = bytes "target changed"
 
-no_member : (vs : List Variant) → all is_name (map (λ (v : Variant). v.name) vs) ≡ true → member_number vs words ≡ none
+no_member : (vs : List Variant) → all is_name (map (λ (v : Variant). v.name) vs) ≡ true → member_number vs words ≡ None
 unfolding member_number all bytes is_name is_in head is_name_byte is_letter
 no_member [] h = refl
 no_member (v ∷ vs) h =
     let b = both (is_name v.name) (all is_name (map (λ (x : Variant). x.name) vs)) h in
     go (same v.name words) refl b.0 (no_member vs b.1)
   where
-    go : (q : Bool) → same v.name words ≡ q → is_name v.name ≡ true → member_number vs words ≡ none
-        → cond q (some v.number) (member_number vs words) ≡ none
+    go : (q : Bool) → same v.name words ≡ q → is_name v.name ≡ true → member_number vs words ≡ None
+        → cond q (Some v.number) (member_number vs words) ≡ None
     go true e g i = let z : true ≡ false = sym g ∙ ap is_name (same_is v.name words e) in absurd (true≢false z)
     go false e g i = i
 
@@ -187,8 +187,8 @@ unfolding in_order at_top within as_object
 order_stays d = go (as_partial d)
   where
     go : (o : Option Parts) → at_top o (λ m ms. ordered m.1 ms) (Json.array halves) ≡ Json.array halves
-    go none = refl
-    go (some m) = refl
+    go None = refl
+    go (Some m) = refl
 
 busy_written : compact (Json.array halves) ≡ busy
 unfolding busy compact bytes Json.quoted
@@ -198,7 +198,7 @@ halves_readable : Readable 8 (Json.array halves)
 unfolding bytes Token.number Token.int Token.minus Token.digits Token.frac Token.exp head tail drop_while is_in Json.string_end Json.chars Json.char Json.inside
 halves_readable = (refl, (refl, tt))
 
-busy_read : text busy ≡ some (Json.array halves)
+busy_read : text busy ≡ Some (Json.array halves)
 busy_read = ap text (sym busy_written) ∙ readable_trees.read_back (Json.array halves) halves_readable
 
 module _ (d : Datainfo) (h : names_good d ≡ true) where

@@ -1,11 +1,11 @@
 -- Laws of what is counted (M-108). Assumes nothing.
+use Rattle.std.specs.Prelude.{Option, Some, None}
 use Prim.Native.Nat.{ℕ, ◌+◌, ◌≤◌}
 use native.Mathlib.Nat.{add_assoc}
 use native.Mathlib.Omega.{arith}
 use borrow.Author.Tests.{ne_eqb, not-true}
 use mathlib.Core.Bool.{Bool, true, false, cond, not}
 use mathlib.Core.List.{List, [], ◌∷◌, ◌++◌}
-use mathlib.Core.Option.{Option, none, some}
 use mathlib.Core.Path.{◌≡◌, refl, sym, ap, ◌∙◌}
 use lib.Dec.{eqb}
 use Rattle.ascii.specs.Bytes.{all}
@@ -127,8 +127,8 @@ module _ (d : ℕ) (above : 8 ≤ d) where
   -- nor of a status that is set before it
   no_busy : (f : ℕ → Client) (o : Option (ℕ × Placed Parameter)) (t : ℕ) → NoneTo d (busy_updates f o t)
   unfolding busy_updates
-  no_busy f none t = none_none d
-  no_busy f (some s) t = no_updates f s.1.home _
+  no_busy f None t = none_none d
+  no_busy f (Some s) t = no_updates f s.1.home _
 
   -- nothing that answers a client's line
   module _ (c : ℕ) (low : c ≤ 7) where

@@ -1,8 +1,8 @@
 -- Of a table without an `ED` record, lines are answered as document 01 has it. Assumes nothing.
+use Rattle.std.specs.Prelude.{None}
 use Prim.Native.Nat.{ℕ}
 use mathlib.Core.Bool.{Bool, true, false, cond, ◌&&◌}
 use mathlib.Core.List.{List}
-use mathlib.Core.Option.{none}
 use mathlib.Core.Path.{◌≡◌, refl, ◌∙◌, ap}
 use Rattle.ascii.specs.Text.{bytes}
 use Rattle.ascii.specs.Bytes.{same}
@@ -21,7 +21,7 @@ check_asked : (p : Parts) → p.action ≡ bytes "check" → request p ≡ named
 unfolding request same bytes
 check_asked p e = rw e
 
-module _ (w : Table) (h : w.edition ≡ none) (n : Node) (c now : ℕ) where
+module _ (w : Table) (h : w.edition ≡ None) (n : Node) (c now : ℕ) where
   same_request : (q : Request) → outcome w n c now q ≡ first_outcome w n c now q
   unfolding first_outcome outcome
   same_request identify = rw h

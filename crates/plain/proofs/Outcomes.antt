@@ -1,13 +1,12 @@
 -- What a request comes to, by the kinds of outcome that there are: an error, a reply alone, a change of what the sender has active, a setting of a
 -- parameter, an order of a command. What holds of each kind holds of every request; so, too, of what one request comes to at two nodes that hold the
 -- same values and, of the client that asks, the same counts and as many active modules. Assumes nothing.
+use Rattle.std.specs.Prelude.{Option, Some, None, slice_get}
 use Prim.Native.Nat.{ℕ}
 use mathlib.Core.Bool.{Bool, true, false, cond}
 use mathlib.Core.List.{List, [], ◌∷◌, ◌++◌}
-use mathlib.Core.Option.{Option, none, some}
 use mathlib.Core.Path.{◌≡◌, refl, sym, ap, ap₂, subst}
 use lib.Dec.{eqb}
-use lib.ListN.{get_elem?}
 use Rattle.ascii.specs.Text.{bytes}
 use Rattle.ascii.specs.Bytes.{is_some}
 use Rattle.fit.specs.Fit.{Verdict, fits, rangeError, wrongType, badJSON}
@@ -48,7 +47,7 @@ concluded w n c now p (carried m ss rs r) = refl
 
 -- a change that is let in, or a check: of parameter k, to the text v, where these values are held
 pub record LetIn (w : Table) (values : ℕ → Value) (k : ℕ × Placed Parameter) (v : List ℕ) : Type 0 where
-  pub there : get_elem? (parameters w) k.0 ≡ some k.1
+  pub there : slice_get (parameters w) k.0 ≡ Some k.1
   pub writable : k.1.it.readonly ≡ false
   pub fitting : judged_at values k v ≡ fits
 
@@ -57,7 +56,7 @@ pub data Tells (w : Table) (n : Node) (c now : ℕ) : Request → Reply → Type
   by_identify : Tells w n c now identify (identification w.edition)
   by_describe : Tells w n c now describe (describing (report w))
   by_ping : {token : List ℕ} → Tells w n c now (ping token) (pong token now)
-  by_read : (k : ℕ × Placed Parameter) → get_elem? (parameters w) k.0 ≡ some k.1 → (v : List ℕ) (t : ℕ) → n.values k.0 ≡ showing v t
+  by_read : (k : ℕ × Placed Parameter) → slice_get (parameters w) k.0 ≡ Some k.1 → (v : List ℕ) (t : ℕ) → n.values k.0 ≡ showing v t
       → Tells w n c now (read k.1.module_name k.1.it.name) (reply (report_of k.1 (showing v t)))
   by_check : (k : ℕ × Placed Parameter) (v : List ℕ) → LetIn w n.values k v → is_some w.edition ≡ true
       → Tells w n c now (check k.1.module_name k.1.it.name v) (checked (report_of k.1 (showing (stored_at n.values k v) now)))
@@ -70,12 +69,12 @@ pub record SameCounts (w : Table) (m n : Node) (c : ℕ) : Type 0 where
 
 -- the modules that an activation is about: all, or the one that is named
 pub data Scope (w : Table) : Option (List ℕ) → (ℕ → Bool) → Type 0 where
-  of_all : Scope w none (λ i. true)
-  of_one : {m : List ℕ} (x : ℕ × Module) → find_module w m ≡ some x → Scope w (some m) (λ i. eqb i x.0)
+  of_all : Scope w None (λ i. true)
+  of_one : {m : List ℕ} (x : ℕ × Module) → find_module w m ≡ Some x → Scope w (Some m) (λ i. eqb i x.0)
 
 -- a command that is let in, with the argument v
 pub record Allowed (w : Table) (k : ℕ × Placed Command) (v : List ℕ) : Type 0 where
-  pub there : get_elem? (commands w) k.0 ≡ some k.1
+  pub there : slice_get (commands w) k.0 ≡ Some k.1
   pub fitting : argument_verdict k.1.it.argument v ≡ fits
 
 abbrev pub done_of : Placed Command → ℕ → DataReport
@@ -88,7 +87,7 @@ ordering n c now k v = carried n [] (order_command c k.0 (argument_form k.1.it.a
 pub record Kinds (w : Table) (m n : Node) (c now : ℕ) (Q : Request → Outcome → Outcome → Type 0) : Type 0 where
   pub bad : (q : Request) (x : Class) → Q q (denied (class x)) (denied (class x))
   -- a read of parameter k, which can't be read
-  pub failing : (k : ℕ × Placed Parameter) (f : Fault) (t : ℕ) → get_elem? (parameters w) k.0 ≡ some k.1 → n.values k.0 ≡ holding (failed f) t
+  pub failing : (k : ℕ × Placed Parameter) (f : Fault) (t : ℕ) → slice_get (parameters w) k.0 ≡ Some k.1 → n.values k.0 ≡ holding (failed f) t
       → Q (read k.1.module_name k.1.it.name) (denied (fault f t)) (denied (fault f t))
   pub telling : (q : Request) (r : Reply) → Tells w n c now q r → Q q (carried m [] [] r) (carried n [] [] r)
   pub activating : (s : Option (List ℕ)) (wanted : ℕ → Bool) → Scope w s wanted
@@ -108,11 +107,11 @@ counting w n c now = carried n [] [] (counted (n.counts c) (active_count w (n.cl
 
 module _ (w : Table) (m n : Node) (same : m.values ≡ n.values) (c now : ℕ) (Q : Request → Outcome → Outcome → Type 0) (h : Kinds w m n c now Q)
     (told : Q count (counting w m c now) (counting w n c now)) where
-  found_hold : {A : Type 0} (q : Request) (x : Class) (o : Option A) (f g : A → Outcome) → ((a : A) → o ≡ some a → Q q (f a) (g a))
+  found_hold : {A : Type 0} (q : Request) (x : Class) (o : Option A) (f g : A → Outcome) → ((a : A) → o ≡ Some a → Q q (f a) (g a))
       → Q q (found x o f) (found x o g)
   unfolding found
-  found_hold q x none f g i = h.bad q x
-  found_hold q x (some a) f g i = i a refl
+  found_hold q x None f g i = h.bad q x
+  found_hold q x (Some a) f g i = i a refl
 
   let_in_hold : (q : Request) (v : Verdict) (o p : Outcome) → (v ≡ fits → Q q o p) → Q q (let_in v o) (let_in v p)
   unfolding let_in
@@ -129,21 +128,21 @@ module _ (w : Table) (m n : Node) (same : m.values ≡ n.values) (c now : ℕ) (
       → ((s : Option (List ℕ)) (wanted : ℕ → Bool) → Scope w s wanted → Q (r s) (f wanted s) (g wanted s))
       → (s : Option (List ℕ)) → Q (r s) (in_scope w m c now f s) (in_scope w n c now g s)
   unfolding in_scope
-  scope_hold r f g i none = i none _ of_all
-  scope_hold r f g i (some s) = found_hold (r (some s)) NoSuchModule (find_module w s) _ _ (λ x e. i (some s) _ (of_one x e))
+  scope_hold r f g i None = i None _ of_all
+  scope_hold r f g i (Some s) = found_hold (r (Some s)) NoSuchModule (find_module w s) _ _ (λ x e. i (Some s) _ (of_one x e))
 
   -- what is found by the names of its module and its own
   named_hold : {A : Type 0} (name : A → List ℕ) (r : List ℕ → List ℕ → Request) (s a : List ℕ) (x : Class) (o : Option (ℕ × Placed A))
       (f g : ℕ × Placed A → Outcome)
-      → ((k : ℕ × Placed A) → o ≡ some k → (k.1.module_name ≡ s) × (name k.1.it ≡ a))
-      → ((k : ℕ × Placed A) → o ≡ some k → Q (r k.1.module_name (name k.1.it)) (f k) (g k))
+      → ((k : ℕ × Placed A) → o ≡ Some k → (k.1.module_name ≡ s) × (name k.1.it ≡ a))
+      → ((k : ℕ × Placed A) → o ≡ Some k → Q (r k.1.module_name (name k.1.it)) (f k) (g k))
       → Q (r s a) (found NoSuchModule (find_module w s) λ y. found x o f) (found NoSuchModule (find_module w s) λ y. found x o g)
   named_hold name r s a x o f g is i =
       found_hold (r s a) NoSuchModule (find_module w s) _ _ (λ y e.
       found_hold (r s a) x o f g (λ k e. subst (λ q. Q q (f k) (g k)) (ap₂ r (is k e).0 (is k e).1) (i k e)))
 
   -- what is read is a value, or the error in its place
-  read_hold : (k : ℕ × Placed Parameter) → get_elem? (parameters w) k.0 ≡ some k.1
+  read_hold : (k : ℕ × Placed Parameter) → slice_get (parameters w) k.0 ≡ Some k.1
       → Q (read k.1.module_name k.1.it.name) (reads w m c now k) (reads w n c now k)
   unfolding reads tells
   read_hold k e =
@@ -162,7 +161,7 @@ module _ (w : Table) (m n : Node) (same : m.values ≡ n.values) (c now : ℕ) (
 
   -- what is let in, by what f and g make of its stored form
   judged_hold : (f g : ℕ × Placed Parameter → List ℕ → Outcome) (q : Request) (v : List ℕ) (k : ℕ × Placed Parameter)
-      → get_elem? (parameters w) k.0 ≡ some k.1
+      → slice_get (parameters w) k.0 ≡ Some k.1
       → (LetIn w n.values k v → Q q (f k (stored_at n.values k v)) (g k (stored_at n.values k v)))
       → Q q (judging w m c now f v k) (judging w n c now g v k)
   unfolding judging
@@ -172,12 +171,12 @@ module _ (w : Table) (m n : Node) (same : m.values ≡ n.values) (c now : ℕ) (
       (writable_hold q k.1.it.readonly _ _ (λ o.
       let_in_hold q (judged_at n.values k v) _ _ (λ e. i (record { there = t; writable = o; fitting = e }))))
 
-  change_hold : (v : List ℕ) (k : ℕ × Placed Parameter) → get_elem? (parameters w) k.0 ≡ some k.1
+  change_hold : (v : List ℕ) (k : ℕ × Placed Parameter) → slice_get (parameters w) k.0 ≡ Some k.1
       → Q (change k.1.module_name k.1.it.name v) (changes w m c now v k) (changes w n c now v k)
   unfolding changes
   change_hold v k t = judged_hold (sets w m c now) (sets w n c now) _ v k t (λ l. h.setting k v l)
 
-  check_hold : is_some w.edition ≡ true → (v : List ℕ) (k : ℕ × Placed Parameter) → get_elem? (parameters w) k.0 ≡ some k.1
+  check_hold : is_some w.edition ≡ true → (v : List ℕ) (k : ℕ × Placed Parameter) → slice_get (parameters w) k.0 ≡ Some k.1
       → Q (check k.1.module_name k.1.it.name v) (checks w m c now v k) (checks w n c now v k)
   unfolding checks shows
   check_hold e v k t = judged_hold (shows w m c now) (shows w n c now) _ v k t (λ l. h.telling _ _ (by_check k v l e))
@@ -191,7 +190,7 @@ module _ (w : Table) (m n : Node) (same : m.values ≡ n.values) (c now : ℕ) (
       go true i = i refl
       go false i = h.bad q ProtocolError
 
-  do_hold : (v : List ℕ) (k : ℕ × Placed Command) → get_elem? (commands w) k.0 ≡ some k.1
+  do_hold : (v : List ℕ) (k : ℕ × Placed Command) → slice_get (commands w) k.0 ≡ Some k.1
       → Q (execute k.1.module_name k.1.it.name v) (does w m c now v k) (does w n c now v k)
   unfolding does
   do_hold v k t =

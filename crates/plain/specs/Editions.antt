@@ -1,7 +1,6 @@
 -- "Without the record both stay as in document 01." (M-107): of a table without an `ED` record, every line is answered as document 01 has it, which
 -- knows one identification and no `check`. Only a theorem speaks of that node. Assumes nothing.
-use Rattle.std.specs.Prelude.{ℕ, cond, [], ◌≡◌}
-use Rattle.std.proofs.Math.Option.{none}
+use Rattle.std.specs.Prelude.{ℕ, cond, [], ◌≡◌, None}
 use Rattle.ascii.specs.Text.{bytes}
 use Rattle.ascii.specs.Bytes.{same}
 use Rattle.table.specs.Table.{Table}
@@ -20,7 +19,7 @@ first_request p = cond (same p.action (bytes "check")) malformed (request p)
 module _ (w : Table) (n : Node) (c now : ℕ) where
   -- "`*IDN?`: `ISSE&SINE2020,SECoP,V2019-09-16,v1.0`."; a check is never asked for [L-15, L-24]
   unfoldable pub first_outcome : Request → Outcome
-  first_outcome identify = carried n [] [] (identification none)
+  first_outcome identify = carried n [] [] (identification None)
   first_outcome describe = outcome w n c now describe
   first_outcome (ping token) = outcome w n c now (ping token)
   first_outcome (activate m) = outcome w n c now (activate m)
@@ -40,4 +39,4 @@ module _ (w : Table) (n : Node) (c now : ℕ) where
     pub answer : answer_parts w n c now p ≡ conclude w n c now p (first_outcome (first_request p))
 
 abbrev pub FirstEditionStays : Type 0
-FirstEditionStays = (w : Table) → w.edition ≡ none → (n : Node) (c now : ℕ) (p : Parts) → AsInFirst w n c now p
+FirstEditionStays = (w : Table) → w.edition ≡ None → (n : Node) (c now : ℕ) (p : Parts) → AsInFirst w n c now p

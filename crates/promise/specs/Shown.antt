@@ -1,7 +1,5 @@
 -- What the call that shows a parameter's value, or the error in its place, promises. Assumes nothing.
-use Rattle.std.specs.Prelude.{ℕ, ◌+◌, ◌≤◌, false, cond, not, List, [], ◌∷◌, ◌≡◌, eqb, length, get_or, take, drop}
-use Rattle.std.proofs.Math.Option.{Option, none, some}
-use Rattle.std.proofs.Math.ListN.{get_elem?}
+use Rattle.std.specs.Prelude.{ℕ, ◌+◌, ◌≤◌, false, cond, not, List, [], ◌∷◌, ◌≡◌, eqb, length, get_or, take, drop, Option, Some, None, slice_get}
 use Rattle.ascii.specs.Bytes.{is_some}
 use Rattle.table.specs.Layout.{table_of}
 use Rattle.table.specs.Table.{Parameter}
@@ -19,7 +17,7 @@ use Rattle.promise.specs.Clauses.Lent.{lent_number}
 -- the first number: of what every call judges (no outbox, no index and no time are lent), and 14, "no such parameter number"
 unfoldable pub value_number : List ℕ → List ℕ → State → ℕ → ℕ
 value_number table values s p =
-    first_fault (lent_number table values false [] s 0 ∷ fault 14 (not (is_some (get_elem? (parameters (table_of table)) p))) ∷ [])
+    first_fault (lent_number table values false [] s 0 ∷ fault 14 (not (is_some (slice_get (parameters (table_of table)) p))) ∷ [])
 
 -- a refusal answers its number only
 abbrev pub not_shown : ℕ → Shown
@@ -43,15 +41,15 @@ unfoldable pub shown_of : Settings → ℕ → Parameter → Shown
 shown_of s p x = cond (eqb (get_or s.error p 0) 0) (part_of s p x) (error_of s p)
 
 unfoldable pub shown_at : Settings → ℕ → Option (Placed Parameter) → Shown
-shown_at s p none = not_shown 14
-shown_at s p (some x) = shown_of s p x.it
+shown_at s p None = not_shown 14
+shown_at s p (Some x) = shown_of s p x.it
 
 -- the answer
 unfoldable pub value_shown : List ℕ → List ℕ → State → ℕ → Shown
 value_shown table values s p =
     cond
     (eqb (value_number table values s p) 0)
-    (shown_at s.settings p (get_elem? (parameters (table_of table)) p))
+    (shown_at s.settings p (slice_get (parameters (table_of table)) p))
     (not_shown (value_number table values s p))
 
 -- the buffer that the answer's part lies in: the table, or the values area where the value is a stored one

@@ -5,11 +5,10 @@ ghost use Rattle.rack.specs.Clauses.Rack.{Lending, ReadsBare};
 
 use crate::judge::bare_quiet;
 use accepted::readings::take_reading;
-use fit::Verdict;
+use fit::Misfit;
 use form::verdict;
 use limits::{LAST_PARAMETER, LATEST};
 use promise::BareDone;
-use search::cursor::NextParameter;
 use search::find::parameter_by_number;
 use state::Bare;
 
@@ -36,11 +35,11 @@ pub fn read_one(
         return bare_quiet(14, state);
     }
     let k = parameter as usize;
-    let NextParameter::At(p, home) = parameter_by_number(table, k) else {
+    let Some((p, home)) = parameter_by_number(table, k) else {
         return bare_quiet(14, state);
     };
     let info = p.info;
-    let Verdict::Fits = verdict(table, info, bytes) else {
+    let Ok(()) = verdict(table, info, bytes) else {
         return bare_quiet(15, state);
     };
     take_reading(table, values, outbox, state, k, time, bytes, p, home)

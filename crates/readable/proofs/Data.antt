@@ -1,10 +1,9 @@
 -- Data reports and error reports are texts of readable trees. Assumes nothing.
+use Rattle.std.specs.Prelude.{Some, slice_get}
 use Prim.Native.Nat.{ℕ, suc}
 use mathlib.Core.Bool.{true}
 use mathlib.Core.List.{List, [], ◌∷◌, append_assoc, append-nil, map}
-use mathlib.Core.Option.{some}
 use mathlib.Core.Path.{◌≡◌, refl, ap, ◌∙◌}
-use lib.ListN.{get_elem?}
 use Rattle.ascii.specs.Text.{bytes}
 use Rattle.ascii.specs.Bytes.{head, tail, is_in, same}
 use Rattle.ascii.proofs.Lists.{both}
@@ -108,23 +107,23 @@ counts_readable x n = (natural_token x.lines, (natural_token x.errors, (natural_
 
 -- ## So they are read
 
-data_read : (v : Json) (t : ℕ) → Readable 7 v → text (data_report (compact v) t) ≡ some (data_value v t)
+data_read : (v : Json) (t : ℕ) → Readable 7 v → text (data_report (compact v) t) ≡ Some (data_value v t)
 data_read v t r = rw data_compact at (readable_trees.read_back (data_value v t) (data_readable v t r))
 
-fault_read : (f : Fault) (t : ℕ) → text (fault_report f t) ≡ some (fault_value f t)
+fault_read : (f : Fault) (t : ℕ) → text (fault_report f t) ≡ Some (fault_value f t)
 fault_read f t = rw fault_compact at (readable_trees.read_back (fault_value f t) (fault_readable f t))
 
-class_read : (c : Class) → text (class_report c) ≡ some (class_value c)
+class_read : (c : Class) → text (class_report c) ≡ Some (class_value c)
 class_read c = rw class_compact at (readable_trees.read_back (class_value c) (class_readable c))
 
-null_read : (t : ℕ) → text (data_report (bytes "null") t) ≡ some (data_value null t)
+null_read : (t : ℕ) → text (data_report (bytes "null") t) ≡ Some (data_value null t)
 unfolding compact
 null_read t = data_read null t tt
 
-counts_read : (x : Counts) (n t : ℕ) → text (data_report (counts_text x n) t) ≡ some (data_value (counts_value x n) t)
+counts_read : (x : Counts) (n t : ℕ) → text (data_report (counts_text x n) t) ≡ Some (data_value (counts_value x n) t)
 counts_read x n t = rw counts_compact at (data_read (counts_value x n) t (counts_readable x n))
 
-errors_read : (d : Denial) → text (error_report d) ≡ some (denial_value d)
+errors_read : (d : Denial) → text (error_report d) ≡ Some (denial_value d)
 unfolding error_report denial_value
 errors_read (class c) = class_read c
 errors_read (fault f t) = fault_read f t
@@ -136,7 +135,7 @@ seven : (v : Json) → Readable 4 v → Readable 7 v
 seven v r = more v 6 (more v 5 (more v 4 r))
 
 -- a text in stored form is the compact text of the value that it is
-own_compact : (d : Datainfo) (xs : List ℕ) → is_stored d xs ≡ true → (w : Json) → text xs ≡ some w → compact w ≡ xs
+own_compact : (d : Datainfo) (xs : List ℕ) → is_stored d xs ≡ true → (w : Json) → text xs ≡ Some w → compact w ≡ xs
 unfolding stored_form form_of
 own_compact d xs h w e = ap compact (stored_forms.own_value d xs h w e) ∙ (rw e at (stored_forms.own d xs h))
 
@@ -173,7 +172,7 @@ parameters_from n (m ∷ ms) h =
     (each_map P place (parameters_of m.accessibles) (parameters_of_lem m.accessibles h.0))
     (parameters_from (suc n) ms h.1)
 
-parameter_deep : (table : List ℕ) → table_number table ≡ 0 → (k : ℕ) (p : Placed Parameter) → get_elem? (parameters (table_of table)) k ≡ some p
+parameter_deep : (table : List ℕ) → table_number table ≡ 0 → (k : ℕ) (p : Placed Parameter) → slice_get (parameters (table_of table)) k ≡ Some p
     → Deep 4 p.it.datainfo
 unfolding parameters
 parameter_deep table e k p q =

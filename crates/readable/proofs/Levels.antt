@@ -1,7 +1,7 @@
 -- A datainfo that is read from the table's bytes has no more levels than it is read with. Assumes nothing.
+use Rattle.std.specs.Prelude.{Option, Some}
 use Prim.Native.Nat.{ℕ, zero, suc}
 use mathlib.Core.List.{List}
-use mathlib.Core.Option.{Option, some}
 use mathlib.Core.Path.{◌≡◌}
 use lib.Dec.{eqb}
 use Rattle.ascii.specs.Numbers.{unsigned, signed}
@@ -119,5 +119,5 @@ unfolding datainfo_in
 datainfo_deep zero xs = failed
 datainfo_deep (suc n) xs = of_bind (anything (unsigned 1 xs)) λ k _. typed_deep n (datainfo_in n) (datainfo_deep n) k.0 k.1
 
-pub read_deep : (n : ℕ) (bs r : List ℕ) (d : Datainfo) → datainfo_in n bs ≡ some (d, r) → Deep n d
+pub read_deep : (n : ℕ) (bs r : List ℕ) (d : Datainfo) → datainfo_in n bs ≡ Some (d, r) → Deep n d
 read_deep n bs r d e = of_some (rw e at (datainfo_deep n bs))

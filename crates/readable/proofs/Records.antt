@@ -1,12 +1,11 @@
 -- Every report that the plain node sends is read: by the kinds of outcome that a line may have, and by what a driver may tell. Assumes nothing.
+use Rattle.std.specs.Prelude.{Option, Some, None, slice_get}
 use Prim.Native.Nat.{ℕ, zero, suc, ◌+◌}
 use native.Mathlib.Nat.{zero-add, add-zero}
 use native.Mathlib.Omega.{arith}
 use mathlib.Core.Bool.{Bool, true, false, cond, not}
 use mathlib.Core.List.{List, [], ◌∷◌, ◌++◌}
-use mathlib.Core.Option.{Option, none, some}
 use mathlib.Core.Path.{◌≡◌, refl, subst}
-use lib.ListN.{get_elem?}
 use borrow.Author.Tests.{not-false}
 use Rattle.ascii.specs.Text.{bytes}
 use Rattle.json_text.specs.Json.{null, compact}
@@ -61,7 +60,7 @@ module _ (w : Table) where
       both_read (cond (is_active (f c) i) (update c r ∷ []) []) (updates_to f i r cs) (one_read (is_active (f c) i) c r h) (to_read f i r h cs)
 
   of_read : (c : ℕ) (wanted : ℕ → Bool) (values : ℕ → Value) (k : ℕ) (ps : List (Placed Parameter))
-      → ((j : ℕ) (p : Placed Parameter) → get_elem? ps j ≡ some p → ReportRead (report_of p (values (k + j)))) → AllRead w (updates_of c wanted values k ps)
+      → ((j : ℕ) (p : Placed Parameter) → slice_get ps j ≡ Some p → ReportRead (report_of p (values (k + j)))) → AllRead w (updates_of c wanted values k ps)
   unfolding updates_of
   of_read c wanted values k [] h = tt
   of_read c wanted values k (p ∷ ps) h =
@@ -93,15 +92,15 @@ module _ (table : List ℕ) (z : table_number table ≡ 0) where
   a : Accepted w
   a = accepted table z
 
-  in_table : (k : ℕ) (p : Placed Parameter) → get_elem? (parameters w) k ≡ some p → ParameterIn p.it
+  in_table : (k : ℕ) (p : Placed Parameter) → slice_get (parameters w) k ≡ Some p → ParameterIn p.it
   in_table k p e = each_at (λ (q : Placed Parameter). ParameterIn q.it) (parameters w) a.parameters_in k p e
 
-  report_read : (k : ℕ) (p : Placed Parameter) → get_elem? (parameters w) k ≡ some p → (x : Held) → HeldFits p.it x → (t : ℕ)
+  report_read : (k : ℕ) (p : Placed Parameter) → slice_get (parameters w) k ≡ Some p → (x : Held) → HeldFits p.it x → (t : ℕ)
       → ReportRead (report_of p (holding x t))
   report_read k p e x f t = data_reports_are_read.of_held table z k p e x t f
 
   -- at a node whose values fit
-  module _ (n : Node) (s : (k : ℕ) (p : Placed Parameter) → get_elem? (parameters w) k ≡ some p → HeldFits p.it (n.values k).held) (c t : ℕ) where
+  module _ (n : Node) (s : (k : ℕ) (p : Placed Parameter) → slice_get (parameters w) k ≡ Some p → HeldFits p.it (n.values k).held) (c t : ℕ) where
     told_read : (q : Request) (r : Reply) → Tells w n c t q r → ReplyRead w r
     told_read _ _ by_identify = tt
     told_read _ _ by_describe = structure_reports_are_read table z
@@ -121,8 +120,8 @@ module _ (table : List ℕ) (z : table_number table ≡ 0) where
 
     busy_read : (p : Placed Parameter) (o : Option (ℕ × Placed Parameter)) → status_of w p ≡ o → AllRead w (busy_updates n.clients o t)
     unfolding busy_updates
-    busy_read p none e = tt
-    busy_read p (some x) e =
+    busy_read p None e = tt
+    busy_read p (Some x) e =
         let i = status_is w p x e in
         let f = busy_stored x.1.it.datainfo (in_table x.0 x.1 i.there).names i.admits in
         to_read w n.clients x.1.home (report_of x.1 (showing busy t)) (report_read x.0 x.1 i.there (valued busy) f t) client_numbers
@@ -155,41 +154,41 @@ module _ (table : List ℕ) (z : table_number table ≡ 0) where
     unfolding answer_parts
     parts_read p = concluded w n c t p (outcome w n c t (request p)) (outcome_read (request p))
 
-  module _ (n : Node) (s : (k : ℕ) (p : Placed Parameter) → get_elem? (parameters w) k ≡ some p → HeldFits p.it (n.values k).held) where
+  module _ (n : Node) (s : (k : ℕ) (p : Placed Parameter) → slice_get (parameters w) k ≡ Some p → HeldFits p.it (n.values k).held) where
     ended_read : (c t : ℕ) (b : Bool) → AllRead w (ended w n c t b).1
     unfolding ended answer
     ended_read c t false = tt
     ended_read c t true = parts_read (line_taken n c) s c t (parts_of (content (line_of (n.clients c))))
 
-    driver_read : (k : ℕ) (p : Placed Parameter) → get_elem? (parameters w) k ≡ some p → (x : Held) → HeldFits p.it x → (t : ℕ)
+    driver_read : (k : ℕ) (p : Placed Parameter) → slice_get (parameters w) k ≡ Some p → (x : Held) → HeldFits p.it x → (t : ℕ)
         → AllRead w (driver_effect n k p x t).records
     unfolding driver_effect
     driver_read k p e x f t = to_read w n.clients p.home (report_of p (holding x t)) (report_read k p e x f t) client_numbers
 
-    reading_read : (k : ℕ) (o : Option (Placed Parameter)) → get_elem? (parameters w) k ≡ o → (bs : List ℕ) (t : ℕ) → is_fit (reading_verdict o bs) ≡ true
+    reading_read : (k : ℕ) (o : Option (Placed Parameter)) → slice_get (parameters w) k ≡ o → (bs : List ℕ) (t : ℕ) → is_fit (reading_verdict o bs) ≡ true
         → AllRead w (reading_effect n k o bs t).records
     unfolding reading_effect reading_verdict
-    reading_read k none e bs t f = tt
-    reading_read k (some p) e bs t f = driver_read k p e (valued (stored_form p.it.datainfo bs)) (stored p.it.datainfo bs (in_table k p e) f) t
+    reading_read k None e bs t f = tt
+    reading_read k (Some p) e bs t f = driver_read k p e (valued (stored_form p.it.datainfo bs)) (stored p.it.datainfo bs (in_table k p e) f) t
 
-    unreadable_read : (k : ℕ) (o : Option (Placed Parameter)) → get_elem? (parameters w) k ≡ o → (x : Option Fault) (t : ℕ)
+    unreadable_read : (k : ℕ) (o : Option (Placed Parameter)) → slice_get (parameters w) k ≡ o → (x : Option Fault) (t : ℕ)
         → AllRead w (unreadable_effect n k o x t).records
     unfolding unreadable_effect
-    unreadable_read k none e x t = tt
-    unreadable_read k (some p) e none t = tt
-    unreadable_read k (some p) e (some f) t = driver_read k p e (failed f) tt t
+    unreadable_read k None e x t = tt
+    unreadable_read k (Some p) e None t = tt
+    unreadable_read k (Some p) e (Some f) t = driver_read k p e (failed f) tt t
 
-  module _ (n : Node) (s : (k : ℕ) (p : Placed Parameter) → get_elem? (parameters w) k ≡ some p → HeldFits p.it (n.values k).held) where
+  module _ (n : Node) (s : (k : ℕ) (p : Placed Parameter) → slice_get (parameters w) k ≡ Some p → HeldFits p.it (n.values k).held) where
     effect_read : (e : Event) → first_fault (own_faults w n e) ≡ 0 → AllRead w (effect w n e).records
     unfolding own_faults effect piece_effect
     effect_read (Open c t) y = tt
     effect_read (Close c t) y = tt
     effect_read (Piece c bs t) y = ended_read _ s c t (has_feed bs)
     effect_read (Reading k bs t) y =
-        let x = get_elem? (parameters w) k in
+        let x = slice_get (parameters w) k in
         let f = is_fit (reading_verdict x bs) in
         reading_read n s k x refl bs t (not-false f (no_fault 14 (not f) (first_fault_none _ y 2)))
-    effect_read (Unreadable k x t) y = unreadable_read n s k (get_elem? (parameters w) k) refl (fault_of x) t
+    effect_read (Unreadable k x t) y = unreadable_read n s k (slice_get (parameters w) k) refl (fault_of x) t
 
     step_read : (e : Call) → AllRead w (step table n e).1.records
     unfolding step step_if settle

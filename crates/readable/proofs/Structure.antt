@@ -1,9 +1,9 @@
 -- The structure report of an accepted table is a readable tree of fourteen levels. Assumes nothing.
+use Rattle.std.specs.Prelude.{Option, Some, None}
 use Prim.Native.Nat.{ℕ, zero, suc}
 use native.Mathlib.Omega.{arith}
 use mathlib.Core.Bool.{Bool, true, false, cond, not, ◌&&◌}
 use mathlib.Core.List.{List, [], ◌∷◌, map, append-nil}
-use mathlib.Core.Option.{Option, none, some}
 use mathlib.Core.Path.{◌≡◌, refl}
 use borrow.Author.Tests.{not-false}
 use Rattle.ascii.specs.Text.{bytes}
@@ -114,13 +114,13 @@ datainfo_readable (suc n) top d g h = typed_readable n (λ e i j. datainfo_reada
 -- "At most four levels"
 abbrev pub DeepAccessible : Accessible → Type 0
 DeepAccessible (parameter p) = Deep 4 p.datainfo
-DeepAccessible (command c) = (d : Datainfo) → c.argument ≡ some d → Deep 4 d
+DeepAccessible (command c) = (d : Datainfo) → c.argument ≡ Some d → Deep 4 d
 
-argument_readable : (o : Option Datainfo) → ((d : Datainfo) → o ≡ some d → Deep 4 d) → if_any Datainfo.names_good o ≡ true
+argument_readable : (o : Option Datainfo) → ((d : Datainfo) → o ≡ Some d → Deep 4 d) → if_any Datainfo.names_good o ≡ true
     → ReadableMembers 8 (argument_member o)
 unfolding twice argument_member if_any bytes string_end chars char head tail is_in
-argument_readable none g h = tt
-argument_readable (some d) g h = (refl, datainfo_readable 4 false d (g d refl) h, tt)
+argument_readable None g h = tt
+argument_readable (Some d) g h = (refl, datainfo_readable 4 false d (g d refl) h, tt)
 
 accessible_readable : (a : Accessible) → DeepAccessible a → is_name (accessible_name a) ≡ true → accessible_names_good a ≡ true → (rest : Members)
     → ReadableMembers 10 rest → ReadableMembers 10 (accessible_member a rest)
@@ -185,7 +185,7 @@ lies_deep d h = read_deep 4 h.bytes h.left d h.read
 
 -- a module with these accessibles
 abbrev holding : List Accessible → Module
-holding l = record { name = []; description = []; note = none; accessibles = l }
+holding l = record { name = []; description = []; note = None; accessibles = l }
 
 accessibles_deep : (l : List Accessible) → ModuleLies (holding l) → Each DeepAccessible l
 accessibles_deep [] h = tt
@@ -206,8 +206,8 @@ unfolding table_number table_of number_of or_empty tree_number
 read_table_lem table e = go (read_table table) refl e
   where
     go : (o : Option Table) → read_table table ≡ o → number_of o ≡ 0 → ReadTable (or_empty o)
-    go none q e = absurd (omega arith)
-    go (some t) q e = record {
+    go None q e = absurd (omega arith)
+    go (Some t) q e = record {
       names = not-false (names_good t) (no_fault 2 (not (names_good t)) (first_fault_none _ e 1));
       deep = modules_deep t.modules (table_lies table t q);
     }

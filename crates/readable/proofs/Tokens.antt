@@ -1,9 +1,9 @@
 -- Texts are the bytes between two quotes, and the numbers that the node writes are tokens of JSON. Assumes nothing.
+use Rattle.std.specs.Prelude.{Some}
 use Prim.Native.Nat.{ℕ, zero, suc, ◌/◌, ◌%◌, ◌<◌}
 use native.Mathlib.Omega.{arith}
 use mathlib.Core.Bool.{Bool, true, false, not, ◌&&◌}
 use mathlib.Core.List.{List, [], ◌∷◌, ◌++◌, append_assoc}
-use mathlib.Core.Option.{some}
 use mathlib.Core.Path.{◌≡◌, refl}
 use lib.Dec.{eqb}
 use lib.IntN.{ℤ, pos, negsuc}
@@ -24,7 +24,7 @@ use Rattle.report.specs.Report.{decimal_text}
 
 -- ## Texts
 
-text_chars : (s : List ℕ) (n : ℕ) → all is_text_byte s ≡ true → length s < n → chars n (s ++ 34 ∷ []) ≡ some []
+text_chars : (s : List ℕ) (n : ℕ) → all is_text_byte s ≡ true → length s < n → chars n (s ++ 34 ∷ []) ≡ Some []
 unfolding chars char head tail is_text_byte
 text_chars s zero h l = absurd (omega arith)
 text_chars [] (suc n) h l = refl
@@ -41,7 +41,7 @@ text_raw s h = text_chars s (length (s ++ 34 ∷ [])) h (simp length-append (ome
 -- ## Whole numbers, in front of a byte that is no digit
 
 -- digits that are a token are not none, and no zero is in front of others
-digits_all : (xs : List ℕ) → all is_digit xs ≡ true → IsToken xs → digits xs ≡ some []
+digits_all : (xs : List ℕ) → all is_digit xs ≡ true → IsToken xs → digits xs ≡ Some []
 unfolding digits head
 digits_all [] h e = let z : ◌≡◌ {A = ℕ} 0 1 = cc number_takes.0 in absurd (omega arith)
 digits_all (b ∷ bs) h e = rw ((all_parts is_digit b bs h).0, dropped is_digit (b ∷ bs) h)
@@ -59,7 +59,7 @@ no_sign (b ∷ bs) h e =
     rw (differs is_digit 43 refl b d, differs is_digit 45 refl b d)
 
 zero_alone : (b : ℕ) (bs : List ℕ) → is_digit b ≡ true → all is_digit bs ≡ true → eqb b 48 ≡ true → IsToken (b ∷ bs) → (r : List ℕ)
-    → int (b ∷ bs ++ r) ≡ some r
+    → int (b ∷ bs ++ r) ≡ Some r
 unfolding int head tail number minus frac exp is_in
 zero_alone b [] d h q e r = rw q
 zero_alone b (c ∷ cs) d h q e r =
@@ -68,12 +68,12 @@ zero_alone b (c ∷ cs) d h q e r =
     let z : ◌≡◌ {A = ℕ} 0 1 = cc in
     absurd (omega arith)
 
-int_front : (xs : List ℕ) → all is_digit xs ≡ true → IsToken xs → (x : ℕ) (r : List ℕ) → is_digit x ≡ false → int (xs ++ x ∷ r) ≡ some (x ∷ r)
+int_front : (xs : List ℕ) → all is_digit xs ≡ true → IsToken xs → (x : ℕ) (r : List ℕ) → is_digit x ≡ false → int (xs ++ x ∷ r) ≡ Some (x ∷ r)
 unfolding int digits head
 int_front [] h e x r f = let z : ◌≡◌ {A = ℕ} 0 1 = cc number_takes.0 in absurd (omega arith)
 int_front (b ∷ bs) h e x r f = go (eqb b 48) refl
   where
-    go : (t : Bool) → eqb b 48 ≡ t → int (b ∷ bs ++ x ∷ r) ≡ some (x ∷ r)
+    go : (t : Bool) → eqb b 48 ≡ t → int (b ∷ bs ++ x ∷ r) ≡ Some (x ∷ r)
     go true q = let p = all_parts is_digit b bs h in zero_alone b bs p.0 p.1 q e (x ∷ r)
     go false q = rw (q, (all_parts is_digit b bs h).0, dropped_at is_digit (b ∷ bs) x r h f)
 
@@ -82,20 +82,20 @@ unfolding integer
 natural_token n = integer_token (pos n)
 
 -- the digits of n, with a sign or without
-natural_front : (n x : ℕ) (r : List ℕ) → is_digit x ≡ false → int (decimal n ++ x ∷ r) ≡ some (x ∷ r)
+natural_front : (n x : ℕ) (r : List ℕ) → is_digit x ≡ false → int (decimal n ++ x ∷ r) ≡ Some (x ∷ r)
 natural_front n x r f = int_front (decimal n) (decimal_digits n) (natural_token n) x r f
 
 natural_plain : (n : ℕ) (r : List ℕ) → minus (decimal n ++ r) ≡ decimal n ++ r
 natural_plain n r = no_minus (decimal n) (decimal_digits n) (natural_token n) r
 
-integer_front : (m : ℤ) (x : ℕ) (r : List ℕ) → is_digit x ≡ false → int (minus (integer m ++ x ∷ r)) ≡ some (x ∷ r)
+integer_front : (m : ℤ) (x : ℕ) (r : List ℕ) → is_digit x ≡ false → int (minus (integer m ++ x ∷ r)) ≡ Some (x ∷ r)
 unfolding integer bytes minus head tail
 integer_front (pos n) x r f = rw (natural_plain n (x ∷ r)) (natural_front n x r f)
 integer_front (negsuc n) x r f = natural_front (suc n) x r f
 
 -- ## Decimals
 
-signed_digits : (p : ℤ) → digits (sign (integer p)) ≡ some []
+signed_digits : (p : ℤ) → digits (sign (integer p)) ≡ Some []
 unfolding integer bytes sign minus head tail
 signed_digits (pos n) =
     let d = decimal_digits n in
@@ -115,11 +115,11 @@ decimal_token m (negsuc n) = rw append_assoc (power_token m (negsuc n))
 
 -- ## Times
 
-three_digits : (a b c : ℕ) → is_digit a ≡ true → is_digit b ≡ true → is_digit c ≡ true → digits (a ∷ b ∷ c ∷ []) ≡ some []
+three_digits : (a b c : ℕ) → is_digit a ≡ true → is_digit b ≡ true → is_digit c ≡ true → digits (a ∷ b ∷ c ∷ []) ≡ Some []
 unfolding digits drop_while head
 three_digits a b c p q r = rw (p, q, r)
 
-fraction_token : (n a b c : ℕ) → digits (a ∷ b ∷ c ∷ []) ≡ some [] → IsToken (decimal n ++ 46 ∷ a ∷ b ∷ c ∷ [])
+fraction_token : (n a b c : ℕ) → digits (a ∷ b ∷ c ∷ []) ≡ Some [] → IsToken (decimal n ++ 46 ∷ a ∷ b ∷ c ∷ [])
 unfolding number frac exp head tail is_in
 fraction_token n a b c d = rw (natural_plain n (46 ∷ a ∷ b ∷ c ∷ []), natural_front n 46 (a ∷ b ∷ c ∷ []) refl, d)
 

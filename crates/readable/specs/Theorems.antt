@@ -1,7 +1,5 @@
 -- What the node writes as JSON, its own reader (`json/specs/Json`) reads, as the value that it was written from. Assumes nothing.
-use Rattle.std.specs.Prelude.{ℕ, true, List, [], ◌∷◌, ◌++◌, ◌≡◌}
-use Rattle.std.proofs.Math.Option.{Option, none, some}
-use Rattle.std.proofs.Math.ListN.{get_elem?}
+use Rattle.std.specs.Prelude.{ℕ, true, List, [], ◌∷◌, ◌++◌, ◌≡◌, Option, Some, None, slice_get}
 use Rattle.ascii.specs.Text.{bytes}
 use Rattle.ascii.specs.Bytes.{is_some}
 use Rattle.counter.specs.declared.Counts.{Counts}
@@ -32,7 +30,7 @@ report_levels = 14
 -- The structure report of every accepted table is read whole, as the value that it was written from, by the same reader with so many levels.
 abbrev pub StructureReportsAreRead : Type 0
 StructureReportsAreRead = (table : List ℕ) → table_number table ≡ 0
-    → value report_levels (report (table_of table)) ≡ some (report_value (table_of table), [])
+    → value report_levels (report (table_of table)) ≡ Some (report_value (table_of table), [])
 
 -- one command, whose argument is a tuple of a tuple of a tuple of an enum
 unfoldable pub deepest : List ℕ
@@ -43,7 +41,7 @@ deepest =
 -- With fewer it is not: this table is accepted, and its report has 14 levels.
 pub record FewerAreTooFew : Type 0 where
   pub accepted : table_number deepest ≡ 0
-  pub refused : value 13 (report (table_of deepest)) ≡ none
+  pub refused : value 13 (report (table_of deepest)) ≡ None
 
 -- ## Data reports and error reports: `text` reads them, by the rule for what a client sends
 
@@ -55,19 +53,19 @@ IsRead xs o = (is_some o ≡ true) × (text xs ≡ o)
 pub record DataReportsAreRead : Type 0 where
   -- of whatever a parameter of an accepted table may hold, a text in stored form or why it can't be read: what `reply`, `changed`, `checked` and
   -- updates have
-  pub of_held : (table : List ℕ) → table_number table ≡ 0 → (k : ℕ) (p : Placed Parameter) → get_elem? (parameters (table_of table)) k ≡ some p
+  pub of_held : (table : List ℕ) → table_number table ≡ 0 → (k : ℕ) (p : Placed Parameter) → slice_get (parameters (table_of table)) k ≡ Some p
       → (h : Held) (t : ℕ) → HeldFits p.it h → IsRead (held_report h t) (held_value h t)
   -- of `null`: what `pong` and `done` have
-  pub of_null : (t : ℕ) → text (data_report (bytes "null") t) ≡ some (data_value null t)
+  pub of_null : (t : ℕ) → text (data_report (bytes "null") t) ≡ Some (data_value null t)
   -- of a client's counts: what `_counted` has
-  pub of_counts : (x : Counts) (n t : ℕ) → text (data_report (counts_text x n) t) ≡ some (data_value (counts_value x n) t)
+  pub of_counts : (x : Counts) (n t : ℕ) → text (data_report (counts_text x n) t) ≡ Some (data_value (counts_value x n) t)
   -- "`error_ACTION SPECIFIER [..]`"
-  pub of_errors : (d : Denial) → text (error_report d) ≡ some (denial_value d)
+  pub of_errors : (d : Denial) → text (error_report d) ≡ Some (denial_value d)
 
 -- So in every history, after every call, the report of each parameter is read.
 abbrev pub HeldReportsAreRead : Type 0
 HeldReportsAreRead = (table : List ℕ) (area time : ℕ) → start_number table area time ≡ 0 → (h : List Call)
-    → (k : ℕ) (p : Placed Parameter) → get_elem? (parameters (table_of table)) k ≡ some p
+    → (k : ℕ) (p : Placed Parameter) → slice_get (parameters (table_of table)) k ≡ Some p
     → let v : Value = (finish table (begin (table_of table) time) h).values k in IsRead (held_report v.held v.time) (held_value v.held v.time)
 
 -- ## All that is sent
@@ -79,16 +77,16 @@ ReportRead r = IsRead (held_report r.held r.time) (held_value r.held r.time)
 -- what a reply has as JSON, on the table w; three have none
 abbrev pub ReplyRead : Table → Reply → Type 0
 ReplyRead w (identification e) = Unit {0}
-ReplyRead w (describing xs) = value report_levels xs ≡ some (report_value w, [])
-ReplyRead w (pong token now) = text (data_report (bytes "null") now) ≡ some (data_value null now)
+ReplyRead w (describing xs) = value report_levels xs ≡ Some (report_value w, [])
+ReplyRead w (pong token now) = text (data_report (bytes "null") now) ≡ Some (data_value null now)
 ReplyRead w (active m) = Unit {0}
 ReplyRead w (inactive m) = Unit {0}
 ReplyRead w (reply r) = ReportRead r
 ReplyRead w (changed r) = ReportRead r
 ReplyRead w (done r) = ReportRead r
 ReplyRead w (checked r) = ReportRead r
-ReplyRead w (counted x n now) = text (data_report (counts_text x n) now) ≡ some (data_value (counts_value x n) now)
-ReplyRead w (error a s d) = text (error_report d) ≡ some (denial_value d)
+ReplyRead w (counted x n now) = text (data_report (counts_text x n) now) ≡ Some (data_value (counts_value x n) now)
+ReplyRead w (error a s d) = text (error_report d) ≡ Some (denial_value d)
 
 -- and a record: lines have reports, and orders have none
 abbrev pub RecordRead : Table → Record → Type 0

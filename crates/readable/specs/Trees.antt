@@ -1,7 +1,6 @@
 -- The values that the node's reports are texts of (document 01, "Lines"; M-102, M-108). Only theorems speak of them: what is sent are the texts of
 -- `message/specs/Reply`. Assumes nothing.
-use Rattle.std.specs.Prelude.{ℕ}
-use Rattle.std.proofs.Math.Option.{Option, some}
+use Rattle.std.specs.Prelude.{ℕ, Option, Some}
 use Rattle.ascii.specs.Text.{bytes}
 use Rattle.ascii.specs.Bytes.{◌>>=◌}
 use Rattle.ascii.specs.Numbers.{decimal, seconds}
@@ -38,5 +37,5 @@ counts_value x n =
 
 -- of what a parameter holds: the data report of the value that its text is, or the report of why it can't be read [L-12, L-28]
 unfoldable pub held_value : Held → ℕ → Option Json
-held_value (valued v) t = text v >>= λ w. some (data_value w t)
-held_value (failed f) t = some (fault_value f t)
+held_value (valued v) t = text v >>= λ w. Some (data_value w t)
+held_value (failed f) t = Some (fault_value f t)

@@ -1,7 +1,7 @@
 -- What is played is a history of single calls. Assumes nothing.
+use Rattle.std.specs.Prelude.{Option, Some, None}
 use Prim.Native.Nat.{ℕ, zero, suc}
 use mathlib.Core.List.{List, [], ◌∷◌, ◌++◌}
-use mathlib.Core.Option.{Option, none, some}
 use mathlib.Core.Path.{◌≡◌, refl, ap, ap₂, ◌∙◌}
 use Rattle.plain.specs.Node.{Node}
 use Rattle.plain.specs.Calls.{Answer}
@@ -20,8 +20,8 @@ module _ (table : List ℕ) (area room : ℕ) where
   on_answered : (k : ℕ) (n : Node) (o : Option Entry) → Answered table n (play_on table area room k n o)
   unfolding play_on if_some first answers finish
   on_answered zero n o = record { same = refl; end = refl }
-  on_answered (suc k) n none = record { same = refl; end = refl }
-  on_answered (suc k) n (some e) =
+  on_answered (suc k) n None = record { same = refl; end = refl }
+  on_answered (suc k) n (Some e) =
       let s = step table n (call_for area room e) in
       let q = on_answered k s.0 (rest e s.1.number s.1.used) in
       record { same = ap (λ (l : List Answer). s.1 ∷ l) q.same; end = q.end }
@@ -31,7 +31,7 @@ module _ (table : List ℕ) (area room : ℕ) where
   all_answered n [] = record { same = refl; end = refl }
   all_answered n (e ∷ es) =
       let p = play table area room n e in
-      let a : Answered table n p = unfold play in on_answered _ n (some e) in
+      let a : Answered table n p = unfold play in on_answered _ n (Some e) in
       let q = all_answered p.node es in
       let later = (play_all table area room p.node es).calls in
       record {

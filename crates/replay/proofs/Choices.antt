@@ -1,13 +1,13 @@
 -- What an accepted call set, as the code finds it. Assumes nothing.
+use Rattle.std.specs.Prelude.{Option, Some, None, slice_get}
 use Prim.Native.Nat.{ℕ, zero, suc, ◌≤◌, ◌<◌}
 use native.Mathlib.Nat.{zero-add}
 use native.Mathlib.Omega.{arith}
 use mathlib.Core.Bool.{Bool, true, false, cond, ◌&&◌}
 use mathlib.Core.List.{List, [], ◌∷◌, ◌++◌, append-nil}
-use mathlib.Core.Option.{Option, none, some}
 use mathlib.Core.Path.{◌≡◌, refl, sym, ap, ap₂, subst, ◌∙◌}
 use lib.Dec.{eqb, ltb}
-use lib.ListN.{length, get_or, drop, replicate, get_elem?}
+use lib.ListN.{length, get_or, drop, replicate}
 use lib.Seq.{sets, sets-eq}
 use borrow.Author.Tests.{eq-eqb, ne_eqb, eqb-true, eqb-false, ltb-false, not-false}
 use Rattle.ascii.specs.Bytes.{is_some, head}
@@ -44,8 +44,6 @@ use Rattle.figures.specs.declared.Figures.{Figures}
 use Rattle.figures.specs.Clauses.Tally.{no_settings, tally_at, mark_of, observed, Tallies, Bounded}
 use Rattle.figures.proofs.Keeping.{none_anywhere, observed_same, observed_other}
 use Rattle.figures.proofs.Tallying.{figures_are_exact}
-use Rattle.replay.specs.declared.Chosen.{Chosen}
-use Rattle.replay.specs.declared.Chosen.TheVariants.{Of, Nothing}
 use Rattle.replay.specs.Replay.{call_of, call_for}
 use Rattle.replay.specs.Settings.{orders_of, form_for, readings_of, set_by}
 use Rattle.replay.specs.Clauses.Figured.{Figured, order_in, chosen_by, Shows, Shown, Notes}
@@ -61,45 +59,45 @@ use Rattle.replay.proofs.Orders.{orders_same, orders_other}
 -- ## What an accepted event sets
 
 -- nothing, or one parameter, which then holds it
-pub data Sets (w : Table) (e : Event) (a : Answer) (m : Node) : Chosen → Type 0 where
-  sets_none : ((k : ℕ) → set_by w k e a ≡ []) → Sets w e a m Nothing
-  sets_one : (k : ℕ) (p : Placed Parameter) (v : List ℕ) → get_elem? (parameters w) k ≡ some p → (m.values k).held ≡ valued v
-      → set_by w k e a ≡ v ∷ [] → ((j : ℕ) → (j ≡ k → ⊥) → set_by w j e a ≡ []) → Sets w e a m (Of k)
+pub data Sets (w : Table) (e : Event) (a : Answer) (m : Node) : Option ℕ → Type 0 where
+  sets_none : ((k : ℕ) → set_by w k e a ≡ []) → Sets w e a m None
+  sets_one : (k : ℕ) (p : Placed Parameter) (v : List ℕ) → slice_get (parameters w) k ≡ Some p → (m.values k).held ≡ valued v
+      → set_by w k e a ≡ v ∷ [] → ((j : ℕ) → (j ≡ k → ⊥) → set_by w j e a ≡ []) → Sets w e a m (Some k)
 
 -- whatever its steps
-abbrev Found : Table → Node → Event → Chosen → Type 0
+abbrev Found : Table → Node → Event → Option ℕ → Type 0
 Found w n e r = Sets w e (answer_of (effect w n e) 0) (effect w n e).next r
 
 module _ (w : Table) (n : Node) where
-  open_found : (c t : ℕ) → Found w n (Open c t) Nothing
+  open_found : (c t : ℕ) → Found w n (Open c t) None
   unfolding effect set_by readings_of orders_of
   open_found c t = sets_none (λ k. refl)
 
-  close_found : (c t : ℕ) → Found w n (Close c t) Nothing
+  close_found : (c t : ℕ) → Found w n (Close c t) None
   unfolding effect set_by readings_of orders_of
   close_found c t = sets_none (λ k. refl)
 
-  unreadable_found : (p i t : ℕ) → Found w n (Unreadable p i t) Nothing
+  unreadable_found : (p i t : ℕ) → Found w n (Unreadable p i t) None
   unfolding effect set_by readings_of unreadable_effect driver_effect orders_of
-  unreadable_found p i t = sets_none (go (get_elem? (parameters w) p) (fault_of i))
+  unreadable_found p i t = sets_none (go (slice_get (parameters w) p) (fault_of i))
     where
       go : (o : Option (Placed Parameter)) (f : Option Fault) → NoOrders (unreadable_effect n p o f t).records
-      go none f k = refl
-      go (some x) none k = refl
-      go (some x) (some f) k = updates_to_lem n.clients x.home _ _ k
+      go None f k = refl
+      go (Some x) None k = refl
+      go (Some x) (Some f) k = updates_to_lem n.clients x.home _ _ k
 
   module _ (c : ℕ) (bs : List ℕ) (t : ℕ) (more : List ℕ) where
-    abbrev Here : List Record → Chosen → Type 0
+    abbrev Here : List Record → Option ℕ → Type 0
     Here rs r =
         Sets w (Calls.Piece c bs t) (record { number = 0; used = (piece_effect w n c bs t).used; records = rs; steps = 0 }) (piece_effect w n c bs t).next r
 
-    quiet_piece : (rs : List Record) → NoOrders rs → (b : Bool) → eqb (length (encode_all rs)) 0 ≡ b → Here rs (cond b Nothing (order_in (encode_all rs ++ more)))
+    quiet_piece : (rs : List Record) → NoOrders rs → (b : Bool) → eqb (length (encode_all rs)) 0 ≡ b → Here rs (cond b None (order_in (encode_all rs ++ more)))
     unfolding set_by readings_of
     quiet_piece rs h true z = sets_none h
     quiet_piece rs h false z = rw (order_none rs more h (eqb-false (length (encode_all rs)) 0 z)) (sets_none h)
 
     either_piece : (rs : List Record) → Ordered w (piece_effect w n c bs t).next.values rs
-        → Here rs (cond (eqb (length (encode_all rs)) 0) Nothing (order_in (encode_all rs ++ more)))
+        → Here rs (cond (eqb (length (encode_all rs)) 0) None (order_in (encode_all rs ++ more)))
     unfolding set_by readings_of
     either_piece rs (no_order h) = quiet_piece rs h (eqb (length (encode_all rs)) 0) refl
     either_piece _ (one_order {rs = rs} d k p v x y h) =
@@ -110,7 +108,7 @@ module _ (w : Table) (n : Node) where
   unfolding effect chosen_by
   piece_found c bs t i xs more l e = rw (l, e) (either_piece c bs t more (piece_effect w n c bs t).records (piece_ordered w n c bs t))
 
-  module _ (k : ℕ) (bs : List ℕ) (t : ℕ) (p : Placed Parameter) (e : get_elem? (parameters w) k ≡ some p) where
+  module _ (k : ℕ) (bs : List ℕ) (t : ℕ) (p : Placed Parameter) (e : slice_get (parameters w) k ≡ Some p) where
     read_same : (u : ℕ) (rs : List Record) → NoOrders rs
         → set_by w k (Calls.Reading k bs t) (record { number = 0; used = u; records = rs; steps = 0 }) ≡ stored_form p.it.datainfo bs ∷ []
     unfolding set_by readings_of form_for
@@ -124,24 +122,24 @@ module _ (w : Table) (n : Node) where
         → set_by w j (Calls.Reading k bs t) (record { number = 0; used = u; records = rs; steps = 0 }) ≡ []
     unfolding set_by readings_of
     read_other u rs h j z =
-        ap₂ ◌++◌ (ap (λ (x : Bool). cond x (form_for (get_elem? (parameters w) k) bs) []) (ne_eqb j k z)) (h j)
+        ap₂ ◌++◌ (ap (λ (x : Bool). cond x (form_for (slice_get (parameters w) k) bs) []) (ne_eqb j k z)) (h j)
 
-  reading_found : (k : ℕ) (bs : List ℕ) (t : ℕ) → (o : Option (Placed Parameter)) → get_elem? (parameters w) k ≡ o → is_some o ≡ true
-      → Found w n (Calls.Reading k bs t) (Of k)
+  reading_found : (k : ℕ) (bs : List ℕ) (t : ℕ) → (o : Option (Placed Parameter)) → slice_get (parameters w) k ≡ o → is_some o ≡ true
+      → Found w n (Calls.Reading k bs t) (Some k)
   unfolding effect reading_effect driver_effect
-  reading_found k bs t none e i = absurd (let z : ◌≡◌ {A = ℕ} 0 1 = cc in omega arith)
-  reading_found k bs t (some p) e i =
+  reading_found k bs t None e i = absurd (let z : ◌≡◌ {A = ℕ} 0 1 = cc in omega arith)
+  reading_found k bs t (Some p) e i =
       let quiet = updates_to_lem n.clients p.home (report_of p (showing (stored_form p.it.datainfo bs) t)) client_numbers in
       rw e
       (sets_one k p (stored_form p.it.datainfo bs) e (ap (λ (x : Value). x.held) (put_at n.values k _))
       (read_same k bs t p e 0 _ quiet) (read_other k bs t p e 0 _ quiet))
 
 -- what a call set is shown, if it set anything
-pub data Settles (table : List ℕ) (e : Call) (s : State) (lent : List ℕ) (settings : Settings) (values : List ℕ) : Chosen → Type 0 where
-  settles_none : ((j : ℕ) → set_by (table_of table) j e.event (step_from table s lent e).1 ≡ []) → Settles table e s lent settings values Nothing
+pub data Settles (table : List ℕ) (e : Call) (s : State) (lent : List ℕ) (settings : Settings) (values : List ℕ) : Option ℕ → Type 0 where
+  settles_none : ((j : ℕ) → set_by (table_of table) j e.event (step_from table s lent e).1 ≡ []) → Settles table e s lent settings values None
   settles_one : (i : ℕ) (p : Placed Parameter) (v : List ℕ) → Shows table settings values i p v
       → set_by (table_of table) i e.event (step_from table s lent e).1 ≡ v ∷ []
-      → ((j : ℕ) → (j ≡ i → ⊥) → set_by (table_of table) j e.event (step_from table s lent e).1 ≡ []) → Settles table e s lent settings values (Of i)
+      → ((j : ℕ) → (j ≡ i → ⊥) → set_by (table_of table) j e.event (step_from table s lent e).1 ≡ []) → Settles table e s lent settings values (Some i)
 
 -- ## Accepted and refused calls
 
@@ -228,14 +226,14 @@ module _ {table : List ℕ} {e : Call} {s : State} {values outbox : List ℕ} {d
     fit = (neither (settings_unfit settings values' 0 (parameters (table_of table))) _ (k.fit z)).0
 
     shown_held : (o : Option Fault) (x v : List ℕ) → held_as o x ≡ valued v → x ≡ v
-    shown_held none x v h = cc
-    shown_held (some f) x v h = absurd (let y : ◌≡◌ {A = ℕ} 0 1 = cc in omega arith)
+    shown_held None x v h = cc
+    shown_held (Some f) x v h = absurd (let y : ◌≡◌ {A = ℕ} 0 1 = cc in omega arith)
 
-    kept_shows : 16384 ≤ length values' → (i : ℕ) (p : Placed Parameter) (v : List ℕ) → get_elem? (parameters (table_of table)) i ≡ some p
+    kept_shows : 16384 ≤ length values' → (i : ℕ) (p : Placed Parameter) (v : List ℕ) → slice_get (parameters (table_of table)) i ≡ Some p
         → (done_by_lem.next.values i).held ≡ valued v → Shows table settings values' i p v
     unfolding view value_at
     kept_shows a i p v t h =
-        let held : (value_at table settings values' i (get_elem? (parameters (table_of table)) i)).held ≡ valued v =
+        let held : (value_at table settings values' i (slice_get (parameters (table_of table)) i)).held ≡ valued v =
         ap (λ (n : Node). (n.values i).held) next_is ∙ h in
         let own : held_as (fault_of (get_or settings.error i 0)) (shown table settings values' i p.it) ≡ valued v = rw t at held in
         let f = (value_held table kept_table d.state values' fit i p t).0 in
@@ -249,7 +247,7 @@ module _ {table : List ℕ} {e : Call} {s : State} {values outbox : List ℕ} {d
           stored = subst (HeldFits p.it) held f;
         }
 
-    settles : 16384 ≤ length values' → (r : Chosen) → Found (table_of table) node e.event r → Settles table e s values settings values' r
+    settles : 16384 ≤ length values' → (r : Option ℕ) → Found (table_of table) node e.event r → Settles table e s values settings values' r
     unfolding set_by
     settles a _ (sets_none h) = settles_none (λ j. ap (λ (x : Node × Answer). set_by (table_of table) j e.event x.1) step_is ∙ h j)
     settles a _ (sets_one i p v t h x y) =
@@ -275,17 +273,17 @@ module _ (table : List ℕ) (s : State) (values : List ℕ) where
   single_settles : (outbox : List ℕ) (e : Entry) (d : Done) (values' outbox' : List ℕ) → Single table s values outbox e d values' outbox' → d.number ≡ 0
       → Settles table (call_for (length values) (length outbox) e) s values d.state.settings values' (chosen_by e.kind e.number d.written outbox')
   unfolding call_of chosen_by effect own_faults sends
-  single_settles outbox e _ _ _ (by_open c t bs d k) z = settles k z (kept_area k z) Nothing (open_found (table_of table) (view table s values) c t)
-  single_settles outbox e _ _ _ (by_close c t bs d k) z = settles k z (kept_area k z) Nothing (close_found (table_of table) (view table s values) c t)
+  single_settles outbox e _ _ _ (by_open c t bs d k) z = settles k z (kept_area k z) None (open_found (table_of table) (view table s values) c t)
+  single_settles outbox e _ _ _ (by_close c t bs d k) z = settles k z (kept_area k z) None (close_found (table_of table) (view table s values) c t)
   single_settles outbox e _ _ _ (by_piece c t bs d values' outbox' k) z =
       settles k z (same_area k z (kept_area k z)) _
       (piece_found (table_of table) (view table s values) c bs t d.written outbox' _ (kept_written k z) (kept_front k z (kept_outbox k z refl)))
   single_settles outbox e _ _ _ (by_reading p t bs d values' outbox' k) z =
-      settles k z (same_area k z (kept_area k z)) (Of p)
-      (reading_found (table_of table) (view table s values) p bs t (get_elem? (parameters (table_of table)) p) refl
-      (not-false (is_some (get_elem? (parameters (table_of table)) p)) (no_fault 13 _ (kept_own k z 1))))
+      settles k z (same_area k z (kept_area k z)) (Some p)
+      (reading_found (table_of table) (view table s values) p bs t (slice_get (parameters (table_of table)) p) refl
+      (not-false (is_some (slice_get (parameters (table_of table)) p)) (no_fault 13 _ (kept_own k z 1))))
   single_settles outbox e _ _ _ (by_unreadable p t bs d outbox' k) z =
-      settles k z (kept_area k z) Nothing (unreadable_found (table_of table) (view table s values) p (head bs) t)
+      settles k z (kept_area k z) None (unreadable_found (table_of table) (view table s values) p (head bs) t)
 
 -- ## The figures after it
 
@@ -293,7 +291,7 @@ module _ (table : List ℕ) (e : Call) (s : State) (lent : List ℕ) (f : Figure
   quiet_figured : ((j : ℕ) → set_by (table_of table) j e.event (step_from table s lent e).1 ≡ []) → Figured table s lent e f f
   quiet_figured h = record { is = λ k p t vs x. rw (h k, append-nil vs) x }
 
-  set_figured : (f' : Figures) (i : ℕ) (p : Placed Parameter) (v : List ℕ) → Bounded f → i < 64 → get_elem? (parameters (table_of table)) i ≡ some p
+  set_figured : (f' : Figures) (i : ℕ) (p : Placed Parameter) (v : List ℕ) → Bounded f → i < 64 → slice_get (parameters (table_of table)) i ≡ Some p
       → is_stored p.it.datainfo v ≡ true → f' ≡ observed f i (mark_of p.it.datainfo v)
       → set_by (table_of table) i e.event (step_from table s lent e).1 ≡ v ∷ []
       → ((j : ℕ) → (j ≡ i → ⊥) → set_by (table_of table) j e.event (step_from table s lent e).1 ≡ []) → Figured table s lent e f f'
@@ -302,12 +300,12 @@ module _ (table : List ℕ) (e : Call) (s : State) (lent : List ℕ) (f : Figure
       low : i < length f.tallies
       low = omega (arith, b.size)
 
-      go : (k : ℕ) (q : Placed Parameter) → get_elem? (parameters (table_of table)) k ≡ some q → (vs : List (List ℕ))
+      go : (k : ℕ) (q : Placed Parameter) → slice_get (parameters (table_of table)) k ≡ Some q → (vs : List (List ℕ))
           → Tallies q.it.datainfo vs (tally_at f k) → (t : Bool) → eqb k i ≡ t
           → Tallies q.it.datainfo (vs ++ set_by (table_of table) k e.event (step_from table s lent e).1) (tally_at f' k)
       go k q t vs x true h =
           let z = eqb-true k i h in
-          let same : p ≡ q = just (sym there ∙ ap (get_elem? (parameters (table_of table))) (sym z) ∙ t) in
+          let same : p ≡ q = just (sym there ∙ ap (slice_get (parameters (table_of table))) (sym z) ∙ t) in
           let y : Tallies p.it.datainfo vs (tally_at f i) = subst (λ (j : ℕ). Tallies p.it.datainfo vs (tally_at f j)) z (rw (← same) at x) in
           let w : Tallies p.it.datainfo (vs ++ set_by (table_of table) i e.event (step_from table s lent e).1) (tally_at f' i) =
           rw (own, is, observed_same f i (mark_of p.it.datainfo v) low) (figures_are_exact.more p.it.datainfo vs (tally_at f i) y v stored) in
@@ -316,23 +314,23 @@ module _ (table : List ℕ) (e : Call) (s : State) (lent : List ℕ) (f : Figure
           let n = eqb-false k i h in
           rw (others k n, append-nil vs, is, observed_other f i (mark_of p.it.datainfo v) low k n) x
 
-of_same : {i k : ℕ} → Of i ≡ Of k → i ≡ k
+of_same : {i k : ℕ} → Some i ≡ Some k → i ≡ k
 of_same e = cc
 
-of_nothing : {i : ℕ} → Of i ≡ Nothing → ⊥
+of_nothing : {i : ℕ} → Some i ≡ None → ⊥
 of_nothing e = let y : ◌≡◌ {A = ℕ} 0 1 = cc in omega arith
 
 module _ {table : List ℕ} {e : Call} {s : State} {lent : List ℕ} {settings : Settings} {values : List ℕ} where
-  nothing_set : {r : Chosen} → Settles table e s lent settings values r → r ≡ Nothing
+  nothing_set : {r : Option ℕ} → Settles table e s lent settings values r → r ≡ None
       → (j : ℕ) → set_by (table_of table) j e.event (step_from table s lent e).1 ≡ []
   nothing_set (settles_none h) n = h
   nothing_set (settles_one i p v x y w) n = absurd (of_nothing n)
 
-  one_shown : {r : Chosen} → Settles table e s lent settings values r → (k : ℕ) → r ≡ Of k → Shown table settings values k
+  one_shown : {r : Option ℕ} → Settles table e s lent settings values r → (k : ℕ) → r ≡ Some k → Shown table settings values k
   one_shown (settles_none h) k n = absurd (of_nothing (sym n))
   one_shown (settles_one i p v x y w) k n = record { p = p; v = v; shows = subst (λ (j : ℕ). Shows table settings values j p v) (of_same n) x }
 
-  one_set : {f : Figures} → Bounded f → {r : Chosen} → Settles table e s lent settings values r → (k : ℕ) → r ≡ Of k → (f' : Figures)
+  one_set : {f : Figures} → Bounded f → {r : Option ℕ} → Settles table e s lent settings values r → (k : ℕ) → r ≡ Some k → (f' : Figures)
       → Notes table settings values k f f' → Figured table s lent e f f'
   one_set b (settles_none h) k n f' o = absurd (of_nothing (sym n))
   one_set {f} b (settles_one i p v x y w) k n f' o =
@@ -350,22 +348,22 @@ module _ (table : List ℕ) (h : Head) (values outbox : List ℕ) (d : Done) (f 
         bounded = b;
       }
 
-  module _ (z : d.number ≡ 0) (r : Chosen) (c : r ≡ chosen_by h.kind h.number d.written outbox) where
+  module _ (z : d.number ≡ 0) (r : Option ℕ) (c : r ≡ chosen_by h.kind h.number d.written outbox) where
     found : (s : State) (lent room bs : List ℕ) → Single table s lent room (entry_of h bs) d values outbox
         → Settles table (call_for (length lent) (length room) (entry_of h bs)) s lent d.state.settings values r
     found s lent room bs x = rw c (single_settles table s lent room (entry_of h bs) d values outbox x z)
 
-    pub counts_nothing : r ≡ Nothing → Counts table h values outbox d f f
+    pub counts_nothing : r ≡ None → Counts table h values outbox d f f
     counts_nothing n =
         record {
           is = λ s lent room bs x. quiet_figured table _ s lent f (nothing_set (found s lent room bs x) n);
           bounded = b;
         }
 
-    pub chosen_shown : (k : ℕ) → r ≡ Of k → Made table h values outbox d → Shown table d.state.settings values k
+    pub chosen_shown : (k : ℕ) → r ≡ Some k → Made table h values outbox d → Shown table d.state.settings values k
     chosen_shown k n m = one_shown (found m.state m.lent m.room m.offered m.single) k n
 
-    pub counts_set : (k : ℕ) → r ≡ Of k → Made table h values outbox d → (f' : Figures) → Notes table d.state.settings values k f f'
+    pub counts_set : (k : ℕ) → r ≡ Some k → Made table h values outbox d → (f' : Figures) → Notes table d.state.settings values k f f'
         → Counts table h values outbox d f f'
     counts_set k n m f' o =
         let w = chosen_shown k n m in

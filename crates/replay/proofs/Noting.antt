@@ -1,4 +1,5 @@
 -- What a parameter shows is noted. Assumes nothing.
+use Rattle.std.specs.Prelude.{Option, Some, None}
 use Prim.Native.Nat.{ℕ, ◌+◌, ◌-◌, ◌*◌}
 use mathlib.Core.Bool.{cond}
 use mathlib.Core.List.{List}
@@ -15,8 +16,6 @@ use Rattle.table.specs.Clauses.At.{parameter_of}
 use Rattle.table.specs.declared.layout.ParameterAt.{ParameterAt}
 use Rattle.table.proofs.Places.{initial_lies}
 use Rattle.search.specs.declared.cursor.Cursor.{Cursor}
-use Rattle.search.specs.declared.cursor.NextParameter as N
-use Rattle.search.specs.declared.cursor.NextParameter.{NextParameter}
 use Rattle.search.specs.Clauses.Left.{placed}
 use Rattle.search.specs.Clauses.Found.{ParameterNumbered, NumberedParameter}
 use Rattle.report.proofs.Faults.{accepted_readable}
@@ -28,48 +27,46 @@ use Rattle.state.proofs.Settled.{shows_initial, shows_stored}
 use Rattle.state.proofs.Stands.{was_read}
 use Rattle.trace.specs.declared.Kind.{Kind}
 use Rattle.trace.specs.declared.Kind.TheVariants.{Opening, Closing, Piece, Reading, Unreadable}
-use Rattle.replay.specs.declared.Chosen.{Chosen}
-use Rattle.replay.specs.declared.Chosen.TheVariants.{Of, Nothing}
 use Rattle.replay.specs.Clauses.Figured.{order_in, chosen_by, Shows, Shown, Markable, Notes}
 
 -- ## Which parameter
 
 module _ (xs : List ℕ) (a : ℕ) (ha : a ≡ head xs) where
-  pub order_not : (a ≡ 68 → ⊥) → Nothing ≡ order_in xs
+  pub order_not : (a ≡ 68 → ⊥) → None ≡ order_in xs
   unfolding order_in
   order_not n = rw (ne_eqb (head xs) 68 (λ z. n (ha ∙ z)))
 
   module _ (b : ℕ) (hb : b ≡ head (drop 1 xs)) (y : a ≡ 68) where
-    pub order_other : (b ≡ 82 → ⊥) → Nothing ≡ order_in xs
+    pub order_other : (b ≡ 82 → ⊥) → None ≡ order_in xs
     unfolding order_in
     order_other n = rw (eq-eqb (head xs) 68 (sym ha ∙ y), ne_eqb (head (drop 1 xs)) 82 (λ z. n (hb ∙ z)))
 
-    pub order_is : (c : ℕ) → b ≡ 82 → c ≡ head (drop 5 xs) → Of c ≡ order_in xs
+    pub order_is : (c : ℕ) → b ≡ 82 → c ≡ head (drop 5 xs) → Some c ≡ order_in xs
     unfolding order_in
     order_is c z e = rw (eq-eqb (head xs) 68 (sym ha ∙ y), eq-eqb (head (drop 1 xs)) 82 (sym hb ∙ z), e)
 
 module _ (k : Kind) (p n : ℕ) (xs : List ℕ) where
-  pub by_opening : k ≡ Opening → Nothing ≡ chosen_by k p n xs
+  pub by_opening : k ≡ Opening → None ≡ chosen_by k p n xs
   unfolding chosen_by
   by_opening e = rw e
 
-  pub by_closing : k ≡ Closing → Nothing ≡ chosen_by k p n xs
+  pub by_closing : k ≡ Closing → None ≡ chosen_by k p n xs
   unfolding chosen_by
   by_closing e = rw e
 
-  pub by_unreadable : k ≡ Unreadable → Nothing ≡ chosen_by k p n xs
+  pub by_unreadable : k ≡ Unreadable → None ≡ chosen_by k p n xs
   unfolding chosen_by
   by_unreadable e = rw e
 
-  pub by_reading : k ≡ Reading → Of p ≡ chosen_by k p n xs
+  pub by_reading : k ≡ Reading → Some p ≡ chosen_by k p n xs
   unfolding chosen_by
   by_reading e = rw e
 
-  pub by_silence : k ≡ Piece → n ≡ 0 → Nothing ≡ chosen_by k p n xs
+  pub by_silence : k ≡ Piece → n ≡ 0 → None ≡ chosen_by k p n xs
   unfolding chosen_by
   by_silence e z = rw (e, eq-eqb n 0 z)
 
-  pub by_order : (r : Chosen) → k ≡ Piece → (n ≡ 0 → ⊥) → r ≡ order_in xs → r ≡ chosen_by k p n xs
+  pub by_order : (r : Option ℕ) → k ≡ Piece → (n ≡ 0 → ⊥) → r ≡ order_in xs → r ≡ chosen_by k p n xs
   unfolding chosen_by
   by_order r e z h = rw (e, ne_eqb n 0 z) h
 
@@ -95,11 +92,11 @@ module _ (table : List ℕ) (s : Settings) (values : List ℕ) (k : ℕ) (x : Sh
   pub note_table : Readable table
   note_table = accepted_readable table x.shows.accepted
 
-  module _ (r : NextParameter) (h : NumberedParameter table k r) where
-    pub note_none : r ≡ N.TheVariants.End → (f : Figures) → Notes table s values k f f
+  module _ (r : Option (ParameterAt × Cursor)) (h : NumberedParameter table k r) where
+    pub note_none : r ≡ None → (f : Figures) → Notes table s values k f f
     note_none e f = absurd (nothing (sym (rw e at h) ∙ x.shows.there))
 
-    module _ (q : ParameterAt) (c : Cursor) (e : r ≡ N.TheVariants.At q c) where
+    module _ (q : ParameterAt) (c : Cursor) (e : r ≡ Some (q, c)) where
       number : ParameterNumbered table k q c
       number = rw e at h
 

@@ -1,12 +1,12 @@
 -- Laws of a call's answer: its number is at most 18, and it uses no more bytes than it is offered. Assumes nothing.
+use Rattle.std.specs.Prelude.{Option, Some, None, slice_get}
 use Prim.Native.Nat.{ℕ, zero, suc, ◌+◌, ◌≤◌, ◌<◌}
 use native.Mathlib.Omega.{arith}
 use mathlib.Core.Bool.{Bool, true, false, cond, not}
 use mathlib.Core.List.{List, [], ◌∷◌, ◌++◌}
-use mathlib.Core.Option.{Option, none, some}
 use mathlib.Core.Path.{◌≡◌, refl}
 use lib.Dec.{eqb, ltb}
-use lib.ListN.{length, get_elem?}
+use lib.ListN.{length}
 use Rattle.ascii.specs.Bytes.{is_some}
 use Rattle.ascii.specs.Numbers.{latest}
 use Rattle.fit.specs.Fit.{is_fit}
@@ -57,8 +57,8 @@ tree_below t =
 
 read_below : (o : Option Table) → number_of o ≤ 18
 unfolding number_of
-read_below none = omega arith
-read_below (some t) = tree_below t
+read_below None = omega arith
+read_below (Some t) = tree_below t
 
 table_below : (xs : List ℕ) → table_number xs ≤ 18
 unfolding table_number
@@ -89,11 +89,11 @@ own_below w n (Open c t) = (time_below t, (client_below c, (below 13 (is_open (n
 own_below w n (Close c t) = (time_below t, (client_below c, (below 12 (not (is_open (n.clients c))) (omega arith), tt)))
 own_below w n (Piece c bs t) = (time_below t, (client_below c, (below 12 (not (is_open (n.clients c))) (omega arith), tt)))
 own_below w n (Reading p bs t) =
-    let x = get_elem? (parameters w) p in
+    let x = slice_get (parameters w) p in
     (time_below t, (below 14 (not (is_some x)) (omega arith), (below 15 (not (is_fit (reading_verdict x bs))) (omega arith), tt)))
 own_below w n (Unreadable p k t) = (
   time_below t,
-  (below 14 (not (is_some (get_elem? (parameters w) p))) (omega arith), (below 16 (not (is_some (fault_of k))) (omega arith), tt)),
+  (below 14 (not (is_some (slice_get (parameters w) p))) (omega arith), (below 16 (not (is_some (fault_of k))) (omega arith), tt)),
 )
 
 module _ (table : List ℕ) (unfit : Bool) (n : Node) where
@@ -125,14 +125,14 @@ module _ (table : List ℕ) (unfit : Bool) (n : Node) where
 
 reading_none : (n : Node) (k : ℕ) (x : Option (Placed Parameter)) (bs : List ℕ) (t : ℕ) → (reading_effect n k x bs t).used ≡ 0
 unfolding reading_effect driver_effect
-reading_none n k none bs t = refl
-reading_none n k (some p) bs t = refl
+reading_none n k None bs t = refl
+reading_none n k (Some p) bs t = refl
 
 unreadable_none : (n : Node) (k : ℕ) (x : Option (Placed Parameter)) (f : Option Fault) (t : ℕ) → (unreadable_effect n k x f t).used ≡ 0
 unfolding unreadable_effect driver_effect
-unreadable_none n k none f t = refl
-unreadable_none n k (some p) none t = refl
-unreadable_none n k (some p) (some f) t = refl
+unreadable_none n k None f t = refl
+unreadable_none n k (Some p) None t = refl
+unreadable_none n k (Some p) (Some f) t = refl
 
 pub piece_used : (w : Table) (n : Node) (c : ℕ) (bs : List ℕ) (t : ℕ) → (effect w n (Piece c bs t)).used ≤ length bs
 unfolding effect piece_effect used_of
@@ -140,11 +140,11 @@ piece_used w n c bs t = before_long bs
 
 pub reading_used : (w : Table) (n : Node) (p : ℕ) (bs : List ℕ) (t m : ℕ) → (effect w n (Reading p bs t)).used ≤ m
 unfolding effect
-reading_used w n p bs t m = rw (reading_none n p (get_elem? (parameters w) p) bs t) (omega arith)
+reading_used w n p bs t m = rw (reading_none n p (slice_get (parameters w) p) bs t) (omega arith)
 
 pub unreadable_used : (w : Table) (n : Node) (p k t m : ℕ) → (effect w n (Unreadable p k t)).used ≤ m
 unfolding effect
-unreadable_used w n p k t m = rw (unreadable_none n p (get_elem? (parameters w) p) (fault_of k) t) (omega arith)
+unreadable_used w n p k t m = rw (unreadable_none n p (slice_get (parameters w) p) (fault_of k) t) (omega arith)
 
 pub open_used : (w : Table) (n : Node) (c t m : ℕ) → (effect w n (Open c t)).used ≤ m
 unfolding effect

@@ -1,12 +1,12 @@
 -- Of the records of a piece only the first may order a change, and what it orders is held then. Assumes nothing.
+use Rattle.std.specs.Prelude.{Option, Some, None, slice_get}
 use Prim.Native.Nat.{ℕ, suc}
 use native.Mathlib.Omega.{arith}
 use mathlib.Core.Bool.{Bool, true, false, cond}
 use mathlib.Core.List.{List, [], ◌∷◌, ◌++◌}
-use mathlib.Core.Option.{Option, none, some}
 use mathlib.Core.Path.{◌≡◌, refl, sym, ap, ap₂, subst, ◌∙◌}
 use lib.Dec.{eqb}
-use lib.ListN.{length, get_elem?}
+use lib.ListN.{length}
 use borrow.Author.Tests.{eq-eqb, ne_eqb}
 use Rattle.ascii.specs.Text.{bytes}
 use Rattle.ascii.specs.Bytes.{head}
@@ -23,7 +23,6 @@ use Rattle.plain.specs.Calls.{ended, piece_effect, has_feed}
 use Rattle.plain.proofs.Busy.{set_more}
 use Rattle.plain.proofs.Put.{put_at}
 use Rattle.plain.proofs.Outcomes.{node_after, before, reply_to, concluded, outcome_holds}
-use Rattle.replay.specs.declared.Chosen.TheVariants.{Of, Nothing}
 use Rattle.replay.specs.Settings.{orders_of}
 use Rattle.replay.specs.Clauses.Figured.{order_in}
 
@@ -62,8 +61,8 @@ updates_of_lem c wanted values i (p ∷ ps) k =
 
 busy_updates_lem : (f : ℕ → Client) (o : Option (ℕ × Placed Parameter)) (t : ℕ) → NoOrders (busy_updates f o t)
 unfolding busy_updates orders_of
-busy_updates_lem f none t k = refl
-busy_updates_lem f (some s) t k = updates_to_lem f s.1.home _ _ k
+busy_updates_lem f None t k = refl
+busy_updates_lem f (Some s) t k = updates_to_lem f s.1.home _ _ k
 
 -- what is set last is held
 set_last : (f : ℕ → Value) (xs : List Setting) (s : Setting) → (set_values f (xs ++ (s ∷ [])) s.parameter).held ≡ s.held
@@ -74,7 +73,7 @@ set_last f xs s =
 -- no order, or one at the front, after which what it orders is held among the values f
 pub data Ordered (w : Table) (f : ℕ → Value) : List Record → Type 0 where
   no_order : {rs : List Record} → NoOrders rs → Ordered w f rs
-  one_order : {rs : List Record} (c k : ℕ) (p : Placed Parameter) (v : List ℕ) → get_elem? (parameters w) k ≡ some p → (f k).held ≡ valued v
+  one_order : {rs : List Record} (c k : ℕ) (p : Placed Parameter) (v : List ℕ) → slice_get (parameters w) k ≡ Some p → (f k).held ≡ valued v
       → NoOrders rs → Ordered w f (order_change c k v ∷ rs)
 
 no_records : NoOrders []
@@ -128,11 +127,11 @@ piece_ordered w n c bs t = ended_ordered w _ c t (has_feed bs)
 
 -- ## As the bytes tell it
 
-pub order_one : (c k : ℕ) (v : List ℕ) (rs : List Record) (more : List ℕ) → order_in (encode_all (order_change c k v ∷ rs) ++ more) ≡ Of k
+pub order_one : (c k : ℕ) (v : List ℕ) (rs : List Record) (more : List ℕ) → order_in (encode_all (order_change c k v ∷ rs) ++ more) ≡ Some k
 unfolding order_in encode_all encode mark client body two_bytes bytes head
 order_one c k v rs more = refl
 
-pub order_none : (rs : List Record) (more : List ℕ) → NoOrders rs → (length (encode_all rs) ≡ 0 → ⊥) → order_in (encode_all rs ++ more) ≡ Nothing
+pub order_none : (rs : List Record) (more : List ℕ) → NoOrders rs → (length (encode_all rs) ≡ 0 → ⊥) → order_in (encode_all rs ++ more) ≡ None
 unfolding order_in encode_all encode mark bytes head orders_of
 order_none [] more h n = absurd (n refl)
 order_none (final c r ∷ rs) more h n = refl

@@ -1,10 +1,10 @@
 -- Laws of a record that is played: its calls one by one. Assumes nothing.
+use Rattle.std.specs.Prelude.{Option, Some, None}
 use Prim.Native.Nat.{ℕ, zero, suc, ◌≤◌}
 use native.Mathlib.Omega.{arith}
 use mathlib.Core.Bool.{Bool, true, false, cond, ◌&&◌}
 use mathlib.Core.List.{List, [], ◌∷◌}
 use mathlib.Core.Logic.{◌≢◌}
-use mathlib.Core.Option.{Option, none, some}
 use mathlib.Core.Path.{◌≡◌, refl, ap}
 use lib.Dec.{eqb, ltb}
 use lib.ListN.{length, drop, length-drop}
@@ -22,30 +22,30 @@ use Rattle.replay.specs.Replay.{call_of, call_for, is_piece, offering, rest, Pla
 
 -- how many calls are enough
 abbrev pub enough : Option Entry → ℕ
-enough none = 0
-enough (some e) = suc (length e.offered)
+enough None = 0
+enough (Some e) = suc (length e.offered)
 
 -- ## After a call there is less to be offered
 
 -- what is left of bytes of which some were used
 fewer : (e : Entry) (u : ℕ) → 1 ≤ u → (t : Bool) → ltb u (length e.offered) ≡ t
-    → enough (cond t (some (offering e (drop u e.offered))) none) ≤ length e.offered
+    → enough (cond t (Some (offering e (drop u e.offered))) None) ≤ length e.offered
 fewer e u h true l = let m = ltb-true u (length e.offered) l in omega (arith, length-drop u e.offered)
 fewer e u h false l = omega arith
 
 none_left : (e : Entry) (u : ℕ) → length e.offered ≡ 0 → (t : Bool) → ltb u (length e.offered) ≡ t
-    → enough (cond t (some (offering e (drop u e.offered))) none) ≤ length e.offered
+    → enough (cond t (Some (offering e (drop u e.offered))) None) ≤ length e.offered
 none_left e u h true l = let m = ltb-true u (length e.offered) l in absurd (omega arith)
 none_left e u h false l = omega arith
 
 refused_left : (e : Entry) (m u : ℕ) → m ≢ 0
-    → enough (cond (true && eqb m 0 && ltb u (length e.offered)) (some (offering e (drop u e.offered))) none) ≤ length e.offered
+    → enough (cond (true && eqb m 0 && ltb u (length e.offered)) (Some (offering e (drop u e.offered))) None) ≤ length e.offered
 refused_left e m u h = rw (ne_eqb m 0 h) (omega arith)
 
 module _ (n : Node) (e : Entry) where
   settled_less : (k : ℕ) (x : Effect) (i : ℕ) (bs : List ℕ) → e.offered ≡ bs → x.used ≡ used_of bs
       → enough (cond (true && eqb (settle k n x i).1.number 0 && ltb (settle k n x i).1.used (length e.offered))
-      (some (offering e (drop (settle k n x i).1.used e.offered))) none)
+      (Some (offering e (drop (settle k n x i).1.used e.offered))) None)
       ≤ length e.offered
   unfolding settle
   settled_less (suc k) x i bs o u = refused_left e (suc k) 0 (λ z. omega arith)
@@ -82,12 +82,12 @@ module _ (table : List ℕ) (area outbox : ℕ) where
   same_end_lem : (k m : ℕ) (n : Node) (o : Option Entry) → enough o ≤ k → enough o ≤ m → play_on table area outbox k n o ≡ play_on table area outbox m n o
   unfolding play_on if_some
   same_end_lem zero zero n o h l = refl
-  same_end_lem zero (suc m) n none h l = refl
-  same_end_lem zero (suc m) n (some e) h l = absurd (omega arith)
-  same_end_lem (suc k) zero n none h l = refl
-  same_end_lem (suc k) zero n (some e) h l = absurd (omega arith)
-  same_end_lem (suc k) (suc m) n none h l = refl
-  same_end_lem (suc k) (suc m) n (some e) h l =
+  same_end_lem zero (suc m) n None h l = refl
+  same_end_lem zero (suc m) n (Some e) h l = absurd (omega arith)
+  same_end_lem (suc k) zero n None h l = refl
+  same_end_lem (suc k) zero n (Some e) h l = absurd (omega arith)
+  same_end_lem (suc k) (suc m) n None h l = refl
+  same_end_lem (suc k) (suc m) n (Some e) h l =
       let s = less_onward n e in
       ap (first (call_for area outbox e) (once n e).1) (same_end_lem k m (once n e).0 (onward n e) (omega arith) (omega arith))
 
@@ -95,15 +95,15 @@ module _ (table : List ℕ) (area outbox : ℕ) where
   unfoldable pub finish_of : Node → Option Entry → Played
   finish_of n o = play_on table area outbox (enough o) n o
 
-  pub finish_none : (n : Node) → finish_of n none ≡ nothing n
+  pub finish_none : (n : Node) → finish_of n None ≡ nothing n
   unfolding finish_of play_on
   finish_none n = refl
 
-  pub finish_play : (n : Node) (e : Entry) → play table area outbox n e ≡ finish_of n (some e)
+  pub finish_play : (n : Node) (e : Entry) → play table area outbox n e ≡ finish_of n (Some e)
   unfolding finish_of play
   finish_play n e = refl
 
-  pub finish_call : (n : Node) (e : Entry) → finish_of n (some e) ≡ first (call_for area outbox e) (once n e).1 (finish_of (once n e).0 (onward n e))
+  pub finish_call : (n : Node) (e : Entry) → finish_of n (Some e) ≡ first (call_for area outbox e) (once n e).1 (finish_of (once n e).0 (onward n e))
   unfolding finish_of play_on if_some
   finish_call n e =
       ap (first (call_for area outbox e) (once n e).1)

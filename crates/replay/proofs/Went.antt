@@ -1,11 +1,11 @@
 -- A single call that kept its promise goes as the plain node does. Assumes nothing.
+use Rattle.std.specs.Prelude.{Some, None}
 use Prim.Native.Nat.{ℕ, zero, suc, ◌≤◌}
 use native.Mathlib.Omega.{arith}
 use native.Mathlib.Nat.{add-zero}
 use mathlib.Core.Bool.{false, cond}
 use mathlib.Core.List.{List, [], ◌∷◌, ◌++◌, append-nil}
 use mathlib.Core.Logic.{◌≢◌}
-use mathlib.Core.Option.{some}
 use mathlib.Core.Path.{◌≡◌, refl, sym, ap, ◌∙◌}
 use lib.Dec.{eqb}
 use lib.ListN.{length, take}
@@ -58,7 +58,7 @@ settled_silent n (suc k) x i e = refl
 pub record Went (table : List ℕ) (s : State) (values : List ℕ) (room : ℕ) (e : Entry) (d : Done) (values' outbox' : List ℕ) : Type 0 where
   pub calls : List Call
   pub answers : List Answer
-  pub plays : finish_of table (length values) room (view table s values) (some e)
+  pub plays : finish_of table (length values) room (view table s values) (Some e)
       ≡ both (record { calls = calls; answers = answers; node = view table d.state values' }) λ m. finish_of table (length values) room m
       (rest e d.number d.used)
   pub sends : encode_all (sent answers) ≡ take d.written outbox'
@@ -102,8 +102,8 @@ module _ (table : List ℕ) (s : State) (values : List ℕ) (f : Fine table s va
   unfolding written step_if
   silent e values outbox d values' outbox' k q =
       let n = view table s values in
-      let none = settled_silent n (call_number table (is_unfit (table_of table) s values) n e) (effect (table_of table) n e.event) (call_steps (table_of table) n e) q in
-      k.writes ∙ ap (λ (rs : List Record). length (encode_all rs)) none
+      let None = settled_silent n (call_number table (is_unfit (table_of table) s values) n e) (effect (table_of table) n e.event) (call_steps (table_of table) n e) q in
+      k.writes ∙ ap (λ (rs : List Record). length (encode_all rs)) None
       ∙ unfold encode_all in refl
 
   unheard : (d : Done) (outbox : List ℕ) → d.written ≡ 0 → take d.written [] ≡ take d.written outbox

@@ -1,6 +1,5 @@
 -- What a step of a replay promises, by the promise of the one call that it makes. Assumes nothing.
-use Rattle.std.specs.Prelude.{ℕ, ◌-◌, ◌≤◌, ◌<◌, List, [], ◌∷◌, ◌≢◌, ◌≡◌, length, get_or, take}
-use Rattle.std.proofs.Math.Option.{Option, none, some}
+use Rattle.std.specs.Prelude.{ℕ, ◌-◌, ◌≤◌, ◌<◌, List, [], ◌∷◌, ◌≢◌, ◌≡◌, length, get_or, take, Option, Some, None}
 use Rattle.ascii.specs.Bytes.{head}
 use Rattle.plain.specs.Calls.{Open, Close, with_area, with_outbox}
 use Rattle.plain.specs.Calls as Calls
@@ -43,10 +42,10 @@ pub data Single (table : List ℕ) (s : State) (values outbox : List ℕ) : Entr
 -- what a step plays: what is left of a record, and then no byte of the trace is used; or the record that the bytes used end; or none, and then all bytes
 -- are used
 pub data Comes (r : Replay) (trace : List ℕ) (used : ℕ) (after : Progress) : Option Entry → Type 0 where
-  again : (e : Entry) → pending_of r ≡ some e → used ≡ 0 → after ≡ progress_of r.reader → Comes r trace used after (some e)
-  whole : (e : Entry) → pending_of r ≡ none → 1 ≤ used → used ≤ length trace → take_bytes (progress_of r.reader) (take used trace) ≡ (after, e ∷ [])
-      → Comes r trace used after (some e)
-  begun : pending_of r ≡ none → used ≡ length trace → take_bytes (progress_of r.reader) trace ≡ (after, []) → Comes r trace used after none
+  again : (e : Entry) → pending_of r ≡ Some e → used ≡ 0 → after ≡ progress_of r.reader → Comes r trace used after (Some e)
+  whole : (e : Entry) → pending_of r ≡ None → 1 ≤ used → used ≤ length trace → take_bytes (progress_of r.reader) (take used trace) ≡ (after, e ∷ [])
+      → Comes r trace used after (Some e)
+  begun : pending_of r ≡ None → used ≡ length trace → take_bytes (progress_of r.reader) trace ≡ (after, []) → Comes r trace used after None
 
 -- after a call that answered d
 pub record After (r : Replay) (e : Entry) (d : Done) (s : Stepped) : Type 0 where
@@ -60,12 +59,12 @@ pub record Quiet (r : Replay) (s : Stepped) : Type 0 where
   pub state : s.replay.state ≡ r.state
   pub writes : s.written ≡ 0
   pub counts : s.replay.refused ≡ r.refused
-  pub left : pending_of s.replay ≡ none
+  pub left : pending_of s.replay ≡ None
   pub figures : s.replay.figures ≡ r.figures
 
 pub data Goes (table : List ℕ) (r : Replay) (values outbox trace : List ℕ) (s : Stepped) : List ℕ → List ℕ → Type 0 where
-  waits : Comes r trace s.used (progress_of s.replay.reader) none → Quiet r s → Goes table r values outbox trace s values outbox
-  calls : (e : Entry) → Comes r trace s.used (progress_of s.replay.reader) (some e) → (d : Done) (values' outbox' : List ℕ)
+  waits : Comes r trace s.used (progress_of s.replay.reader) None → Quiet r s → Goes table r values outbox trace s values outbox
+  calls : (e : Entry) → Comes r trace s.used (progress_of s.replay.reader) (Some e) → (d : Done) (values' outbox' : List ℕ)
       → Single table r.state values outbox e d values' outbox' → After r e d s
       → Figured table r.state values (call_for (length values) (length outbox) e) r.figures s.replay.figures
       → Goes table r values outbox trace s values' outbox'
@@ -86,7 +85,7 @@ pub record Starts (table values : List ℕ) (time : ℕ) (r : Started) : Type 0 
   pub number : r.number ≡ done.number
   pub state : r.replay.state ≡ done.state
   pub progress : progress_of r.replay.reader ≡ unread
-  pub left : pending_of r.replay ≡ none
+  pub left : pending_of r.replay ≡ None
   pub full : length r.replay.refused ≡ 19
   pub counts : (k : ℕ) → get_or r.replay.refused k 0 ≡ 0
   pub figures : (k : ℕ) → tally_at r.replay.figures k ≡ no_settings

@@ -1,6 +1,5 @@
 -- A replay: a fresh node is fed with the records of a trace, by single calls. Assumes nothing.
-use Rattle.std.specs.Prelude.{ℕ, zero, suc, Bool, true, false, cond, ◌&&◌, List, [], ◌∷◌, ◌++◌, eqb, ltb, length, drop}
-use Rattle.std.proofs.Math.Option.{Option, none, some}
+use Rattle.std.specs.Prelude.{ℕ, zero, suc, Bool, true, false, cond, ◌&&◌, List, [], ◌∷◌, ◌++◌, eqb, ltb, length, drop, Option, Some, None}
 use Rattle.ascii.specs.Bytes.{head, count}
 use Rattle.plain.specs.Node.{Node}
 use Rattle.plain.specs.Calls.{Open, Close, Call, with_area, with_outbox, Answer}
@@ -38,7 +37,7 @@ offering e bs = record { kind = e.kind; number = e.number; time = e.time; offere
 -- empty one is offered once)"; "a refused piece is dropped" [R-5, R-6]
 unfoldable pub rest : Entry → ℕ → ℕ → Option Entry
 rest e number used =
-    cond (is_piece e.kind && eqb number 0 && ltb used (length e.offered)) (some (offering e (drop used e.offered))) none
+    cond (is_piece e.kind && eqb number 0 && ltb used (length e.offered)) (Some (offering e (drop used e.offered))) None
 
 -- the calls that were made, their answers, and the node that they leave
 pub record Played : Type 0 where
@@ -59,8 +58,8 @@ both p f =
 
 -- what is played if there is something to play
 unfoldable pub if_some : Node → Option Entry → (Entry → Played) → Played
-if_some n none f = nothing n
-if_some n (some e) f = f e
+if_some n None f = nothing n
+if_some n (Some e) f = f e
 
 module _ (table : List ℕ) (area outbox : ℕ) where
   -- what is left to be played, if anything, by k calls at most
@@ -73,7 +72,7 @@ module _ (table : List ℕ) (area outbox : ℕ) where
 
   -- a record: each call but the last uses a byte at least, so these are enough [R-5, R-6]
   unfoldable pub play : Node → Entry → Played
-  play n e = play_on (suc (length e.offered)) n (some e)
+  play n e = play_on (suc (length e.offered)) n (Some e)
 
   -- records, one after another [R-5]
   unfoldable pub play_all : Node → List Entry → Played

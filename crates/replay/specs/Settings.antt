@@ -1,7 +1,5 @@
 -- What a replay's calls set each parameter to, for the night in numbers (M-111). Assumes nothing.
-use Rattle.std.specs.Prelude.{ℕ, cond, List, [], ◌∷◌, ◌++◌, eqb}
-use Rattle.std.proofs.Math.Option.{Option, none, some}
-use Rattle.std.proofs.Math.ListN.{get_elem?}
+use Rattle.std.specs.Prelude.{ℕ, cond, List, [], ◌∷◌, ◌++◌, eqb, Option, Some, None, slice_get}
 use Rattle.fit.specs.Fit.{stored_form}
 use Rattle.table.specs.Table.{Parameter, Table}
 use Rattle.table.specs.Search.{Placed, parameters}
@@ -18,14 +16,14 @@ orders_of k (order_command c p v ∷ rs) = orders_of k rs
 
 -- "readings": the stored form
 unfoldable pub form_for : Option (Placed Parameter) → List ℕ → List (List ℕ)
-form_for none bs = []
-form_for (some p) bs = stored_form p.it.datainfo bs ∷ []
+form_for None bs = []
+form_for (Some p) bs = stored_form p.it.datainfo bs ∷ []
 
 unfoldable pub readings_of : Table → ℕ → Event → List (List ℕ)
 readings_of w k (Open c t) = []
 readings_of w k (Close c t) = []
 readings_of w k (Piece c bs t) = []
-readings_of w k (Reading p bs t) = cond (eqb k p) (form_for (get_elem? (parameters w) p) bs) []
+readings_of w k (Reading p bs t) = cond (eqb k p) (form_for (slice_get (parameters w) p) bs) []
 readings_of w k (Unreadable p e t) = []
 
 -- "accepted settings .. (readings and changes, not M-100's busy)": what a call that was answered so set parameter k to [R-15]

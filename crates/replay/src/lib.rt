@@ -36,13 +36,6 @@ pub struct Replay {
     pub figures: Figures,
 }
 
-// The parameter that a call set, by its number, if it was an accepted reading or change.
-#[derive(Clone, Copy)]
-pub enum Chosen {
-    Of(usize),
-    Nothing,
-}
-
 // How many bytes of the trace were used, how many of the outbox were written, and the next replay.
 #[derive(Clone, Copy)]
 pub struct Stepped {

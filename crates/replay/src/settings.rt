@@ -5,45 +5,43 @@ ghost use Rattle.state.specs.View.{shown_bytes};
 ghost use Rattle.replay.specs.Clauses.Figured.{order_in, chosen_by, Shown, Markable, Notes};
 ghost use Rattle.replay.specs.Clauses.Inner.{Made, Counts};
 
-use super::Chosen;
 use ascii::byte;
 use figures::{Figures, mark_of, observe};
 use limits::PLACE;
 use promise::Done;
-use search::cursor::NextParameter;
 use search::find::parameter_by_number;
 use state::Settings;
 use table::layout::ParameterAt;
 use trace::{Head, Kind};
 
 // The parameter of a driver's order to change, which is the first record of an accepted change.
-fn order_in(s: &[u8]) -> Chosen
+fn order_in(s: &[u8]) -> Option<usize>
     ensures { result ≡ order_in s.now }
 {
     if byte(s, 0) != b'D' {
-        return Chosen::Nothing;
+        return None;
     }
     if byte(s, 1) != b'R' {
-        return Chosen::Nothing;
+        return None;
     }
-    Chosen::Of(byte(s, 5) as usize)
+    Some(byte(s, 5) as usize)
 }
 
 // The parameter that an accepted call of a record set, of which `number` is a client's or a parameter's, and which wrote so many bytes.
-fn chosen_by(kind: Kind, number: u8, written: usize, outbox: &[u8]) -> Chosen
+fn chosen_by(kind: Kind, number: u8, written: usize, outbox: &[u8]) -> Option<usize>
     ensures { result ≡ chosen_by kind number written outbox.now }
 {
     match kind {
-        Kind::Opening => Chosen::Nothing,
-        Kind::Closing => Chosen::Nothing,
+        Kind::Opening => None,
+        Kind::Closing => None,
         Kind::Piece => {
             if written == 0 {
-                return Chosen::Nothing;
+                return None;
             }
             order_in(outbox)
         }
-        Kind::Reading => Chosen::Of(number as usize),
-        Kind::Unreadable => Chosen::Nothing,
+        Kind::Reading => Some(number as usize),
+        Kind::Unreadable => None,
     }
 }
 
@@ -70,7 +68,7 @@ fn note(table: &[u8], values: &[u8], settings: Settings, figures: Figures, k: us
     requires { Shown table.now settings values.now k × Bounded figures }
     ensures { Notes table.now settings values.now k figures result }
 {
-    let NextParameter::At(p, _) = parameter_by_number(table, k) else {
+    let Some((p, _)) = parameter_by_number(table, k) else {
         return figures;
     };
     let mark = mark_shown(table, values, settings, k, p);
@@ -96,7 +94,7 @@ pub(crate) fn figured(
     let settings = done.state.settings;
     let chosen = chosen_by(kind, head.number, done.written, outbox);
     match chosen {
-        Chosen::Nothing => figures,
-        Chosen::Of(k) => note(table, values, settings, figures, k),
+        None => figures,
+        Some(k) => note(table, values, settings, figures, k),
     }
 }

@@ -1,8 +1,8 @@
 -- Accepted tables with the same structure report judge alike. Assumes nothing.
+use Rattle.std.specs.Prelude.{Option, Some, None}
 use Prim.Native.Nat.{ℕ, suc}
 use mathlib.Core.Bool.{Bool, true, false, cond, ◌&&◌}
 use mathlib.Core.List.{List, [], ◌∷◌, ◌++◌, map, map-map, map-append}
-use mathlib.Core.Option.{Option, none, some}
 use mathlib.Core.Path.{◌≡◌, refl, sym, ◌∙◌, ap, ap₂}
 use Rattle.ascii.specs.Bytes.{same}
 use Rattle.datainfo.specs.Datainfo.{Datainfo}
@@ -46,8 +46,8 @@ module _ {A : Type 0} (of : List Accessible → List A) (g : A → A) where
 -- what was found, with g done to it
 module _ {A : Type 0} (g : A → A) where
   done : Option (ℕ × A) → Option (ℕ × A)
-  done none = none
-  done (some x) = some (x.0, g x.1)
+  done None = None
+  done (Some x) = Some (x.0, g x.1)
 
   -- the first that passes a test to which g makes no difference
   first_done : (p : A → Bool) → ((x : A) → p (g x) ≡ p x) → (n : ℕ) (l : List A) → first_from p n (map g l) ≡ done (first_from p n l)
@@ -56,7 +56,7 @@ module _ {A : Type 0} (g : A → A) where
   first_done p h n (x ∷ l) = go (p x) refl (first_done p h (suc n) l)
     where
       go : (b : Bool) → p x ≡ b → first_from p (suc n) (map g l) ≡ done (first_from p (suc n) l)
-          → cond (p (g x)) (some (n, g x)) (first_from p (suc n) (map g l)) ≡ done (cond (p x) (some (n, x)) (first_from p (suc n) l))
+          → cond (p (g x)) (Some (n, g x)) (first_from p (suc n) (map g l)) ≡ done (cond (p x) (Some (n, x)) (first_from p (suc n) l))
       go true e k = rw (h x, e)
       go false e k = rw (h x, e) k
 
@@ -72,8 +72,8 @@ bare_command = within commands_of enforced_command
 module _ {A : Type 0} (f : Datainfo → A) (h : (d : Datainfo) → f (enforced_datainfo true d) ≡ f d) where
   parameter_same : (o : Option (ℕ × Placed Parameter)) → parameter_says f (done bare_parameter o) ≡ parameter_says f o
   unfolding done parameter_says
-  parameter_same none = refl
-  parameter_same (some x) = rw (h x.1.it.datainfo)
+  parameter_same None = refl
+  parameter_same (Some x) = rw (h x.1.it.datainfo)
 
   parameter_says_lem : (m a : List ℕ) (t : Table) → parameter_says f (find_parameter (enforced t) m a) ≡ parameter_says f (find_parameter t m a)
   unfolding find_parameter first parameters enforced
@@ -89,13 +89,13 @@ module _ {A : Type 0} (f : Datainfo → A) (h : (d : Datainfo) → f (enforced_d
 module _ {A : Type 0} (f : Datainfo → A) (h : (d : Datainfo) → f (enforced_datainfo false d) ≡ f d) where
   argument_same : (o : Option Datainfo) → argument_says f (enforced_argument o) ≡ argument_says f o
   unfolding argument_says enforced_argument
-  argument_same none = refl
-  argument_same (some d) = rw (h d)
+  argument_same None = refl
+  argument_same (Some d) = rw (h d)
 
   command_same : (o : Option (ℕ × Placed Command)) → command_says f (done bare_command o) ≡ command_says f o
   unfolding done command_says
-  command_same none = refl
-  command_same (some x) = rw (argument_same x.1.it.argument)
+  command_same None = refl
+  command_same (Some x) = rw (argument_same x.1.it.argument)
 
   command_says_lem : (m a : List ℕ) (t : Table) → command_says f (find_command (enforced t) m a) ≡ command_says f (find_command t m a)
   unfolding find_command first commands enforced

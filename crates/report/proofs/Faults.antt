@@ -1,10 +1,10 @@
 -- The first of some faults, and a table without faults. Assumes nothing.
+use Rattle.std.specs.Prelude.{Option, Some, None}
 use Prim.Native.Nat.{ℕ, zero, suc}
 use native.Mathlib.Omega.{arith}
 use mathlib.Core.Bool.{Bool, true, false}
 use mathlib.Core.List.{List, [], ◌∷◌, ◌++◌}
 use mathlib.Core.Logic.{◌≢◌}
-use mathlib.Core.Option.{Option, none, some}
 use mathlib.Core.Path.{◌≡◌, refl}
 use lib.ListN.{get_or}
 use Rattle.ascii.specs.Bytes.{is_some}
@@ -44,5 +44,5 @@ unfolding table_number number_of
 accepted_readable s e = go (read_table s) e
   where
     go : (o : Option Table) → number_of o ≡ 0 → is_some o ≡ true
-    go none e = absurd (omega arith)
-    go (some t) e = refl
+    go None e = absurd (omega arith)
+    go (Some t) e = refl

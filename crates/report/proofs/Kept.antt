@@ -1,8 +1,8 @@
 -- Flags that are not told enforce nothing: values are judged and stored alike without them. Assumes nothing.
+use Rattle.std.specs.Prelude.{Option, Some, None}
 use Prim.Native.Nat.{ℕ}
 use mathlib.Core.Bool.{Bool, true, false, cond}
 use mathlib.Core.List.{List, ◌∷◌}
-use mathlib.Core.Option.{Option, none, some}
 use mathlib.Core.Path.{◌≡◌, refl, ap, ap₂, ◌∙◌, fun_ext}
 use lib.Dec.{leb}
 use lib.ListN.{length}
@@ -113,13 +113,13 @@ stored_kept top d v = in_order_kept top d (numbered (enforced_datainfo top d) v)
 
 formed_kept : (top : Bool) (d : Datainfo) (o : Option Json) → form_of (enforced_datainfo top d) o ≡ form_of d o
 unfolding form_of
-formed_kept top d none = refl
-formed_kept top d (some v) = ap compact (stored_kept top d v)
+formed_kept top d None = refl
+formed_kept top d (Some v) = ap compact (stored_kept top d v)
 
 judged_kept : (top : Bool) (d : Datainfo) (o : Option Json) → verdict_of (enforced_datainfo top d) o ≡ verdict_of d o
 unfolding verdict_of value_verdict
-judged_kept top d none = refl
-judged_kept top d (some v) = ap₂ (λ a (xs : List ℕ). worse a (in_range (leb (length xs) 256))) (fit_kept top d v) (formed_kept top d (some v))
+judged_kept top d None = refl
+judged_kept top d (Some v) = ap₂ (λ a (xs : List ℕ). worse a (in_range (leb (length xs) 256))) (fit_kept top d v) (formed_kept top d (Some v))
 
 -- ## What a change leaves out: a parameter's own flags are told
 
@@ -139,8 +139,8 @@ completed_kept shown (partial ns fs) v = refl
 
 whole_kept : (shown : Option Json) (d : Datainfo) (o : Option Json) → completed_of shown (enforced_datainfo true d) o ≡ completed_of shown d o
 unfolding completed_of
-whole_kept shown d none = refl
-whole_kept shown d (some v) = ap some (completed_kept shown d v)
+whole_kept shown d None = refl
+whole_kept shown d (Some v) = ap Some (completed_kept shown d v)
 
 -- ## Texts
 

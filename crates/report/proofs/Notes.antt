@@ -1,9 +1,9 @@
 -- The report and the report with notes: the first is that of the table without notes, and no longer. Assumes nothing.
+use Rattle.std.specs.Prelude.{Option, Some, None}
 use Prim.Native.Nat.{ℕ, ◌≤◌}
 use native.Mathlib.Omega.{arith}
 use mathlib.Core.Bool.{false}
 use mathlib.Core.List.{List, [], ◌∷◌, map}
-use mathlib.Core.Option.{Option, none, some}
 use mathlib.Core.Path.{◌≡◌, refl}
 use lib.Dec.{ltb}
 use lib.ListN.{length, length-append}
@@ -48,8 +48,8 @@ object_shorter s = let h = s.first in simp length-append (omega arith)
 
 note_more : (o : Option (List ℕ)) (ms : Members) → length (more_members ms) ≤ length (more_members (note_member o ms))
 unfolding note_member more_members
-note_more none ms = omega arith
-note_more (some x) ms = simp length-append (omega arith)
+note_more None ms = omega arith
+note_more (Some x) ms = simp length-append (omega arith)
 
 abbrev accessibles_of : Module → Members
 accessibles_of m = keyed "accessibles" (object (accessible_members m.accessibles)) no_members

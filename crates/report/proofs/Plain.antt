@@ -1,9 +1,9 @@
 -- The report of an accepted table is a plain value, since names are texts. Assumes nothing.
+use Rattle.std.specs.Prelude.{Option, Some, None}
 use Prim.Native.Nat.{ℕ, ◌≤◌}
 use native.Mathlib.Omega.{arith}
 use mathlib.Core.Bool.{Bool, true, false, cond, not, ◌&&◌, ◌||◌}
 use mathlib.Core.List.{List, [], ◌∷◌, map}
-use mathlib.Core.Option.{Option, none, some}
 use mathlib.Core.Logic.{◌≢◌}
 use mathlib.Core.Path.{◌≡◌, refl, ap}
 use lib.Dec.{leb, eqb}
@@ -116,8 +116,8 @@ mutual
 
 argument_plain : (o : Option Datainfo) → if_any Datainfo.names_good o ≡ true → PlainMembers (argument_member o)
 unfolding argument_member if_any all bytes is_text is_text_byte is_in
-argument_plain none h = tt
-argument_plain (some d) h = (refl, datainfo_plain false d h, tt)
+argument_plain None h = tt
+argument_plain (Some d) h = (refl, datainfo_plain false d h, tt)
 
 accessible_plain : (a : Accessible) → is_name (accessible_name a) ≡ true → accessible_names_good a ≡ true → (rest : Members) → PlainMembers rest
     → PlainMembers (accessible_member a rest)

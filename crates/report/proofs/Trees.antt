@@ -1,9 +1,9 @@
 -- The table that a report's value tells, and that this is the table that is enforced. Assumes nothing.
+use Rattle.std.specs.Prelude.{Option, Some, None}
 use Prim.Native.Nat.{ℕ, zero, suc, ◌+◌, ◌≤◌}
 use native.Mathlib.Omega.{arith}
 use mathlib.Core.Bool.{Bool, true, false, cond}
 use mathlib.Core.List.{List, [], ◌∷◌, map}
-use mathlib.Core.Option.{Option, none, some}
 use mathlib.Core.Path.{◌≡◌, refl, ap, ap₂}
 use lib.IntN.{ℤ}
 use Rattle.ascii.specs.Text.{bytes}
@@ -20,8 +20,8 @@ use Rattle.report.proofs.Numbers.{natural_of, natural_back, integer_of, integer_
 -- ## Parts of a value, by kind and by place
 
 abbrev or : {A : Type 0} → A → Option A → A
-or a none = a
-or a (some b) = b
+or a None = a
+or a (Some b) = b
 
 abbrev text : Json → List ℕ
 text v = or [] (as_string v)
@@ -169,8 +169,8 @@ mutual
 -- ## Accessibles, modules, the table: n bounds the levels of datainfos
 
 argument_from : ℕ → Members → Option Datainfo
-argument_from n no_members = none
-argument_from n (member k v ms) = some (datainfo_of n v)
+argument_from n no_members = None
+argument_from n (member k v ms) = Some (datainfo_of n v)
 
 -- what follows the first member
 others : Members → Members
@@ -196,7 +196,7 @@ accessibles_from n no_members = []
 accessibles_from n (member k v ms) = accessible_of n k (members v) ∷ accessibles_from n ms
 
 module_of : ℕ → List ℕ → Members → Module
-module_of n k ms = record { name = k; description = text (at 1 ms); note = none; accessibles = accessibles_from n (members (at 2 ms)) }
+module_of n k ms = record { name = k; description = text (at 1 ms); note = None; accessibles = accessibles_from n (members (at 2 ms)) }
 
 modules_from : ℕ → Members → List Module
 modules_from n no_members = []
@@ -206,14 +206,14 @@ pub told : ℕ → Json → Table
 told n v = record {
   equipment_id = text (at 1 (members v));
   description = text (at 2 (members v));
-  edition = none;
+  edition = None;
   modules = modules_from n (members (at 0 (members v)));
 }
 
 -- no less than how many levels the datainfos have
 argument_levels : Option Datainfo → ℕ
-argument_levels none = 0
-argument_levels (some d) = levels d
+argument_levels None = 0
+argument_levels (Some d) = levels d
 
 accessible_levels : Accessible → ℕ
 accessible_levels (parameter p) = levels p.datainfo
@@ -232,8 +232,8 @@ table_levels t = modules_levels t.modules
 
 argument_back : (o : Option Datainfo) (n : ℕ) → argument_levels o ≤ n → argument_from n (argument_member o) ≡ enforced_argument o
 unfolding argument_from argument_member argument_levels enforced_argument
-argument_back none n h = refl
-argument_back (some d) n h = ap some (datainfo_back false d n h)
+argument_back None n h = refl
+argument_back (Some d) n h = ap Some (datainfo_back false d n h)
 
 accessible_back : (a : Accessible) (n : ℕ) → accessible_levels a ≤ n → (ms : Members)
     → accessibles_from n (accessible_member a ms) ≡ enforced_accessible a ∷ accessibles_from n ms
@@ -251,7 +251,7 @@ module_back : (k d : List ℕ) (l : List Accessible) (n : ℕ) → accessibles_l
     → module_of n k
     (keyed "interface_classes" (Json.array no_items)
     (keyed "description" (Json.string d) (keyed "accessibles" (Json.object (accessible_members l)) no_members)))
-    ≡ record { name = k; description = d; note = none; accessibles = map enforced_accessible l }
+    ≡ record { name = k; description = d; note = None; accessibles = map enforced_accessible l }
 unfolding module_of at as_object as_string
 module_back k d l n h = rw (accessibles_back l n h)
 

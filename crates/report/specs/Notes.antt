@@ -1,7 +1,6 @@
 -- The structure report as document 01 had it, with notes, and that a table which was accepted by it still is (M-109). Only theorems speak of it:
 -- the report that is sent and judged is that of `Report`. Assumes nothing.
-use Rattle.std.specs.Prelude.{ℕ, ◌≤◌, List, [], ◌∷◌, ◌++◌, map, ◌≡◌, ltb, length}
-use Rattle.std.proofs.Math.Option.{Option, none, some}
+use Rattle.std.specs.Prelude.{ℕ, ◌≤◌, List, [], ◌∷◌, ◌++◌, map, ◌≡◌, ltb, length, Option, Some, None}
 use Rattle.json_text.specs.Json.{Json, string, array, object, no_items, Members, no_members, member, compact}
 use Rattle.table.specs.Table.{Module, Table, with_modules}
 use Rattle.table.specs.Rules.{faults_below6}
@@ -10,8 +9,8 @@ use Rattle.report.specs.Judge.{fault, first_fault, tree_number}
 
 -- "a note would stand as `"_note":".."` after the module's description"
 unfoldable pub note_member : Option (List ℕ) → Members → Members
-note_member none rest = rest
-note_member (some x) rest = keyed "_note" (string x) rest
+note_member None rest = rest
+note_member (Some x) rest = keyed "_note" (string x) rest
 
 unfoldable pub noted_members : List Module → Members
 noted_members [] = no_members
@@ -39,7 +38,7 @@ noted_number t = first_fault (faults_below6 t ++ (fault 6 (ltb 32000 (length (no
 
 -- a table less its notes
 unfoldable pub without_note : Module → Module
-without_note m = record { name = m.name; description = m.description; note = none; accessibles = m.accessibles }
+without_note m = record { name = m.name; description = m.description; note = None; accessibles = m.accessibles }
 
 unfoldable pub without_notes : Table → Table
 without_notes t = with_modules t (map without_note t.modules)

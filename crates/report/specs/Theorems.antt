@@ -1,7 +1,6 @@
 -- What the structure report tells: the table that is enforced, but for notes, initial values and their places, and for flags that enforce nothing:
 -- those of optional members inside values and in arguments. Assumes nothing.
-use Rattle.std.specs.Prelude.{ℕ, Bool, true, false, cond, List, [], map, ◌≡◌}
-use Rattle.std.proofs.Math.Option.{Option, none, some}
+use Rattle.std.specs.Prelude.{ℕ, Bool, true, false, cond, List, [], map, ◌≡◌, Option, Some, None}
 use Rattle.json_text.specs.Json.{Json}
 use Rattle.datainfo.specs.Datainfo.{Datainfo, double, int, bool, enum, string, array, tuple, struct, scaled, blob, partial, Elements, no_elements, element}
 use Rattle.datainfo.specs.Datainfo.{Fields, no_fields, field}
@@ -47,8 +46,8 @@ enforced_parameter p = record {
 
 -- a command, with its argument's datainfo, if it has one
 unfoldable pub enforced_argument : Option Datainfo → Option Datainfo
-enforced_argument none = none
-enforced_argument (some d) = some (enforced_datainfo false d)
+enforced_argument None = None
+enforced_argument (Some d) = Some (enforced_datainfo false d)
 
 abbrev pub enforced_command : Command → Command
 enforced_command c = record { name = c.name; description = c.description; argument = enforced_argument c.argument }
@@ -62,13 +61,13 @@ unfoldable pub enforced_module : Module → Module
 enforced_module m = record {
   name = m.name;
   description = m.description;
-  note = none;
+  note = None;
   accessibles = map enforced_accessible m.accessibles;
 }
 
 -- all of a table but its edition, notes, initial values and their places, and those flags [T-35]
 unfoldable pub enforced : Table → Table
-enforced t = record { equipment_id = t.equipment_id; description = t.description; edition = none; modules = map enforced_module t.modules }
+enforced t = record { equipment_id = t.equipment_id; description = t.description; edition = None; modules = map enforced_module t.modules }
 
 -- Two accepted tables with the same structure report are the same table, but for editions, notes, initial values and their places, and flags that
 -- enforce nothing: `ReportsTellVerdicts` says that they make no difference.
@@ -80,18 +79,18 @@ ReportsTell = (t u : Table) → tree_number t ≡ 0 → tree_number u ≡ 0 → 
 module _ {A : Type 0} (f : Datainfo → A) where
   -- of a parameter that was found: its number, its module's number, whether it is readonly, and what f makes of its datainfo
   unfoldable pub parameter_says : Option (ℕ × Placed Parameter) → Option (ℕ × ℕ × Bool × A)
-  parameter_says none = none
-  parameter_says (some p) = some (p.0, p.1.home, p.1.it.readonly, f p.1.it.datainfo)
+  parameter_says None = None
+  parameter_says (Some p) = Some (p.0, p.1.home, p.1.it.readonly, f p.1.it.datainfo)
 
   -- of an argument, if a command takes one
   unfoldable pub argument_says : Option Datainfo → Option A
-  argument_says none = none
-  argument_says (some d) = some (f d)
+  argument_says None = None
+  argument_says (Some d) = Some (f d)
 
   -- of a command that was found: its number, its module's number, and what f makes of its argument's datainfo
   unfoldable pub command_says : Option (ℕ × Placed Command) → Option (ℕ × ℕ × Option A)
-  command_says none = none
-  command_says (some p) = some (p.0, p.1.home, argument_says p.1.it.argument)
+  command_says None = None
+  command_says (Some p) = Some (p.0, p.1.home, argument_says p.1.it.argument)
 
 -- By every name the two tables have the same parameter and the same command, or none; and every value comes to the same verdict, every text, for a
 -- parameter or an argument, to the same verdict and the same stored form, and every change of what is shown too.

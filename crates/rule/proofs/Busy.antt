@@ -1,10 +1,10 @@
 -- Busy before changed: what follows from what a change sets and sends. Assumes nothing.
+use Rattle.std.specs.Prelude.{Some, None}
 use Prim.Native.Nat.{ℕ}
 use mathlib.Core.Bool.{true, false}
 use mathlib.Core.List.Memᴰ
 use mathlib.Core.List.{List, [], ◌∷◌, ◌++◌, Memᴰ}
 use mathlib.Core.Logic.{⊎_elim}
-use mathlib.Core.Option.{none, some}
 use mathlib.Core.Path.{◌≡◌, refl, sym, ◌∙◌, ap, subst}
 use Rattle.ascii.specs.Text.{bytes}
 use Rattle.fit.specs.Fit.{verdict, is_fit}
@@ -25,7 +25,7 @@ use Rattle.rule.proofs.Rule.{not_update, changes_are_sent_to_all}
 
 -- client c changed parameter k, which is p, to the text v at the time t; p is named `target`, and s is the status of its module
 module _ (w : Table) (n m : Node) (c k : ℕ) (p : Placed Parameter) (v : List ℕ) (t : ℕ) (rs : List Record) (h : Changed w n m c k p v t rs)
-    (s : ℕ × Placed Parameter) (target : p.it.name ≡ bytes "target") (found : find_parameter w p.module_name (bytes "status") ≡ some s) where
+    (s : ℕ × Placed Parameter) (target : p.it.name ≡ bytes "target") (found : find_parameter w p.module_name (bytes "status") ≡ Some s) where
   abbrev value : Value
   value = showing v t
 
@@ -39,7 +39,7 @@ module _ (w : Table) (n m : Node) (c k : ℕ) (p : Placed Parameter) (v : List �
   other = named_other w p s target found k h.there
 
   module _ (e : is_fit (verdict s.1.it.datainfo busy) ≡ true) where
-    is : status_of w p ≡ some s
+    is : status_of w p ≡ Some s
     is = is_status w p s target found e
 
     abbrev first : List Record
@@ -64,7 +64,7 @@ module _ (w : Table) (n m : Node) (c k : ℕ) (p : Placed Parameter) (v : List �
         }
 
   module _ (e : is_fit (verdict s.1.it.datainfo busy) ≡ false) where
-    is_none : status_of w p ≡ none
+    is_none : status_of w p ≡ None
     is_none = no_status w p s found e
 
     records_are : rs ≡ order_change c k v ∷ (told ++ (final c (changed (report_of p value)) ∷ []))
@@ -89,9 +89,9 @@ module _ (w : Table) (n m : Node) (c k : ℕ) (p : Placed Parameter) (v : List �
 
 -- what holds of the change that a line was replied to with, where it was one of a target and its module has a status, holds by what is told
 told_change : {w : Table} {n m : Node} {c : ℕ} {rs : List Record} (s : ℕ × Placed Parameter) (r : DataReport) → r.accessible ≡ bytes "target"
-    → find_parameter w r.module_name (bytes "status") ≡ some s → (P : DataReport → Type 0)
+    → find_parameter w r.module_name (bytes "status") ≡ Some s → (P : DataReport → Type 0)
     → ((k : ℕ) (p : Placed Parameter) (v : List ℕ) (t : ℕ) → Changed w n m c k p v t rs → p.it.name ≡ bytes "target"
-    → find_parameter w p.module_name (bytes "status") ≡ some s → P (report_of p (showing v t)))
+    → find_parameter w p.module_name (bytes "status") ≡ Some s → P (report_of p (showing v t)))
     → {e : Event} → OfPiece c (λ bs t. ChangeSets w n m c bs t r rs) e → P r
 told_change {w} {n} s r target found P f (of_piece {t = t} g) =
     let z = g.tells in

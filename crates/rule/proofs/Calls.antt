@@ -1,13 +1,12 @@
 -- What a call does: it writes nothing, or it is an accepted reading or report of an unreadable parameter, or it has a line carried out. Assumes
 -- nothing.
+use Rattle.std.specs.Prelude.{Option, Some, None, slice_get}
 use Prim.Native.Nat.{ℕ, zero, suc}
 use mathlib.Core.Bool.{Bool, true, false, not, false≢true}
 use mathlib.Core.List.Memᴰ
 use mathlib.Core.List.{List, [], ◌∷◌, ◌++◌, Memᴰ}
 use mathlib.Core.Logic.{◌⊎◌, inl, inr, ⊎_elim}
-use mathlib.Core.Option.{Option, none, some}
 use mathlib.Core.Path.{◌≡◌, refl, sym, ◌∙◌, ap, ap₂, subst}
-use lib.ListN.{get_elem?}
 use native.Mathlib.Omega.{arith}
 use borrow.Author.Tests.{not-false}
 use Rattle.ascii.specs.Bytes.{is_some}
@@ -81,10 +80,10 @@ pub data Did (w : Table) (n : Node) : Event → Node → List Record → Type 0 
   opened : {c t : ℕ} → Did w n (Open c t) (Node.opened n c) []
   shut : {c t : ℕ} → Did w n (Close c t) (with_client n c closed) []
   received : {c : ℕ} {bs : List ℕ} {t : ℕ} → has_feed bs ≡ false → Did w n (Piece c bs t) (with_client n c (receive (n.clients c) (before_feed bs))) []
-  read : {k : ℕ} {bs : List ℕ} {t : ℕ} (p : Placed Parameter) → get_elem? (parameters w) k ≡ some p
+  read : {k : ℕ} {bs : List ℕ} {t : ℕ} (p : Placed Parameter) → slice_get (parameters w) k ≡ Some p
       → verdict p.it.datainfo bs ≡ fits
       → Did w n (Reading k bs t) (told_node n k p (showing (stored_form p.it.datainfo bs) t)) (told n p (showing (stored_form p.it.datainfo bs) t))
-  unread : {k class t : ℕ} (p : Placed Parameter) (f : Fault) → get_elem? (parameters w) k ≡ some p → fault_of class ≡ some f
+  unread : {k class t : ℕ} (p : Placed Parameter) (f : Fault) → slice_get (parameters w) k ≡ Some p → fault_of class ≡ Some f
       → Did w n (Unreadable k class t) (told_node n k p (holding (failed f) t)) (told n p (holding (failed f) t))
   line : {c : ℕ} {bs : List ℕ} {t : ℕ} {m : Node} {rs : List Record} → has_feed bs ≡ true → Answered w n c bs t m rs
       → Did w n (Piece c bs t) m rs
@@ -133,24 +132,24 @@ fit_is rangeError e = absurd (false≢true e)
 fit_is wrongType e = absurd (false≢true e)
 fit_is badJSON e = absurd (false≢true e)
 
-there_is : {A : Type 0} (x : Option A) → is_some x ≡ true → (p : A) × (x ≡ some p)
-there_is none e = absurd (false≢true e)
-there_is (some p) e = (p, refl)
+there_is : {A : Type 0} (x : Option A) → is_some x ≡ true → (p : A) × (x ≡ Some p)
+there_is None e = absurd (false≢true e)
+there_is (Some p) e = (p, refl)
 
 did_reading : (w : Table) (n : Node) (k : ℕ) (bs : List ℕ) (t : ℕ) (x : Option (Placed Parameter)) (p : Placed Parameter)
-    → get_elem? (parameters w) k ≡ x → x ≡ some p → reading_verdict x bs ≡ fits
+    → slice_get (parameters w) k ≡ x → x ≡ Some p → reading_verdict x bs ≡ fits
     → let r = reading_effect n k x bs t in Did w n (Reading k bs t) r.next r.records
 unfolding reading_effect driver_effect reading_verdict
-did_reading w n k bs t none p q h v = let z : ◌≡◌ {A = ℕ} 0 1 = cc in absurd (omega arith)
-did_reading w n k bs t (some y) p q h v = read y q v
+did_reading w n k bs t None p q h v = let z : ◌≡◌ {A = ℕ} 0 1 = cc in absurd (omega arith)
+did_reading w n k bs t (Some y) p q h v = read y q v
 
 did_unreadable : (w : Table) (n : Node) (k class t : ℕ) (x : Option (Placed Parameter)) (y : Option Fault) (p : Placed Parameter) (f : Fault)
-    → get_elem? (parameters w) k ≡ x → fault_of class ≡ y → x ≡ some p → y ≡ some f
+    → slice_get (parameters w) k ≡ x → fault_of class ≡ y → x ≡ Some p → y ≡ Some f
     → let r = unreadable_effect n k x y t in Did w n (Unreadable k class t) r.next r.records
 unfolding unreadable_effect driver_effect
-did_unreadable w n k class t none y p f q i h j = let z : ◌≡◌ {A = ℕ} 0 1 = cc in absurd (omega arith)
-did_unreadable w n k class t (some x) none p f q i h j = let z : ◌≡◌ {A = ℕ} 0 1 = cc in absurd (omega arith)
-did_unreadable w n k class t (some x) (some y) p f q i h j = unread x y q i
+did_unreadable w n k class t None y p f q i h j = let z : ◌≡◌ {A = ℕ} 0 1 = cc in absurd (omega arith)
+did_unreadable w n k class t (Some x) None p f q i h j = let z : ◌≡◌ {A = ℕ} 0 1 = cc in absurd (omega arith)
+did_unreadable w n k class t (Some x) (Some y) p f q i h j = unread x y q i
 
 did_piece : (w : Table) (n : Node) (c : ℕ) (bs : List ℕ) (t : ℕ) (q : Bool) → has_feed bs ≡ q → is_open (n.clients c) ≡ true
     → let r = ended w (with_client n c (receive (n.clients c) (before_feed bs))) c t q in Did w n (Piece c bs t) r.0 r.1
@@ -165,13 +164,13 @@ did table n (Open c t) h = opened
 did table n (Close c t) h = shut
 did table n (Piece c bs t) h = did_piece (table_of table) n c bs t (has_feed bs) refl (piece_open table n c bs t h)
 did table n (Reading k bs t) h =
-    let x = get_elem? (parameters (table_of table)) k in
+    let x = slice_get (parameters (table_of table)) k in
     let b = is_fit (reading_verdict x bs) in
     let p = there_is x (not-false (is_some x) (no_fault 13 (not (is_some x)) (first_fault_none _ h 1))) in
     did_reading (table_of table) n k bs t x p.0 refl p.1
     (fit_is (reading_verdict x bs) (not-false b (no_fault 14 (not b) (first_fault_none _ h 2))))
 did table n (Unreadable k class t) h =
-    let x = get_elem? (parameters (table_of table)) k in
+    let x = slice_get (parameters (table_of table)) k in
     let y = fault_of class in
     let p = there_is x (not-false (is_some x) (no_fault 13 (not (is_some x)) (first_fault_none _ h 1))) in
     let f = there_is y (not-false (is_some y) (no_fault 15 (not (is_some y)) (first_fault_none _ h 2))) in

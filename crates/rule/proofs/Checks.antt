@@ -1,9 +1,9 @@
 -- A check comes to what the change of the same would come to. Assumes nothing.
+use Rattle.std.specs.Prelude.{Option, Some, None}
 use Prim.Native.Nat.{ℕ}
 use mathlib.Core.Bool.{Bool, true, false, cond, ◌&&◌}
 use mathlib.Core.List.Memᴰ
 use mathlib.Core.List.{List, [], ◌∷◌, ◌++◌, Memᴰ}
-use mathlib.Core.Option.{Option, none, some}
 use mathlib.Core.Path.{◌≡◌, refl, sym, ap, subst}
 use Rattle.ascii.specs.Text.{bytes}
 use Rattle.ascii.specs.Bytes.{is_some, same}
@@ -34,8 +34,8 @@ data Alike (n : Node) : Outcome → Outcome → Type 0 where
 module _ (w : Table) (n : Node) (c t : ℕ) where
   found_alike : {A : Type 0} (x : Class) (o : Option A) (f g : A → Outcome) → ((a : A) → Alike n (f a) (g a)) → Alike n (found x o f) (found x o g)
   unfolding found
-  found_alike x none f g h = denying (class x)
-  found_alike x (some a) f g h = h a
+  found_alike x None f g h = denying (class x)
+  found_alike x (Some a) f g h = h a
 
   let_in_alike : (v : Verdict) (o p : Outcome) → Alike n o p → Alike n (let_in v o) (let_in v p)
   unfolding let_in

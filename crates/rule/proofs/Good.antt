@@ -1,12 +1,12 @@
 -- Every good request is carried out, and every bad change refused. Assumes nothing.
+use Rattle.std.specs.Prelude.{Option, Some, None, slice_get}
 use Prim.Native.Nat.{ℕ, zero, suc}
 use mathlib.Core.Bool.{Bool, true, false, cond, not, ◌&&◌, true≢false, or-true}
 use mathlib.Core.List.{List, [], ◌∷◌, ◌++◌, map}
 use mathlib.Core.Logic.{◌⊎◌, inl, inr}
-use mathlib.Core.Option.{Option, none, some, some-injective}
 use mathlib.Core.Path.{◌≡◌, refl, sym, ◌∙◌, ap}
 use lib.Dec.{eqb}
-use lib.ListN.{length, get_elem?}
+use lib.ListN.{length}
 use native.Mathlib.Omega.{arith}
 use borrow.Author.Tests.{lt-ltb}
 use Rattle.ascii.specs.Bytes.{is_some, same}
@@ -31,20 +31,21 @@ use Rattle.rule.specs.Theorems.{parts_at, request_of, AltersNothing, read_reply,
 use Rattle.rule.proofs.Told.{scope_is}
 use Rattle.rule.proofs.Calls.{idle, Answered, Did, received, line, accepted_call}
 use Rattle.rule.proofs.Rule.{answered_change}
+use Rattle.std.proofs.lemmas.Option.{same_Some}
 
 -- ## The module of what is found is found too
 
 module _ {A : Type 0} (of : List Accessible → List A) where
   -- one among those of a module, or after them
   of_module : (n : ℕ) (name : List ℕ) (l : List A) (rest : List (Placed A)) (i : ℕ) (x : Placed A)
-      → get_elem? (map (λ (a : A). record { home = n; module_name = name; it = a }) l ++ rest) i ≡ some x
-      → (x.module_name ≡ name) ⊎ ((j : ℕ) × (get_elem? rest j ≡ some x))
+      → slice_get (map (λ (a : A). record { home = n; module_name = name; it = a }) l ++ rest) i ≡ Some x
+      → (x.module_name ≡ name) ⊎ ((j : ℕ) × (slice_get rest j ≡ Some x))
   of_module n name [] rest i x e = inr (i, e)
   of_module n name (a ∷ l) rest zero x e =
-      inl (ap (λ (y : Placed A). y.module_name) (sym (some-injective (record { home = n; module_name = name; it = a }) x e)))
+      inl (ap (λ (y : Placed A). y.module_name) (sym (same_Some (record { home = n; module_name = name; it = a }) x e)))
   of_module n name (a ∷ l) rest (suc i) x e = of_module n name l rest i x e
 
-  placed_module_lem : (y : List ℕ) (ms : List Module) (n k i : ℕ) (x : Placed A) → get_elem? (placed_from of n ms) i ≡ some x
+  placed_module_lem : (y : List ℕ) (ms : List Module) (n k i : ℕ) (x : Placed A) → slice_get (placed_from of n ms) i ≡ Some x
       → same y x.module_name ≡ true → is_some (first_from (λ (m : Module). same y m.name) k ms) ≡ true
   unfolding placed_from first_from
   placed_module_lem y [] n k i x e h = let z : ◌≡◌ {A = ℕ} 0 1 = cc in absurd (omega arith)
@@ -53,21 +54,21 @@ module _ {A : Type 0} (of : List Accessible → List A) where
       (of_module n m.name (of m.accessibles) (placed_from of (suc n) ms) i x e)
       (λ j f. placed_module_lem y ms (suc n) (suc k) j x f h)
     where
-      go : (b : Bool) → same y m.name ≡ b → (x.module_name ≡ m.name) ⊎ ((j : ℕ) × (get_elem? (placed_from of (suc n) ms) j ≡ some x))
-          → ((j : ℕ) → get_elem? (placed_from of (suc n) ms) j ≡ some x
+      go : (b : Bool) → same y m.name ≡ b → (x.module_name ≡ m.name) ⊎ ((j : ℕ) × (slice_get (placed_from of (suc n) ms) j ≡ Some x))
+          → ((j : ℕ) → slice_get (placed_from of (suc n) ms) j ≡ Some x
           → is_some (first_from (λ (z : Module). same y z.name) (suc k) ms) ≡ true)
-          → is_some (cond b (some (k, m)) (first_from (λ (z : Module). same y z.name) (suc k) ms)) ≡ true
+          → is_some (cond b (Some (k, m)) (first_from (λ (z : Module). same y z.name) (suc k) ms)) ≡ true
       go true q o r = refl
       go false q (inl f) r = absurd (true≢false (sym h ∙ ap (same y) f ∙ q))
       go false q (inr f) r = r f.0 f.1
 
-parameter_module : (w : Table) (m a : List ℕ) (k : ℕ × Placed Parameter) → find_parameter w m a ≡ some k → is_some (find_module w m) ≡ true
+parameter_module : (w : Table) (m a : List ℕ) (k : ℕ × Placed Parameter) → find_parameter w m a ≡ Some k → is_some (find_module w m) ≡ true
 unfolding find_module first parameters
 parameter_module w m a k e =
     placed_module_lem parameters_of m w.modules 0 0 k.0 k.1 (parameter_there w m a k e)
     (ap (same m) (parameter_named w m a k e).0 ∙ same_self m)
 
-command_module : (w : Table) (m a : List ℕ) (k : ℕ × Placed Command) → find_command w m a ≡ some k → is_some (find_module w m) ≡ true
+command_module : (w : Table) (m a : List ℕ) (k : ℕ × Placed Command) → find_command w m a ≡ Some k → is_some (find_module w m) ≡ true
 unfolding find_module first commands
 command_module w m a k e =
     placed_module_lem commands_of m w.modules 0 0 k.0 k.1 (command_there w m a k e) (ap (same m) (command_named w m a k e).0 ∙ same_self m)
@@ -76,36 +77,36 @@ command_module w m a k e =
 
 found_some : {A : Type 0} (e : Class) (x : Option A) (o : Outcome) → is_some x ≡ true → found e x (λ y. o) ≡ o
 unfolding found
-found_some e none o h = absurd (true≢false (sym h))
-found_some e (some a) o h = refl
+found_some e None o h = absurd (true≢false (sym h))
+found_some e (Some a) o h = refl
 
 module _ (w : Table) (n : Node) (c t : ℕ) where
-  good_set : (m a v : List ℕ) (k : ℕ × Placed Parameter) → find_parameter w m a ≡ some k → k.1.it.readonly ≡ false
+  good_set : (m a v : List ℕ) (k : ℕ × Placed Parameter) → find_parameter w m a ≡ Some k → k.1.it.readonly ≡ false
       → judged_at n.values k v ≡ fits → outcome w n c t (change m a v) ≡ sets w n c t k (stored_at n.values k v)
   unfolding outcome changes judging found let_in
   good_set m a v k e o f = found_some NoSuchModule (find_module w m) _ (parameter_module w m a k e) ∙ rw (e, o, f) refl
 
   -- what a bad change comes to, whatever a good one would
-  denied_by : (b : Bool) (v : Verdict) (o : Outcome) (x : Class) → refusal b v ≡ some x → cond b (denied (class ReadOnly)) (let_in v o) ≡ denied (class x)
+  denied_by : (b : Bool) (v : Verdict) (o : Outcome) (x : Class) → refusal b v ≡ Some x → cond b (denied (class ReadOnly)) (let_in v o) ≡ denied (class x)
   unfolding refusal let_in
-  denied_by true v o x e = ap (λ z. denied (class z)) (some-injective ReadOnly x e)
+  denied_by true v o x e = ap (λ z. denied (class z)) (same_Some ReadOnly x e)
   denied_by false fits o x e = let z : ◌≡◌ {A = ℕ} 0 1 = cc in absurd (omega arith)
-  denied_by false rangeError o x e = ap (λ z. denied (class z)) (some-injective _ x e)
-  denied_by false wrongType o x e = ap (λ z. denied (class z)) (some-injective _ x e)
-  denied_by false badJSON o x e = ap (λ z. denied (class z)) (some-injective _ x e)
+  denied_by false rangeError o x e = ap (λ z. denied (class z)) (same_Some _ x e)
+  denied_by false wrongType o x e = ap (λ z. denied (class z)) (same_Some _ x e)
+  denied_by false badJSON o x e = ap (λ z. denied (class z)) (same_Some _ x e)
 
-  bad_set : (m a v : List ℕ) (k : ℕ × Placed Parameter) → find_parameter w m a ≡ some k → (x : Class)
-      → refusal k.1.it.readonly (judged_at n.values k v) ≡ some x → outcome w n c t (change m a v) ≡ denied (class x)
+  bad_set : (m a v : List ℕ) (k : ℕ × Placed Parameter) → find_parameter w m a ≡ Some k → (x : Class)
+      → refusal k.1.it.readonly (judged_at n.values k v) ≡ Some x → outcome w n c t (change m a v) ≡ denied (class x)
   unfolding outcome changes judging found
   bad_set m a v k e x r =
       found_some NoSuchModule (find_module w m) _ (parameter_module w m a k e)
       ∙ rw e (denied_by k.1.it.readonly (judged_at n.values k v) (sets w n c t k (stored_at n.values k v)) x r)
 
-  good_read : (m a : List ℕ) (k : ℕ × Placed Parameter) → find_parameter w m a ≡ some k → outcome w n c t (read m a) ≡ reads w n c t k
+  good_read : (m a : List ℕ) (k : ℕ × Placed Parameter) → find_parameter w m a ≡ Some k → outcome w n c t (read m a) ≡ reads w n c t k
   unfolding outcome found
   good_read m a k e = found_some NoSuchModule (find_module w m) _ (parameter_module w m a k e) ∙ rw e refl
 
-  good_order : (m a v : List ℕ) (k : ℕ × Placed Command) → find_command w m a ≡ some k → argument_verdict k.1.it.argument v ≡ fits
+  good_order : (m a v : List ℕ) (k : ℕ × Placed Command) → find_command w m a ≡ Some k → argument_verdict k.1.it.argument v ≡ fits
       → outcome w n c t (execute m a v) ≡ ordering n c t k v
   unfolding outcome found does let_in
   good_order m a v k e f = found_some NoSuchModule (find_module w m) _ (command_module w m a k e) ∙ rw (e, f) refl
@@ -113,13 +114,13 @@ module _ (w : Table) (n : Node) (c t : ℕ) where
   good_scope : (f : (ℕ → Bool) → Option (List ℕ) → Outcome) (s : Option (List ℕ)) → is_there w s ≡ true
       → in_scope w n c t f s ≡ f (in_scope_of w s) s
   unfolding in_scope is_there found
-  good_scope f none h = ap (λ g. f g none) (scope_is of_all)
-  good_scope f (some m) h = go (find_module w m) refl h
+  good_scope f None h = ap (λ g. f g None) (scope_is of_all)
+  good_scope f (Some m) h = go (find_module w m) refl h
     where
       go : (x : Option (ℕ × Module)) → find_module w m ≡ x → is_some x ≡ true
-          → found NoSuchModule x (λ y. f (λ i. eqb i y.0) (some m)) ≡ f (in_scope_of w (some m)) (some m)
-      go none e q = absurd (true≢false (sym q))
-      go (some x) e q = ap (λ g. f g (some m)) (scope_is (of_one x e))
+          → found NoSuchModule x (λ y. f (λ i. eqb i y.0) (Some m)) ≡ f (in_scope_of w (Some m)) (Some m)
+      go None e q = absurd (true≢false (sym q))
+      go (Some x) e q = ap (λ g. f g (Some m)) (scope_is (of_one x e))
 
 -- ## Lines
 

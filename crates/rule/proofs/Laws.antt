@@ -1,13 +1,13 @@
 -- Laws about records: what each client is sent among them, and which are updates. Assumes nothing.
+use Rattle.std.specs.Prelude.{Option, Some, None, slice_get}
 use Prim.Native.Nat.{ℕ, zero, suc, ◌+◌, ◌<◌, ◌≤◌}
 use mathlib.Core.Bool.{Bool, true, false, cond}
 use mathlib.Core.List.Memᴰ
 use mathlib.Core.List.{List, [], ◌∷◌, ◌++◌, append_assoc, Memᴰ}
 use mathlib.Core.Logic.{⊎_elim}
-use mathlib.Core.Option.{Option, none, some}
 use mathlib.Core.Path.{◌≡◌, refl, sym, ◌∙◌, ap, subst}
 use lib.Dec.{eqb}
-use lib.ListN.{get_elem?, replicate}
+use lib.ListN.{replicate}
 use native.Mathlib.Nat.{add_comm, zero-add}
 use native.Mathlib.Numerals.{add-one}
 use Rattle.ascii.specs.Bytes.{count}
@@ -76,8 +76,8 @@ updates_to_no_final f i r (c ∷ cs) = go (is_active (f c) i) (updates_to_no_fin
 -- with those of a status before them
 pub busy_no_final : (f : ℕ → Client) (o : Option (ℕ × Placed Parameter)) (t i : ℕ) (r : DataReport) → NoFinal (busy_updates f o t ++ updates_to f i r client_numbers)
 unfolding busy_updates
-busy_no_final f none t i r = updates_to_no_final f i r client_numbers
-busy_no_final f (some s) t i r =
+busy_no_final f None t i r = updates_to_no_final f i r client_numbers
+busy_no_final f (Some s) t i r =
     let first = report_of s.1 (showing busy t) in
     no_final_append (updates_to f s.1.home first client_numbers) (updates_to f i r client_numbers)
     (updates_to_no_final f s.1.home first client_numbers)
@@ -120,7 +120,7 @@ updates_to_member f i r (c ∷ cs) d x m = go (is_active (f c) i) refl (λ l. up
 pub record Initial (wanted : ℕ → Bool) (values : ℕ → Value) (ps : List (Placed Parameter)) (k : ℕ) (x : DataReport) : Type 0 where
   pub i : ℕ
   pub p : Placed Parameter
-  pub there : get_elem? ps i ≡ some p
+  pub there : slice_get ps i ≡ Some p
   pub truly : x ≡ report_of p (values (k + i))
   pub asked : wanted p.home ≡ true
 
@@ -232,13 +232,13 @@ module _ (f : ℕ → Client) (i : ℕ) (r : DataReport) (d : ℕ) where
 -- of a status that is set first
 pub busy_once : (f : ℕ → Client) (o : Option (ℕ × Placed Parameter)) (t d : ℕ) → d < 8 → updates_for d (busy_updates f o t) ≡ busy_reports (f d) o t
 unfolding busy_updates busy_reports updates_for
-busy_once f none t d h = refl
-busy_once f (some s) t d h = sent_once f s.1.home _ d h
+busy_once f None t d h = refl
+busy_once f (Some s) t d h = sent_once f s.1.home _ d h
 
 pub busy_never : (f : ℕ → Client) (o : Option (ℕ × Placed Parameter)) (t d : ℕ) → 8 ≤ d → updates_for d (busy_updates f o t) ≡ []
 unfolding busy_updates updates_for
-busy_never f none t d h = refl
-busy_never f (some s) t d h = sent_never f s.1.home _ d h
+busy_never f None t d h = refl
+busy_never f (Some s) t d h = sent_never f s.1.home _ d h
 
 -- each of the clients 0 to 7 that has the module active is sent its update
 sent_in : (f : ℕ → Client) (i : ℕ) (r : DataReport) (d : ℕ) (cs : List ℕ) → is_active (f d) i ≡ true → Memᴰ d cs

@@ -1,10 +1,9 @@
 -- What reads and commands are replied to with, what a piece leaves of lines, and where a parameter belongs. Assumes nothing.
+use Rattle.std.specs.Prelude.{Some, slice_get}
 use Prim.Native.Nat.{ℕ, zero, suc, ◌+◌}
 use mathlib.Core.Bool.{Bool, false, false≢true}
 use mathlib.Core.List.{List, [], ◌∷◌, ◌++◌, map, Memᴰ}
-use mathlib.Core.Option.{some, some-injective}
 use mathlib.Core.Path.{◌≡◌, refl, sym, ◌∙◌, ap, subst}
-use lib.ListN.{get_elem?}
 use native.Mathlib.Omega.{arith}
 use Rattle.fit.specs.Fit.{fits}
 use Rattle.table.specs.Table.{Parameter, Command, Accessible, parameter, command, Module, Table}
@@ -23,6 +22,7 @@ use Rattle.plain.proofs.Outcomes.{node_after, before, reply_to, Tells, by_identi
 use Rattle.rule.specs.Theorems.{parts_at, request_of, OfPiece, of_piece, ParametersBelong, PieceUsed, PiecesAreUsed, ReadTold, ReadsAreTrue, CommandOrdered, CommandsAreOrdered}
 use Rattle.rule.proofs.Told.{apart, told_kind}
 use Rattle.rule.proofs.Calls.{idle, outcome_at, Did, received, line, accepted_call, Line-of, line_of_lem, line_of_final}
+use Rattle.std.proofs.lemmas.Option.{same_Some}
 
 reply_is : (x y : DataReport) → reply x ≡ reply y → x ≡ y
 reply_is x y e = cc
@@ -34,7 +34,7 @@ done_is x y e = cc
 
 record Reads (w : Table) (n : Node) (q : Request) (o : Outcome) (r : DataReport) : Type 0 where
   k : ℕ × Placed Parameter
-  there : get_elem? (parameters w) k.0 ≡ some k.1
+  there : slice_get (parameters w) k.0 ≡ Some k.1
   asked : q ≡ read k.1.module_name k.1.it.name
   tells : r ≡ report_of k.1 (n.values k.0)
   alone : before o ≡ []
@@ -92,7 +92,7 @@ reads_are_true table n e c r l = read_line r (line_of_final table n e c (reply r
 record Orders (w : Table) (n : Node) (c now : ℕ) (q : Request) (o : Outcome) (r : DataReport) : Type 0 where
   k : ℕ × Placed Command
   v : List ℕ
-  there : get_elem? (commands w) k.0 ≡ some k.1
+  there : slice_get (commands w) k.0 ≡ Some k.1
   asked : q ≡ execute k.1.module_name k.1.it.name v
   fitting : argument_verdict k.1.it.argument v ≡ fits
   tells : r ≡ done_of k.1 now
@@ -218,14 +218,14 @@ record In (n : ℕ) (ms : List Module) (p : Placed Parameter) : Type 0 where
   i : ℕ
   m : Module
   home : p.home ≡ n + i
-  there : get_elem? ms i ≡ some m
+  there : slice_get ms i ≡ Some m
   named : p.module_name ≡ m.name
   holds : Memᴰ (parameter p.it) m.accessibles
 
-parameter_member : (l : List Accessible) (j : ℕ) (x : Parameter) → get_elem? (parameters_of l) j ≡ some x → Memᴰ (parameter x) l
+parameter_member : (l : List Accessible) (j : ℕ) (x : Parameter) → slice_get (parameters_of l) j ≡ Some x → Memᴰ (parameter x) l
 unfolding parameters_of
 parameter_member [] j x e = let z : ◌≡◌ {A = ℕ} 0 1 = cc in absurd (omega arith)
-parameter_member (parameter y ∷ l) zero x e = Memᴰ.head (ap parameter (sym (some-injective y x e)))
+parameter_member (parameter y ∷ l) zero x e = Memᴰ.head (ap parameter (sym (same_Some y x e)))
 parameter_member (parameter y ∷ l) (suc j) x e = Memᴰ.tail (parameter_member l j x e)
 parameter_member (command y ∷ l) j x e = Memᴰ.tail (parameter_member l j x e)
 
@@ -241,19 +241,19 @@ in_later n m ms p h =
     }
 
 in_first : (n : ℕ) (m : Module) (ms : List Module) (l : List Parameter) (rest : List (Placed Parameter)) (p : Placed Parameter)
-    → ((j : ℕ) (x : Parameter) → get_elem? l j ≡ some x → Memᴰ (parameter x) m.accessibles)
-    → ((j : ℕ) → get_elem? rest j ≡ some p → In n (m ∷ ms) p) → (j : ℕ)
-    → get_elem? (map (λ (a : Parameter). record { home = n; module_name = m.name; it = a }) l ++ rest) j ≡ some p → In n (m ∷ ms) p
+    → ((j : ℕ) (x : Parameter) → slice_get l j ≡ Some x → Memᴰ (parameter x) m.accessibles)
+    → ((j : ℕ) → slice_get rest j ≡ Some p → In n (m ∷ ms) p) → (j : ℕ)
+    → slice_get (map (λ (a : Parameter). record { home = n; module_name = m.name; it = a }) l ++ rest) j ≡ Some p → In n (m ∷ ms) p
 in_first n m ms [] rest p h g j e = g j e
 in_first n m ms (x ∷ l) rest p h g zero e =
-    let d : ◌≡◌ {A = Placed Parameter} (record { home = n; module_name = m.name; it = x }) p = some-injective _ p e in
+    let d : ◌≡◌ {A = Placed Parameter} (record { home = n; module_name = m.name; it = x }) p = same_Some _ p e in
     subst
     (In n (m ∷ ms))
     d
     (record { i = 0; m = m; home = omega arith; there = refl; named = refl; holds = h 0 x refl })
 in_first n m ms (x ∷ l) rest p h g (suc j) e = in_first n m ms l rest p (λ i y f. h (suc i) y f) g j e
 
-placed_in : (ms : List Module) (n k : ℕ) (p : Placed Parameter) → get_elem? (placed_from parameters_of n ms) k ≡ some p → In n ms p
+placed_in : (ms : List Module) (n k : ℕ) (p : Placed Parameter) → slice_get (placed_from parameters_of n ms) k ≡ Some p → In n ms p
 unfolding placed_from
 placed_in [] n k p e = let z : ◌≡◌ {A = ℕ} 0 1 = cc in absurd (omega arith)
 placed_in (m ∷ ms) n k p e =
@@ -276,7 +276,7 @@ parameters_belong w k p e =
     let z : p.home ≡ h.i = omega (arith, h.home) in
     record {
       m = h.m;
-      there = ap (get_elem? w.modules) z ∙ h.there;
+      there = ap (slice_get w.modules) z ∙ h.there;
       named = h.named;
       holds = h.holds;
     }

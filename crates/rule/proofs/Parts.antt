@@ -1,11 +1,11 @@
 -- Part of a struct (M-113): which member of what is stored comes from where. Assumes nothing.
+use Rattle.std.specs.Prelude.{Option, Some, None}
 use Prim.Native.Nat.{ℕ, ◌+◌, ◌≤◌}
 use native.Mathlib.Nat.{zero-add}
 use native.Mathlib.Omega.{arith}
 use mathlib.Core.Bool.{Bool, true, false, cond, not, ◌&&◌, ◌||◌, false≢true, true≢false}
 use mathlib.Core.List.{List, [], ◌∷◌}
 use mathlib.Core.Logic.{◌⊎◌, inl, inr}
-use mathlib.Core.Option.{Option, none, some}
 use mathlib.Core.Path.{◌≡◌, refl, sym, ap, ap₂, ◌∙◌}
 use lib.Dec.{eqb, leb}
 use lib.ListN.{length}
@@ -53,12 +53,12 @@ once_distinct (k ∷ ks) e =
     ap₂ ◌&&◌ (ap not a) (once_distinct ks (count_less k ks ks a p.1))
 
 -- a member with a datainfo is a member
-field_named : (fs : Fields) (k : List ℕ) (d : Datainfo) → field_of k fs ≡ some d → is_among (field_names fs) k ≡ true
+field_named : (fs : Fields) (k : List ℕ) (d : Datainfo) → field_of k fs ≡ Some d → is_among (field_names fs) k ≡ true
 unfolding field_of field_names any
 field_named no_fields k d e = absurd (nothing e)
 field_named (field j c fs) k d e = go (same j k) refl e (field_named fs k d)
   where
-    go : (b : Bool) → same j k ≡ b → cond b (some c) (field_of k fs) ≡ some d → (field_of k fs ≡ some d → any (same k) (field_names fs) ≡ true)
+    go : (b : Bool) → same j k ≡ b → cond b (Some c) (field_of k fs) ≡ Some d → (field_of k fs ≡ Some d → any (same k) (field_names fs) ≡ true)
         → (same k j || any (same k) (field_names fs)) ≡ true
     go true q e h = rw (same_is j k q, same_self k)
     go false q e h = rw (h e) (or-true (same k j))
@@ -184,13 +184,13 @@ unfolding fit expect as_object
 wrong_value ns fs ms k h z = rw (not_once (field_names fs) (keys ms) k h z)
 
 wrong_text : (ns : List (List ℕ)) (fs : Fields) (ms : Members) (k : List ℕ) → is_among (field_names fs) k ≡ true → count (same k) (keys ms) ≡ 0
-    → verdict_of (partial ns fs) (some (Json.object ms)) ≡ wrongType
+    → verdict_of (partial ns fs) (Some (Json.object ms)) ≡ wrongType
 unfolding verdict_of value_verdict
-wrong_text ns fs ms k h z = rw (wrong_value ns fs ms k h z) (wrong_wins (leb (length (form_of (partial ns fs) (some (Json.object ms)))) 256))
+wrong_text ns fs ms k h z = rw (wrong_value ns fs ms k h z) (wrong_wins (leb (length (form_of (partial ns fs) (Some (Json.object ms)))) 256))
 
 -- members with names that differ, each of which fits, fit
 fields_fit_lem : (fs : Fields) (zs : Members) → distinct (field_names fs) ≡ true
-    → ((k : List ℕ) (d : Datainfo) → field_of k fs ≡ some d → fit d (value_at k zs) ≡ fits) → fields_fit fs zs ≡ fits
+    → ((k : List ℕ) (d : Datainfo) → field_of k fs ≡ Some d → fit d (value_at k zs) ≡ fits) → fields_fit fs zs ≡ fits
 unfolding fields_fit field_of field_names distinct
 fields_fit_lem no_fields zs u h = refl
 fields_fit_lem (field j d fs) zs u h =
@@ -198,10 +198,10 @@ fields_fit_lem (field j d fs) zs u h =
     let alone = not-true (any (same j) (field_names fs)) p.0 in
     both_worse (h j d (rw (same_self j))) (fields_fit_lem fs zs p.1 (λ k c e. h k c (later alone k c e)))
   where
-    later : any (same j) (field_names fs) ≡ false → (k : List ℕ) (c : Datainfo) → field_of k fs ≡ some c → cond (same j k) (some d) (field_of k fs) ≡ some c
+    later : any (same j) (field_names fs) ≡ false → (k : List ℕ) (c : Datainfo) → field_of k fs ≡ Some c → cond (same j k) (Some d) (field_of k fs) ≡ Some c
     later a k c e = go (same j k) refl
       where
-        go : (b : Bool) → same j k ≡ b → cond b (some d) (field_of k fs) ≡ some c
+        go : (b : Bool) → same j k ≡ b → cond b (Some d) (field_of k fs) ≡ Some c
         go true q = absurd (true≢false (sym (field_named fs k c e) ∙ ap (λ x. any (same x) (field_names fs)) (sym (same_is j k q)) ∙ a))
         go false q = e
 
@@ -209,7 +209,7 @@ fields_fit_lem (field j d fs) zs u h =
 
 record Shows (fs : Fields) (v : List ℕ) : Type 0 where
   js : Members
-  is : text v ≡ some (Json.object js)
+  is : text v ≡ Some (Json.object js)
   compact_is : v ≡ compact (Json.object js)
   in_order : js ≡ ordered fs (exchanged fs js)
   once : each_once (field_names fs) (keys js) ≡ true
@@ -219,7 +219,7 @@ shows : (ns : List (List ℕ)) (fs : Fields) (v : List ℕ) → is_stored (parti
 unfolding fit expect within as_object
 shows ns fs v e = fits_value (partial ns fs) v (stored_fits (partial ns fs) v e) λ w q f. go w q f
   where
-    of_object : (js : Members) → text v ≡ some (Json.object js) → fit (partial ns fs) (Json.object js) ≡ fits → Shows fs v
+    of_object : (js : Members) → text v ≡ Some (Json.object js) → fit (partial ns fs) (Json.object js) ≡ fits → Shows fs v
     of_object js q f =
         let c = cond_fits (each_once (field_names fs) (keys js)) (fields_fit fs js) f in
         record {
@@ -231,7 +231,7 @@ shows ns fs v e = fits_value (partial ns fs) v (stored_fits (partial ns fs) v e)
           fit = c.1;
         }
 
-    go : (w : Json) → text v ≡ some w → fit (partial ns fs) w ≡ fits → Shows fs v
+    go : (w : Json) → text v ≡ Some w → fit (partial ns fs) w ≡ fits → Shows fs v
     go null q f = let n : ◌≡◌ {A = ℕ} 0 1 = cc in absurd (omega arith)
     go (boolean b) q f = let n : ◌≡◌ {A = ℕ} 0 1 = cc in absurd (omega arith)
     go (Json.number t) q f = let n : ◌≡◌ {A = ℕ} 0 1 = cc in absurd (omega arith)
@@ -357,7 +357,7 @@ module _ (ns : List (List ℕ)) (fs : Fields) (js ms : Members) where
     good_fits : fields_fit fs merged ≡ fits
     good_fits = fields_fit_lem fs merged names_differ λ k d e. go k d e (any (same k) (keys ms)) refl
       where
-        go : (k : List ℕ) (d : Datainfo) → field_of k fs ≡ some d → (b : Bool) → any (same k) (keys ms) ≡ b → fit d (value_at k merged) ≡ fits
+        go : (k : List ℕ) (d : Datainfo) → field_of k fs ≡ Some d → (b : Bool) → any (same k) (keys ms) ≡ b → fit d (value_at k merged) ≡ fits
         go k d e true h = rw (given_value k h) (g.fitting k d (record { asked = e; there = h }))
         go k d e false h =
             let a = field_named fs k d e in
@@ -369,7 +369,7 @@ module _ (ns : List (List ℕ)) (fs : Fields) (js ms : Members) where
   abbrev zs : Members
   zs = ordered fs (exchanged fs merged)
 
-  stored_value : (k : List ℕ) (d : Datainfo) → field_of k fs ≡ some d → value_at k zs ≡ numbered d (value_at k merged)
+  stored_value : (k : List ℕ) (d : Datainfo) → field_of k fs ≡ Some d → value_at k zs ≡ numbered d (value_at k merged)
   stored_value k d e = ordered_value fs (exchanged fs merged) k (field_named fs k d e) ∙ Listed.stored_at fs merged k d e
 
   merged_is : js ≡ ordered fs (exchanged fs js) → each_once (field_names fs) (keys merged) ≡ true → fields_fit fs merged ≡ fits → Merged fs js ms zs
@@ -382,10 +382,10 @@ module _ (ns : List (List ℕ)) (fs : Fields) (js ms : Members) where
   }
     where
       -- what is shown is in stored form
-      shown_value_lem : (k : List ℕ) (d : Datainfo) → field_of k fs ≡ some d → value_at k js ≡ numbered d (value_at k js)
+      shown_value_lem : (k : List ℕ) (d : Datainfo) → field_of k fs ≡ Some d → value_at k js ≡ numbered d (value_at k js)
       shown_value_lem k d h = ap (value_at k) i ∙ ordered_value fs (exchanged fs js) k (field_named fs k d h) ∙ Listed.stored_at fs js k d h
 
-  form_is : form_of (partial ns fs) (some (Json.object merged)) ≡ compact (Json.object zs)
+  form_is : form_of (partial ns fs) (Some (Json.object merged)) ≡ compact (Json.object zs)
   unfolding form_of within as_object
   form_is = ap compact (stored_part ns fs (Json.object merged))
 
@@ -394,28 +394,28 @@ module _ (ns : List (List ℕ)) (fs : Fields) (js ms : Members) where
   member_verdict = cond (each_once (field_names fs) (keys merged)) (fields_fit fs merged) wrongType
 
   abbrev size_verdict : Verdict
-  size_verdict = in_range (leb (length (form_of (partial ns fs) (some (Json.object merged)))) 256)
+  size_verdict = in_range (leb (length (form_of (partial ns fs) (Some (Json.object merged)))) 256)
 
-  verdict_is : verdict_of (partial ns fs) (some (Json.object merged)) ≡ worse member_verdict size_verdict
+  verdict_is : verdict_of (partial ns fs) (Some (Json.object merged)) ≡ worse member_verdict size_verdict
   unfolding verdict_of value_verdict fit expect as_object
   verdict_is = refl
 
 -- ## Of a text, and what is shown
 
-module _ (ns : List (List ℕ)) (fs : Fields) (xs : List ℕ) (ms : Members) (t : text xs ≡ some (Json.object ms)) where
-  object_changed : (shown : Option Json) → completed_of shown (partial ns fs) (text xs) ≡ some (Json.object (merged ns fs (members_of shown) ms))
+module _ (ns : List (List ℕ)) (fs : Fields) (xs : List ℕ) (ms : Members) (t : text xs ≡ Some (Json.object ms)) where
+  object_changed : (shown : Option Json) → completed_of shown (partial ns fs) (text xs) ≡ Some (Json.object (merged ns fs (members_of shown) ms))
   unfolding completed_of completed at_top as_partial within as_object
   object_changed shown = rw t
 
   changed_verdict : (shown : Option Json) (js : Members) → members_of shown ≡ js
-      → change_verdict shown (partial ns fs) xs ≡ verdict_of (partial ns fs) (some (Json.object (merged ns fs js ms)))
+      → change_verdict shown (partial ns fs) xs ≡ verdict_of (partial ns fs) (Some (Json.object (merged ns fs js ms)))
   unfolding change_verdict
-  changed_verdict shown js e = ap (verdict_of (partial ns fs)) (object_changed shown ∙ ap (λ js. some (Json.object (merged ns fs js ms))) e)
+  changed_verdict shown js e = ap (verdict_of (partial ns fs)) (object_changed shown ∙ ap (λ js. Some (Json.object (merged ns fs js ms))) e)
 
   changed_form : (shown : Option Json) (js : Members) → members_of shown ≡ js
-      → change_form shown (partial ns fs) xs ≡ form_of (partial ns fs) (some (Json.object (merged ns fs js ms)))
+      → change_form shown (partial ns fs) xs ≡ form_of (partial ns fs) (Some (Json.object (merged ns fs js ms)))
   unfolding change_form
-  changed_form shown js e = ap (form_of (partial ns fs)) (object_changed shown ∙ ap (λ js. some (Json.object (merged ns fs js ms))) e)
+  changed_form shown js e = ap (form_of (partial ns fs)) (object_changed shown ∙ ap (λ js. Some (Json.object (merged ns fs js ms))) e)
 
   required_out : (shown : Option Json) (j : List ℕ) → LeftOut fs ms j → is_among ns j ≡ false → change_verdict shown (partial ns fs) xs ≡ wrongType
   required_out shown j l e =
@@ -423,15 +423,15 @@ module _ (ns : List (List ℕ)) (fs : Fields) (xs : List ℕ) (ms : Members) (t 
       ∙ wrong_text ns fs (merged ns fs (members_of shown) ms) j l.asked
       (missing ns fs (members_of shown) ms j (required_not ns fs (members_of shown) ms j e) l.missing)
 
-  none_shown : (j : List ℕ) → LeftOut fs ms j → change_verdict none (partial ns fs) xs ≡ wrongType
+  none_shown : (j : List ℕ) → LeftOut fs ms j → change_verdict None (partial ns fs) xs ≡ wrongType
   unfolding keep_members join_members
-  none_shown j l = changed_verdict none no_members refl ∙ wrong_text ns fs ms j l.asked (count_none j (keys ms) l.missing)
+  none_shown j l = changed_verdict None no_members refl ∙ wrong_text ns fs ms j l.asked (count_none j (keys ms) l.missing)
 
   nothing_out : (shown : Option Json) → keep_members (is_left_out ns ms) (members_of shown) ≡ no_members
       → (change_verdict shown (partial ns fs) xs ≡ verdict (partial ns fs) xs) × (change_form shown (partial ns fs) xs ≡ stored_form (partial ns fs) xs)
   unfolding change_verdict change_form verdict stored_form join_members
   nothing_out shown e =
-      let h : completed_of shown (partial ns fs) (text xs) ≡ text xs = object_changed shown ∙ ap (λ js. some (Json.object (join_members js ms))) e ∙ sym t in
+      let h : completed_of shown (partial ns fs) (text xs) ≡ text xs = object_changed shown ∙ ap (λ js. Some (Json.object (join_members js ms))) e ∙ sym t in
       (ap (verdict_of (partial ns fs)) h, ap (form_of (partial ns fs)) h)
 
   all_given : (js : Members) → ((k : List ℕ) → is_among (keys js) k ≡ true → is_among (field_names fs) k ≡ true) → ((k : List ℕ) → LeftOut fs ms k → ⊥)
@@ -445,7 +445,7 @@ module _ (ns : List (List ℕ)) (fs : Fields) (xs : List ℕ) (ms : Members) (t 
 -- ## Of a node
 
 module _ (n : Node) (k : ℕ) (p : Placed Parameter) (ns : List (List ℕ)) (fs : Fields) (d : p.it.datainfo ≡ partial ns fs) (xs : List ℕ) (ms : Members)
-    (t : text xs ≡ some (Json.object ms)) where
+    (t : text xs ≡ Some (Json.object ms)) where
   judged_as_lem : (h : Held) → (n.values k).held ≡ h → judged_at n.values (k, p) xs ≡ change_verdict (shown_value h) (partial ns fs) xs
   judged_as_lem h e = ap₂ (λ h d. change_verdict (shown_value h) d xs) e d
 
@@ -463,7 +463,7 @@ module _ (n : Node) (k : ℕ) (p : Placed Parameter) (ns : List (List ℕ)) (fs 
         ∙ changed_verdict ns fs xs ms t (shown_value (valued v)) s.js (shown_members v s)
         ∙ verdict_is ns fs s.js ms
 
-    stored_is : stored_at n.values (k, p) xs ≡ form_of (partial ns fs) (some (Json.object (merged ns fs s.js ms)))
+    stored_is : stored_at n.values (k, p) xs ≡ form_of (partial ns fs) (Some (Json.object (merged ns fs s.js ms)))
     stored_is = stored_as (valued v) e ∙ changed_form ns fs xs ms t (shown_value (valued v)) s.js (shown_members v s)
 
     once_and_fit : judged_at n.values (k, p) xs ≡ fits
@@ -476,7 +476,7 @@ module _ (n : Node) (k : ℕ) (p : Placed Parameter) (ns : List (List ℕ)) (fs 
         let i : keys s.js ≡ field_names fs = ap keys s.in_order ∙ ordered_keys fs (exchanged fs s.js) in
         judged_is
         ∙ both_worse (rw (good_once ns fs s.js ms s.once s.fit i g) (good_fits ns fs s.js ms s.once s.fit i g))
-        (rw (le-leb (length (form_of (partial ns fs) (some (Json.object (merged ns fs s.js ms))))) 256 (rw stored_is at l)))
+        (rw (le-leb (length (form_of (partial ns fs) (Some (Json.object (merged ns fs s.js ms))))) 256 (rw stored_is at l)))
 
     where_shown_lem : WhereShown n k p ns fs xs ms v
     where_shown_lem = record {
@@ -524,24 +524,24 @@ same_whole : (shown : Option Json) (d : Datainfo) (xs : List ℕ) → completed_
 unfolding change_verdict change_form verdict stored_form
 same_whole shown d xs e = (ap (verdict_of d) e, ap (form_of d) e)
 
-no_object : (shown : Option Json) (d : Datainfo) (o : Option Json) → ((ms : Members) → o ≡ some (Json.object ms) → ⊥) → completed_of shown d o ≡ o
+no_object : (shown : Option Json) (d : Datainfo) (o : Option Json) → ((ms : Members) → o ≡ Some (Json.object ms) → ⊥) → completed_of shown d o ≡ o
 unfolding completed_of as_object
-no_object shown d none h = refl
-no_object shown d (some null) h = ap some (same_scalar shown d null refl)
-no_object shown d (some (boolean b)) h = ap some (same_scalar shown d (boolean b) refl)
-no_object shown d (some (Json.number t)) h = ap some (same_scalar shown d (Json.number t) refl)
-no_object shown d (some (Json.string s)) h = ap some (same_scalar shown d (Json.string s) refl)
-no_object shown d (some (Json.array is)) h = ap some (same_scalar shown d (Json.array is) refl)
-no_object shown d (some (Json.object ms)) h = absurd (h ms refl)
+no_object shown d None h = refl
+no_object shown d (Some null) h = ap Some (same_scalar shown d null refl)
+no_object shown d (Some (boolean b)) h = ap Some (same_scalar shown d (boolean b) refl)
+no_object shown d (Some (Json.number t)) h = ap Some (same_scalar shown d (Json.number t) refl)
+no_object shown d (Some (Json.string s)) h = ap Some (same_scalar shown d (Json.string s) refl)
+no_object shown d (Some (Json.array is)) h = ap Some (same_scalar shown d (Json.array is) refl)
+no_object shown d (Some (Json.object ms)) h = absurd (h ms refl)
 
-others : (values : ℕ → Value) (k : ℕ × Placed Parameter) (xs : List ℕ) → (as_partial k.1.it.datainfo ≡ none) ⊎ NoObject xs
+others : (values : ℕ → Value) (k : ℕ × Placed Parameter) (xs : List ℕ) → (as_partial k.1.it.datainfo ≡ None) ⊎ NoObject xs
     → (judged_at values k xs ≡ verdict k.1.it.datainfo xs) × (stored_at values k xs ≡ stored_form k.1.it.datainfo xs)
 others values k xs (inl e) = same_whole _ k.1.it.datainfo xs (sym (Whole.same_other _ k.1.it.datainfo e (text xs)))
 others values k xs (inr h) = same_whole _ k.1.it.datainfo xs (no_object _ k.1.it.datainfo (text xs) h)
 
 elsewhere : (ns : List (List ℕ)) (fs : Fields) (ms : Members) (j : List ℕ) → LeftOut fs ms j
     → (fit (partial ns fs) (Json.object ms) ≡ wrongType)
-    × ((xs : List ℕ) → text xs ≡ some (Json.object ms) → verdict (partial ns fs) xs ≡ wrongType)
+    × ((xs : List ℕ) → text xs ≡ Some (Json.object ms) → verdict (partial ns fs) xs ≡ wrongType)
 unfolding verdict
 elsewhere ns fs ms j l =
     let z = count_none j (keys ms) l.missing in

@@ -1,11 +1,11 @@
 -- One final reply for each line feed that is used. Assumes nothing.
+use Rattle.std.specs.Prelude.{Option, Some, None, slice_get}
 use Prim.Native.Nat.{ℕ, zero, suc, ◌+◌}
 use mathlib.Core.Bool.{Bool, true, false, cond}
 use mathlib.Core.List.{List, [], ◌∷◌, ◌++◌}
-use mathlib.Core.Option.{Option, none, some}
 use mathlib.Core.Path.{◌≡◌, refl, sym, ◌∙◌, ap}
 use lib.Dec.{eqb}
-use lib.ListN.{length, get_elem?, take}
+use lib.ListN.{length, take}
 use native.Mathlib.Omega.{arith}
 use Rattle.fit.specs.Fit.{stored_form}
 use Rattle.table.specs.Table.{Parameter, Table}
@@ -86,15 +86,15 @@ driver_replies n k p h t d =
 reading_replies : (n : Node) (k : ℕ) (o : Option (Placed Parameter)) (bs : List ℕ) (t d : ℕ)
     → length (replies_for d (reading_effect n k o bs t).records) ≡ 0
 unfolding reading_effect replies_for
-reading_replies n k none bs t d = refl
-reading_replies n k (some p) bs t d = driver_replies n k p (valued (stored_form p.it.datainfo bs)) t d
+reading_replies n k None bs t d = refl
+reading_replies n k (Some p) bs t d = driver_replies n k p (valued (stored_form p.it.datainfo bs)) t d
 
 unreadable_replies : (n : Node) (k : ℕ) (o : Option (Placed Parameter)) (x : Option Fault) (t d : ℕ)
     → length (replies_for d (unreadable_effect n k o x t).records) ≡ 0
 unfolding unreadable_effect replies_for
-unreadable_replies n k none x t d = refl
-unreadable_replies n k (some p) none t d = refl
-unreadable_replies n k (some p) (some f) t d = driver_replies n k p (failed f) t d
+unreadable_replies n k None x t d = refl
+unreadable_replies n k (Some p) None t d = refl
+unreadable_replies n k (Some p) (Some f) t d = driver_replies n k p (failed f) t d
 
 one_reply : (w : Table) (n : Node) (steps : ℕ) (e : Event) (d j : ℕ)
     → length (replies_for d (settle j n (effect w n e) steps).1.records) ≡ feeds_used d e (settle j n (effect w n e) steps).1
@@ -106,9 +106,9 @@ one_reply w n steps (Close c t) d (suc j) = refl
 one_reply w n steps (Piece c bs t) d zero =
     ended_replies w _ c t d (has_feed bs) ∙ ap (λ k. cond (eqb d c) k 0) (sym (feeds_used_lem bs))
 one_reply w n steps (Piece c bs t) d (suc j) = either_way (eqb d c) 0
-one_reply w n steps (Reading p bs t) d zero = reading_replies n p (get_elem? (parameters w) p) bs t d
+one_reply w n steps (Reading p bs t) d zero = reading_replies n p (slice_get (parameters w) p) bs t d
 one_reply w n steps (Reading p bs t) d (suc j) = refl
-one_reply w n steps (Unreadable p k t) d zero = unreadable_replies n p (get_elem? (parameters w) p) (fault_of k) t d
+one_reply w n steps (Unreadable p k t) d zero = unreadable_replies n p (slice_get (parameters w) p) (fault_of k) t d
 one_reply w n steps (Unreadable p k t) d (suc j) = refl
 
 pub one_reply_for_each_line : OneReplyForEachLine

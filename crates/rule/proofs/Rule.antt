@@ -1,13 +1,13 @@
 -- The user's rule: updates, settings, activations and errors. Assumes nothing.
+use Rattle.std.specs.Prelude.{Option, Some, None, slice_get}
 use Prim.Native.Nat.{ℕ, zero, suc, ◌+◌}
 use mathlib.Core.Bool.{Bool, true, false, cond, not, ◌&&◌, ◌||◌, true≢false, or-true}
 use mathlib.Core.List.Memᴰ
 use mathlib.Core.List.{List, [], ◌∷◌, ◌++◌, append-nil, Memᴰ}
 use mathlib.Core.Logic.{◌⊎◌, inl, inr, ⊎_elim}
-use mathlib.Core.Option.{Option, none, some}
 use mathlib.Core.Path.{◌≡◌, refl, sym, ◌∙◌, ap, ap₂, subst}
 use lib.Dec.{eqb, ltb}
-use lib.ListN.{length, get_elem?}
+use lib.ListN.{length}
 use native.Mathlib.Omega.{arith}
 use borrow.Author.Tests.{lt-ltb, ne_eqb, eq-eqb, eqb-true}
 use Rattle.fit.specs.Fit.{stored_form}
@@ -76,7 +76,7 @@ errors_alter_nothing table n e c a s x l = altered_line (line_of_final table n e
 
 -- a setting of parameter k, which is p, to v sends its update to all that have its module active; other records are around
 set_sent : (w : Table) (n m : Node) (k : ℕ) (p : Placed Parameter) (v : Value) (rs : List Record)
-    → get_elem? (parameters w) k ≡ some p → m.values ≡ put n.values k v
+    → slice_get (parameters w) k ≡ Some p → m.values ≡ put n.values k v
     → ((d : ℕ) → updates_for d rs ≡ updates_for d (updates_to m.clients p.home (report_of p v) client_numbers))
     → Set w n m k p v rs
 set_sent w n m k p v rs t e u =
@@ -159,7 +159,7 @@ no_updates d rs c r = updates_append d rs (final c r ∷ []) ∙ append-nil (upd
 
 -- a line that came to the setting of parameter k to the text v, put together at the node that it was carried out on
 module _ (w : Table) (n m : Node) (c t : ℕ) (k : ℕ × Placed Parameter) (v : List ℕ) (rs : List Record)
-    (there : get_elem? (parameters w) k.0 ≡ some k.1) where
+    (there : slice_get (parameters w) k.0 ≡ Some k.1) where
   abbrev value : Value
   value = showing v t
 
@@ -467,7 +467,7 @@ not_update d r x h e = true≢false (ap is_update e ∙ h)
 abbrev ToActives : Table → Node → Outcome → Type 0
 ToActives w n o = (d : ℕ) (r : DataReport) → Memᴰ (update d r) (before o) → ToActive w (node_after n o) d r
 
-to_active : (w : Table) (m : Node) (k : ℕ) (p : Placed Parameter) (d : ℕ) (r : DataReport) → get_elem? (parameters w) k ≡ some p
+to_active : (w : Table) (m : Node) (k : ℕ) (p : Placed Parameter) (d : ℕ) (r : DataReport) → slice_get (parameters w) k ≡ Some p
     → r ≡ report_of p (m.values k) → is_active (m.clients d) p.home ≡ true → ToActive w m d r
 to_active w m k p d r t e h =
     record { k = k; p = p; there = t; tells = e; is_active = h; is_open = active_open (m.clients d) p.home h }
@@ -477,20 +477,20 @@ still_active : (w : Table) (m : Node) (rs : List Record) (d : ℕ) (r : DataRepo
 still_active w m rs d r h = to_active w (counting m rs) h.k h.p d r h.there h.tells h.is_active
 
 -- of a setting
-set_active : (w : Table) (n : Node) (k : ℕ) (p : Placed Parameter) (x : Value) → get_elem? (parameters w) k ≡ some p → (d : ℕ) (r : DataReport)
+set_active : (w : Table) (n : Node) (k : ℕ) (p : Placed Parameter) (x : Value) → slice_get (parameters w) k ≡ Some p → (d : ℕ) (r : DataReport)
     → Memᴰ (update d r) (updates_to n.clients p.home (report_of p x) client_numbers) → ToActive w (with_value n k x) d r
 set_active w n k p x t d r l =
     let h = updates_to_member n.clients p.home (report_of p x) client_numbers d r l in
     to_active w (with_value n k x) k p d r t (h.0 ∙ ap (report_of p) (sym (put_at n.values k x))) h.1
 
 -- of a change, with the status that it sets first
-sets_active : (w : Table) (n : Node) (now : ℕ) (k : ℕ × Placed Parameter) (v : List ℕ) → get_elem? (parameters w) k.0 ≡ some k.1
+sets_active : (w : Table) (n : Node) (now : ℕ) (k : ℕ × Placed Parameter) (v : List ℕ) → slice_get (parameters w) k.0 ≡ Some k.1
     → (o : Option (ℕ × Placed Parameter)) → status_of w k.1 ≡ o → (d : ℕ) (r : DataReport)
     → Memᴰ (update d r) (busy_updates n.clients o now ++ updates_to n.clients k.1.home (report_of k.1 (showing v now)) client_numbers)
     → ToActive w (with_settings n (busy_settings o now ++ (record { parameter = k.0; held = valued v; time = now } ∷ []))) d r
 unfolding busy_updates busy_settings
-sets_active w n now k v h none e d r l = set_active w n k.0 k.1 (showing v now) h d r l
-sets_active w n now k v h (some s) e d r l =
+sets_active w n now k v h None e d r l = set_active w n k.0 k.1 (showing v now) h d r l
+sets_active w n now k v h (Some s) e d r l =
     let i = status_is w k.1 s e in
     let m : Node = with_value n s.0 (showing busy now) in
     ⊎_elim

@@ -1,10 +1,9 @@
 -- What a call sets is all that alters a value. Assumes nothing.
+use Rattle.std.specs.Prelude.{Option, Some, None, slice_get}
 use Prim.Native.Nat.{ℕ, zero, suc}
 use mathlib.Core.Bool.{Bool, true, false}
 use mathlib.Core.List.{List}
-use mathlib.Core.Option.{Option, none, some}
 use mathlib.Core.Path.{◌≡◌, refl}
-use lib.ListN.{get_elem?}
 use Rattle.table.specs.Table.{Parameter, Table}
 use Rattle.table.specs.Layout.{table_of}
 use Rattle.table.specs.Search.{Placed, parameters}
@@ -52,23 +51,23 @@ ended_all w n c t true = parts_all w _ c t _
 reading_all : (n : Node) (k : ℕ) (o : Option (Placed Parameter)) (bs : List ℕ) (t : ℕ)
     → (reading_effect n k o bs t).next.values ≡ set_values n.values (reading_effect n k o bs t).settings
 unfolding reading_effect driver_effect
-reading_all n k none bs t = refl
-reading_all n k (some p) bs t = refl
+reading_all n k None bs t = refl
+reading_all n k (Some p) bs t = refl
 
 unreadable_all : (n : Node) (k : ℕ) (o : Option (Placed Parameter)) (x : Option Fault) (t : ℕ)
     → (unreadable_effect n k o x t).next.values ≡ set_values n.values (unreadable_effect n k o x t).settings
 unfolding unreadable_effect driver_effect
-unreadable_all n k none x t = refl
-unreadable_all n k (some p) none t = refl
-unreadable_all n k (some p) (some f) t = refl
+unreadable_all n k None x t = refl
+unreadable_all n k (Some p) None t = refl
+unreadable_all n k (Some p) (Some f) t = refl
 
 effect_all : (w : Table) (n : Node) (e : Event) → (effect w n e).next.values ≡ set_values n.values (effect w n e).settings
 unfolding effect piece_effect
 effect_all w n (Open c t) = refl
 effect_all w n (Close c t) = refl
 effect_all w n (Piece c bs t) = ended_all w _ c t _
-effect_all w n (Reading p bs t) = reading_all n p (get_elem? (parameters w) p) bs t
-effect_all w n (Unreadable p k t) = unreadable_all n p (get_elem? (parameters w) p) (fault_of k) t
+effect_all w n (Reading p bs t) = reading_all n p (slice_get (parameters w) p) bs t
+effect_all w n (Unreadable p k t) = unreadable_all n p (slice_get (parameters w) p) (fault_of k) t
 
 pub settings_are_all : SettingsAreAll
 unfolding step step_if settle settings_if settled

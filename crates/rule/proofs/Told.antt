@@ -1,9 +1,9 @@
 -- Kinds of replies, and the modules in scope. Assumes nothing.
+use Rattle.std.specs.Prelude.{Option}
 use Prim.Native.Nat.{ℕ, ◌≤◌}
 use native.Mathlib.Omega.{arith}
 use mathlib.Core.Bool.{Bool}
 use mathlib.Core.List.{List}
-use mathlib.Core.Option.{Option}
 use mathlib.Core.Path.{◌≡◌, refl, sym, ap, fun_ext}
 use Rattle.table.specs.Table.{Table}
 use Rattle.message.specs.Request.{Request}

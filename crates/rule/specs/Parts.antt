@@ -1,7 +1,5 @@
 -- Part of a struct (M-113), in its own words: which member of what a change stores comes from where. Assumes nothing.
-use Rattle.std.specs.Prelude.{ℕ, ◌≤◌, Bool, true, false, List, ◌⊎◌, ◌≡◌, length}
-use Rattle.std.proofs.Math.Option.{none, some}
-use Rattle.std.proofs.Math.ListN.{get_elem?}
+use Rattle.std.specs.Prelude.{ℕ, ◌≤◌, Bool, true, false, List, ◌⊎◌, ◌≡◌, length, Some, None, slice_get}
 use Rattle.ascii.specs.Bytes.{any, count, same}
 use Rattle.json_text.specs.Json as Json
 use Rattle.json_text.specs.Json.{Members, text, compact}
@@ -28,7 +26,7 @@ pub record LeftOut (fs : Fields) (ms : Members) (k : List ℕ) : Type 0 where
 
 -- a member of the struct, with its datainfo, is given
 pub record Given (fs : Fields) (ms : Members) (k : List ℕ) (d : Datainfo) : Type 0 where
-  pub asked : field_of k fs ≡ some d
+  pub asked : field_of k fs ≡ Some d
   pub there : is_among (keys ms) k ≡ true
 
 -- What a change has to give, where a value is shown: members only, each of them once, with values that fit; and "A change may leave optional members out".
@@ -73,17 +71,17 @@ module _ (n : Node) (k : ℕ) (p : Placed Parameter) (optional : List (List ℕ)
 
 -- a text that is no object
 abbrev pub NoObject : List ℕ → Type 0
-NoObject xs = (ms : Members) → text xs ≡ some (Json.object ms) → ⊥
+NoObject xs = (ms : Members) → text xs ≡ Some (Json.object ms) → ⊥
 
 pub record PartsAreMerged : Type 0 where
   -- of every node that is sound, as all of a history are (`sound::always_sound`)
-  pub changes : (w : Table) (n : Node) → Sound w n → (k : ℕ) (p : Placed Parameter) → get_elem? (parameters w) k ≡ some p
-      → (optional : List (List ℕ)) (fs : Fields) → p.it.datainfo ≡ partial optional fs → (xs : List ℕ) (ms : Members) → text xs ≡ some (Json.object ms)
+  pub changes : (w : Table) (n : Node) → Sound w n → (k : ℕ) (p : Placed Parameter) → slice_get (parameters w) k ≡ Some p
+      → (optional : List (List ℕ)) (fs : Fields) → p.it.datainfo ≡ partial optional fs → (xs : List ℕ) (ms : Members) → text xs ≡ Some (Json.object ms)
       → ChangedInPart n k p optional fs xs ms
   -- "Elsewhere (inside values, arguments, readings, initial values) all are required": the value rule itself, and that of texts
   pub elsewhere : (optional : List (List ℕ)) (fs : Fields) (ms : Members) (j : List ℕ) → LeftOut fs ms j
       → (fit (partial optional fs) (Json.object ms) ≡ wrongType)
-      × ((xs : List ℕ) → text xs ≡ some (Json.object ms) → verdict (partial optional fs) xs ≡ wrongType)
+      × ((xs : List ℕ) → text xs ≡ Some (Json.object ms) → verdict (partial optional fs) xs ≡ wrongType)
   -- nothing else is merged: of any other type, and of any other text, a change is judged and stored as ever
-  pub others : (values : ℕ → Value) (k : ℕ × Placed Parameter) (xs : List ℕ) → (as_partial k.1.it.datainfo ≡ none) ⊎ NoObject xs
+  pub others : (values : ℕ → Value) (k : ℕ × Placed Parameter) (xs : List ℕ) → (as_partial k.1.it.datainfo ≡ None) ⊎ NoObject xs
       → (judged_at values k xs ≡ verdict k.1.it.datainfo xs) × (stored_at values k xs ≡ stored_form k.1.it.datainfo xs)

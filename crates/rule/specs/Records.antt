@@ -1,6 +1,5 @@
 -- What each client is sent among records. Assumes nothing.
-use Rattle.std.specs.Prelude.{ℕ, suc, ◌+◌, Bool, true, false, cond, not, ◌&&◌, ◌||◌, List, [], ◌∷◌, ◌++◌, eqb, ltb, length, take}
-use Rattle.std.proofs.Math.Option.{Option, none, some}
+use Rattle.std.specs.Prelude.{ℕ, suc, ◌+◌, Bool, true, false, cond, not, ◌&&◌, ◌||◌, List, [], ◌∷◌, ◌++◌, eqb, ltb, length, take, Option, Some, None}
 use Rattle.ascii.specs.Bytes.{is_some}
 use Rattle.table.specs.Table.{Parameter, Module, Table}
 use Rattle.table.specs.Search.{Placed, find_module}
@@ -41,17 +40,17 @@ feeds_used d (Unreadable p k t) r = 0
 
 -- the modules that `active M` or `inactive M` names, by number; with no name, all
 unfoldable pub number_is : Option (ℕ × Module) → ℕ → Bool
-number_is none i = false
-number_is (some x) i = eqb i x.0
+number_is None i = false
+number_is (Some x) i = eqb i x.0
 
 unfoldable pub in_scope_of : Table → Option (List ℕ) → ℕ → Bool
-in_scope_of w none i = true
-in_scope_of w (some m) i = number_is (find_module w m) i
+in_scope_of w None i = true
+in_scope_of w (Some m) i = number_is (find_module w m) i
 
 -- no module is named, or one that is there
 unfoldable pub is_there : Table → Option (List ℕ) → Bool
-is_there w none = true
-is_there w (some m) = is_some (find_module w m)
+is_there w None = true
+is_there w (Some m) = is_some (find_module w m)
 
 -- the parameters of the modules that are wanted, with their values, in table order; the first has the number k
 unfoldable pub reports_of : (ℕ → Bool) → (ℕ → Value) → ℕ → List (Placed Parameter) → List DataReport
@@ -60,8 +59,8 @@ reports_of wanted values k (p ∷ ps) = cond (wanted p.home) (report_of p (value
 
 -- what a client is sent of a status that is set to busy at a time (M-100): one update, if it has the status's module active
 unfoldable pub busy_reports : Client → Option (ℕ × Placed Parameter) → ℕ → List DataReport
-busy_reports x none t = []
-busy_reports x (some s) t = cond (is_active x s.1.home) (report_of s.1 (showing busy t) ∷ []) []
+busy_reports x None t = []
+busy_reports x (Some s) t = cond (is_active x s.1.home) (report_of s.1 (showing busy t) ∷ []) []
 
 -- whether module i is active after these replies, where it was so before or not: `active` adds, `inactive` takes away
 unfoldable pub active_by : Table → ℕ → Bool → List Reply → Bool

@@ -1,10 +1,8 @@
 -- The user's rule: whoever activates a module is sent its updates and nobody else is; whoever sends a line gets one reply to it and
 -- nobody else does; a change that is refused alters nothing for anyone. Each statement is of every single call, on every table and node; a list is
 -- its single readings (`lists::lists_are_readings`). Assumes nothing.
-use Rattle.std.specs.Prelude.{ℕ, suc, ◌<◌, ◌≤◌, Bool, true, false, cond, ◌⊎◌, ◌≡◌, length}
+use Rattle.std.specs.Prelude.{ℕ, suc, ◌<◌, ◌≤◌, Bool, true, false, cond, ◌⊎◌, ◌≡◌, length, Option, Some, None, slice_get}
 use mathlib.Core.List.{List, [], ◌∷◌, ◌++◌, Memᴰ}
-use Rattle.std.proofs.Math.Option.{Option, none, some}
-use Rattle.std.proofs.Math.ListN.{get_elem?}
 use Rattle.fit.specs.Fit.{Verdict, fits, rangeError, wrongType, badJSON, verdict, is_fit, stored_form}
 use Rattle.ascii.specs.Text.{bytes}
 use Rattle.ascii.specs.Bytes.{is_some}
@@ -30,7 +28,7 @@ use Rattle.rule.specs.Records.{updates_for, replies_for, feeds_used, in_scope_of
 pub record ToActive (w : Table) (n : Node) (d : ℕ) (r : DataReport) : Type 0 where
   pub k : ℕ
   pub p : Placed Parameter
-  pub there : get_elem? (parameters w) k ≡ some p
+  pub there : slice_get (parameters w) k ≡ Some p
   pub tells : r ≡ report_of p (n.values k)
   pub is_active : is_active (n.clients d) p.home ≡ true
   pub is_open : is_open (n.clients d) ≡ true
@@ -42,7 +40,7 @@ UpdatesGoToActiveClients = (table : List ℕ) (n : Node) (e : Call) (d : ℕ) (r
 -- Parameter k, which is p, was set to v, a value or an error, and nothing else was: each client that has its module active is sent one update that tells
 -- of it, and no other client any.
 pub record Set (w : Table) (n m : Node) (k : ℕ) (p : Placed Parameter) (v : Value) (rs : List Record) : Type 0 where
-  pub there : get_elem? (parameters w) k ≡ some p
+  pub there : slice_get (parameters w) k ≡ Some p
   pub values : m.values ≡ put n.values k v
   pub updates : (d : ℕ) → d < 8 → updates_for d rs ≡ cond (is_active (m.clients d) p.home) (report_of p v ∷ []) []
   pub nobody : (d : ℕ) → 8 ≤ d → updates_for d rs ≡ []
@@ -64,7 +62,7 @@ ReadingsAreSentToAll = (table : List ℕ) (n : Node) (k : ℕ) (bs : List ℕ) (
 pub record UnreadableSets (w : Table) (n m : Node) (k class t : ℕ) (rs : List Record) : Type 0 where
   pub p : Placed Parameter
   pub f : Fault
-  pub known : fault_of class ≡ some f
+  pub known : fault_of class ≡ Some f
   pub set : Set w n m k p (holding (failed f) t) rs
   pub records : rs ≡ updates_to n.clients p.home (report_of p (holding (failed f) t)) client_numbers
 
@@ -84,7 +82,7 @@ request_of n c bs = request (parts_at n c bs)
 -- driver's order, then the updates of that status, then those of p, each lowest client first, then the reply. Each client that has their module
 -- active is sent one update that tells of the status and then one that tells of p, and no other client any.
 pub record Changed (w : Table) (n m : Node) (c k : ℕ) (p : Placed Parameter) (v : List ℕ) (t : ℕ) (rs : List Record) : Type 0 where
-  pub there : get_elem? (parameters w) k ≡ some p
+  pub there : slice_get (parameters w) k ≡ Some p
   pub values : m.values ≡ put (set_values n.values (busy_settings (status_of w p) t)) k (showing v t)
   pub updates : (d : ℕ) → d < 8
       → updates_for d rs ≡ busy_reports (m.clients d) (status_of w p) t ++ cond (is_active (m.clients d) p.home) (report_of p (showing v t) ∷ []) []
@@ -124,7 +122,7 @@ WhenAsked table n c q P = (bs : List ℕ) (t : ℕ) (lent : Lent) → let r = st
 -- And every good change is made: one of a parameter that is there and is not readonly, by a value that fits, with what it leaves out.
 abbrev pub GoodChangesAreMade : Type 0
 GoodChangesAreMade = (table : List ℕ) (n : Node) (c : ℕ) (m x offered : List ℕ) (k : ℕ) (p : Placed Parameter)
-    → find_parameter (table_of table) m x ≡ some (k, p) → p.it.readonly ≡ false → judged_at n.values (k, p) offered ≡ fits
+    → find_parameter (table_of table) m x ≡ Some (k, p) → p.it.readonly ≡ false → judged_at n.values (k, p) offered ≡ fits
     → WhenAsked table n c (change m x offered) λ t y rs. Changed (table_of table) n y c k p (stored_at n.values (k, p) offered) t rs
 
 -- ## Whoever has the module active has been sent the busy status before the requester is sent `changed` (M-100)
@@ -147,7 +145,7 @@ pub record StatusLeft (n m : Node) (s : ℕ × Placed Parameter) (r : DataReport
 abbrev pub WhenRamped : (List ℕ → Node → Call → ℕ → ℕ × Placed Parameter → DataReport → Type 0) → Type 0
 WhenRamped P = (table : List ℕ) (n : Node) (e : Call) (c : ℕ) (s : ℕ × Placed Parameter) (r : DataReport)
     → Memᴰ (final c (changed r)) (step table n e).1.records
-    → r.accessible ≡ bytes "target" → find_parameter (table_of table) r.module_name (bytes "status") ≡ some s → P table n e c s r
+    → r.accessible ≡ bytes "target" → find_parameter (table_of table) r.module_name (bytes "status") ≡ Some s → P table n e c s r
 
 abbrev pub BusyBeforeChanged : Type 0
 BusyBeforeChanged = WhenRamped λ table n e c s r.
@@ -212,12 +210,12 @@ ActivationsAreOnesOwn = (table : List ℕ) (n : Node) (e : Call) → (step table
 -- A parameter stands in the module that it is said to belong to, by number and by name: no update is filed under another's.
 pub record Belongs (w : Table) (p : Placed Parameter) : Type 0 where
   pub m : Module
-  pub there : get_elem? w.modules p.home ≡ some m
+  pub there : slice_get w.modules p.home ≡ Some m
   pub named : p.module_name ≡ m.name
   pub holds : Memᴰ (parameter p.it) m.accessibles
 
 abbrev pub ParametersBelong : Type 0
-ParametersBelong = (w : Table) (k : ℕ) (p : Placed Parameter) → get_elem? (parameters w) k ≡ some p → Belongs w p
+ParametersBelong = (w : Table) (k : ℕ) (p : Placed Parameter) → slice_get (parameters w) k ≡ Some p → Belongs w p
 
 -- ## Whoever sends a line gets one reply to it and nobody else does
 
@@ -251,7 +249,7 @@ pub record AltersNothing (n m : Node) (rs : List Record) (c : ℕ) (r : Reply) :
 pub record ReadTold (w : Table) (n : Node) (c : ℕ) (bs : List ℕ) (r : DataReport) (rs : List Record) : Type 0 where
   pub k : ℕ
   pub p : Placed Parameter
-  pub there : get_elem? (parameters w) k ≡ some p
+  pub there : slice_get (parameters w) k ≡ Some p
   pub asked : request_of n c bs ≡ read p.module_name p.it.name
   pub tells : r ≡ report_of p (n.values k)
   pub alone : rs ≡ final c (reply r) ∷ []
@@ -270,7 +268,7 @@ read_reply q p (failed f) t = error q.action q.specifier (fault f t)
 -- And every good read is answered: one of a parameter that is there, with what the node holds of it.
 abbrev pub GoodReadsAreAnswered : Type 0
 GoodReadsAreAnswered = (table : List ℕ) (n : Node) (c : ℕ) (m x : List ℕ) (k : ℕ) (p : Placed Parameter)
-    → find_parameter (table_of table) m x ≡ some (k, p) → (bs : List ℕ) (t : ℕ) (lent : Lent)
+    → find_parameter (table_of table) m x ≡ Some (k, p) → (bs : List ℕ) (t : ℕ) (lent : Lent)
     → let r = step table n (record { event = Piece c bs t; lent = lent }) in
     r.1.number ≡ 0 → has_feed bs ≡ true → request_of n c bs ≡ read m x
     → AltersNothing n r.0 r.1.records c (read_reply (parts_at n c bs) p (n.values k).held (n.values k).time)
@@ -281,7 +279,7 @@ pub record CommandOrdered (w : Table) (n : Node) (c : ℕ) (bs : List ℕ) (t : 
   pub k : ℕ
   pub p : Placed Command
   pub offered : List ℕ
-  pub there : get_elem? (commands w) k ≡ some p
+  pub there : slice_get (commands w) k ≡ Some p
   pub asked : request_of n c bs ≡ execute p.module_name p.it.name offered
   pub fitting : argument_verdict p.it.argument offered ≡ fits
   pub tells : r ≡ record { module_name = p.module_name; accessible = p.it.name; held = valued (bytes "null"); time = t }
@@ -303,7 +301,7 @@ pub record Ordered (n m : Node) (c k : ℕ) (p : Placed Command) (offered : List
 
 abbrev pub GoodCommandsAreOrdered : Type 0
 GoodCommandsAreOrdered = (table : List ℕ) (n : Node) (c : ℕ) (m x offered : List ℕ) (k : ℕ) (p : Placed Command)
-    → find_command (table_of table) m x ≡ some (k, p) → argument_verdict p.it.argument offered ≡ fits
+    → find_command (table_of table) m x ≡ Some (k, p) → argument_verdict p.it.argument offered ≡ fits
     → WhenAsked table n c (execute m x offered) λ t y rs. Ordered n y c k p offered t rs
 
 -- ## A change that is refused alters nothing for anyone
@@ -317,15 +315,15 @@ ErrorsAlterNothing = (table : List ℕ) (n : Node) (e : Call) (c : ℕ) (a s : L
 -- And every bad change is refused: one of a parameter that is there, but is readonly, or by a value that doesn't fit, with what it leaves out (M-113). The
 -- error is of the class that comes first in document 01's order.
 unfoldable pub refusal : (readonly : Bool) → Verdict → Option Class
-refusal true v = some ReadOnly
-refusal false fits = none
-refusal false rangeError = some RangeError
-refusal false wrongType = some WrongType
-refusal false badJSON = some BadJSON
+refusal true v = Some ReadOnly
+refusal false fits = None
+refusal false rangeError = Some RangeError
+refusal false wrongType = Some WrongType
+refusal false badJSON = Some BadJSON
 
 abbrev pub BadChangesAreRefused : Type 0
 BadChangesAreRefused = (table : List ℕ) (n : Node) (c : ℕ) (m x offered : List ℕ) (k : ℕ) (p : Placed Parameter)
-    → find_parameter (table_of table) m x ≡ some (k, p) → (e : Class) → refusal p.it.readonly (judged_at n.values (k, p) offered) ≡ some e
+    → find_parameter (table_of table) m x ≡ Some (k, p) → (e : Class) → refusal p.it.readonly (judged_at n.values (k, p) offered) ≡ Some e
     → (bs : List ℕ) (t : ℕ) (lent : Lent) → let r = step table n (record { event = Piece c bs t; lent = lent }) in
     r.1.number ≡ 0 → has_feed bs ≡ true → request_of n c bs ≡ change m x offered
     → AltersNothing n r.0 r.1.records c (error (parts_at n c bs).action (parts_at n c bs).specifier (class e))

@@ -16,7 +16,6 @@
 ghost use Rattle.std.specs.Prelude.{◌≡◌, ◌⊎◌, ◌≤◌, IfOk, get_or};
 ghost use Rattle.script.specs.Clauses.Head.{number_at, FromHead};
 
-use ascii::Unsigned;
 use ascii::numbers::unsigned;
 use input::read_full;
 use std::io;
@@ -37,7 +36,7 @@ fn number_at(head: &[u8; 23], at: usize, k: usize) -> u64
     requires { (at ≤ 23) × (k ≤ 8) }
     ensures { result ≡ number_at head.now at k }
 {
-    let Unsigned::Read(n, _) = unsigned(head, at, k) else {
+    let Some((n, _)) = unsigned(head, at, k) else {
         return 0;
     };
     n
@@ -47,7 +46,7 @@ fn number_at(head: &[u8; 23], at: usize, k: usize) -> u64
 pub fn class_of(bytes: &[u8]) -> u64
     ensures { result ≡ number_at bytes.now 0 8 }
 {
-    let Unsigned::Read(n, _) = unsigned(bytes, 0, 8) else {
+    let Some((n, _)) = unsigned(bytes, 0, 8) else {
         return 0;
     };
     n

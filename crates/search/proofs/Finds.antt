@@ -1,12 +1,12 @@
 -- Laws of searches for parameters and commands by name and by number. Assumes nothing.
+use Rattle.std.specs.Prelude.{Option, Some, None, slice_get}
 use Prim.Native.Nat.{ℕ, zero, suc, ◌+◌, ◌-◌, ◌≤◌, ◌<◌}
 use native.Mathlib.Numerals.{add-one}
 use native.Mathlib.Omega.{arith}
 use mathlib.Core.Path.{◌≡◌, refl, sym, ap, ◌∙◌}
 use mathlib.Core.Bool.{Bool, true, false, cond, not, ◌&&◌}
 use mathlib.Core.List.{List, [], ◌∷◌}
-use mathlib.Core.Option.{Option, none, some}
-use lib.ListN.{length, drop, get_elem?}
+use lib.ListN.{length, drop}
 use borrow.Author.Tests.{not-true, not-false}
 use Rattle.ascii.specs.Bytes.{same}
 use Rattle.ascii.proofs.Lists.{both, same_is}
@@ -19,8 +19,6 @@ use Rattle.table.specs.Clauses.At.{bytes_of, Inside, parameter_of, command_of}
 use Rattle.table.proofs.Accessibles.{in_some}
 use Rattle.table.proofs.Search.{is_named}
 use Rattle.search.specs.declared.cursor.Cursor.{Cursor}
-use Rattle.search.specs.declared.cursor.NextParameter as P
-use Rattle.search.specs.declared.cursor.NextCommand as C
 use Rattle.search.specs.Clauses.Left.{placed, left_from, OnWay, After, FirstIs, Ended, FirstCursor, NextParameterIs, NextCommandIs}
 use Rattle.search.proofs.Lefts.{drop_next}
 use Rattle.search.proofs.Walks.{walk_less}
@@ -29,13 +27,13 @@ use Rattle.search.specs.Clauses.Found.{ParameterFound, CommandFound, ParameterNu
 -- ## Lists
 
 module _ {A : Type 0} where
-  pub drop_at : (n : ℕ) (l : List A) (x : A) (xs : List A) → drop n l ≡ x ∷ xs → get_elem? l n ≡ some x
+  pub drop_at : (n : ℕ) (l : List A) (x : A) (xs : List A) → drop n l ≡ x ∷ xs → slice_get l n ≡ Some x
   drop_at zero [] x xs e = let z : ◌≡◌ {A = ℕ} 0 1 = cc in absurd (omega arith)
   drop_at zero (y ∷ l) x xs e = cc
   drop_at (suc n) [] x xs e = let z : ◌≡◌ {A = ℕ} 0 1 = cc in absurd (omega arith)
   drop_at (suc n) (y ∷ l) x xs e = drop_at n l x xs e
 
-  pub drop_past : (n : ℕ) (l : List A) (k : ℕ) → drop n l ≡ [] → n ≤ k → get_elem? l k ≡ none
+  pub drop_past : (n : ℕ) (l : List A) (k : ℕ) → drop n l ≡ [] → n ≤ k → slice_get l k ≡ None
   drop_past n [] k e h = refl
   drop_past zero (y ∷ l) k e h = let z : ◌≡◌ {A = ℕ} 0 1 = cc in absurd (omega arith)
   drop_past (suc n) (y ∷ l) zero e h = absurd (omega arith)
@@ -55,7 +53,7 @@ module _ {A : Type 0} (of : List Table.Accessible → List A) (l : Table.Table �
   pub record Counted (n : ℕ) (c : Cursor) : Type 0 where
     pub way : OnWay s c
     pub few : n ≤ c.at
-    pub left : left_from of s c ≡ some (drop n (l (table_of s)))
+    pub left : left_from of s c ≡ Some (drop n (l (table_of s)))
 
   pub counted_way : (n : ℕ) (c : Cursor) → Counted n c → OnWay s c
   counted_way n c h = h.way
@@ -68,8 +66,8 @@ module _ {A : Type 0} (of : List Table.Accessible → List A) (l : Table.Table �
       pub counted_at : drop n (l (table_of s)) ≡ placed s e a ∷ b.others
       counted_at = in_some (sym h.left ∙ b.is)
 
-      pub counted_left : left_from of s e ≡ some (drop (n + 1) (l (table_of s)))
-      counted_left = b.left ∙ ap some (sym (drop_next n (l (table_of s)) _ _ counted_at))
+      pub counted_left : left_from of s e ≡ Some (drop (n + 1) (l (table_of s)))
+      counted_left = b.left ∙ ap Some (sym (drop_next n (l (table_of s)) _ _ counted_at))
 
       pub counted_on : After s c e → Counted (n + 1) e
       counted_on x =
@@ -99,14 +97,14 @@ module _ {A : Type 0} (of : List Table.Accessible → List A) (l : Table.Table �
   sought_way n c h = h.counted.way
 
   module _ (n : ℕ) (c : Cursor) (h : Sought n c) where
-    sought_end : Ended of s c → first (is_named name m a) (l (table_of s)) ≡ none
+    sought_end : Ended of s c → first (is_named name m a) (l (table_of s)) ≡ None
     unfolding first_from
     sought_end e = h.finds ∙ rw (counted_end of l s n c h.counted e)
 
     module _ (e : Cursor) (x : A) (b : FirstIs of s c e x) (d : Bool) (hd : d ≡ (same m (bytes_of s e.name) && same a (name x))) where
       -- the search from here on, by what the test says
       abbrev on : List (Placed A) → Bool → Option (ℕ × Placed A)
-      on others d = cond d (some (n, placed s e x)) (first_from (is_named name m a) (suc n) others)
+      on others d = cond d (Some (n, placed s e x)) (first_from (is_named name m a) (suc n) others)
 
       there : drop n (l (table_of s)) ≡ placed s e x ∷ b.others
       there = counted_at of l s n c h.counted e x b
@@ -118,7 +116,7 @@ module _ {A : Type 0} (of : List Table.Accessible → List A) (l : Table.Table �
           ∙ ap (on b.others) (sym hd)
           ∙ ap (λ o. on o d) (sym (drop_next n (l (table_of s)) _ _ there))
 
-      sought_here : d ≡ true → first (is_named name m a) (l (table_of s)) ≡ some (n, record { home = e.modules - 1; module_name = m; it = x })
+      sought_here : d ≡ true → first (is_named name m a) (l (table_of s)) ≡ Some (n, record { home = e.modules - 1; module_name = m; it = x })
       sought_here z =
           let y = both (same m (bytes_of s e.name)) (same a (name x)) (sym hd ∙ z) in
           step ∙ rw (z, same_is m (bytes_of s e.name) y.0)
@@ -135,7 +133,7 @@ module _ {A : Type 0} (of : List Table.Accessible → List A) (l : Table.Table �
 after_room : (s : List ℕ) (c e : Cursor) → After s c e → (n : ℕ) → n ≤ c.at → n + 1 ≤ length s
 after_room s c e a n h = let x = a.later in let y = a.way.fits.within in omega arith
 
-module _ (s : List ℕ) (c : Cursor) (r : P.NextParameter) (hr : NextParameterIs s c r) (q : ParameterAt) (e : Cursor) (z : r ≡ P.TheVariants.At q e) where
+module _ (s : List ℕ) (c : Cursor) (r : Option (ParameterAt × Cursor)) (hr : NextParameterIs s c r) (q : ParameterAt) (e : Cursor) (z : r ≡ Some (q, e)) where
   pub parameter_home : Inside s e.name
   parameter_home = (rw z at hr).after.way.fits.name
 
@@ -151,7 +149,7 @@ module _ (s : List ℕ) (c : Cursor) (r : P.NextParameter) (hr : NextParameterIs
   pub parameter_room : (n : ℕ) → n ≤ c.at → n + 1 ≤ length s
   parameter_room n h = after_room s c e (rw z at hr).after n h
 
-module _ (s : List ℕ) (c : Cursor) (r : C.NextCommand) (hr : NextCommandIs s c r) (q : CommandAt) (e : Cursor) (z : r ≡ C.TheVariants.At q e) where
+module _ (s : List ℕ) (c : Cursor) (r : Option (CommandAt × Cursor)) (hr : NextCommandIs s c r) (q : CommandAt) (e : Cursor) (z : r ≡ Some (q, e)) where
   pub command_home : Inside s e.name
   command_home = (rw z at hr).after.way.fits.name
 
@@ -182,12 +180,12 @@ SoughtParameter s m a n c = Sought parameters_of parameters parameter_name s m a
 abbrev pub SoughtCommand : List ℕ → List ℕ → List ℕ → ℕ → Cursor → Type 0
 SoughtCommand s m a n c = Sought commands_of commands command_name s m a n c
 
-module _ (s m a : List ℕ) (n : ℕ) (c : Cursor) (h : SoughtParameter s m a n c) (r : P.NextParameter) (hr : NextParameterIs s c r) where
-  pub parameter_missing : r ≡ P.TheVariants.End → find_parameter (table_of s) m a ≡ none
+module _ (s m a : List ℕ) (n : ℕ) (c : Cursor) (h : SoughtParameter s m a n c) (r : Option (ParameterAt × Cursor)) (hr : NextParameterIs s c r) where
+  pub parameter_missing : r ≡ None → find_parameter (table_of s) m a ≡ None
   unfolding find_parameter
   parameter_missing z = sought_end parameters_of parameters parameter_name s m a n c h (rw z at hr)
 
-  module _ (q : ParameterAt) (e : Cursor) (z : r ≡ P.TheVariants.At q e) (d : Bool) (hd : d ≡ (same m (bytes_of s e.name) && same a (bytes_of s q.name))) where
+  module _ (q : ParameterAt) (e : Cursor) (z : r ≡ Some (q, e)) (d : Bool) (hd : d ≡ (same m (bytes_of s e.name) && same a (bytes_of s q.name))) where
     pub parameter_is : d ≡ true → ParameterFound s m a n (e.modules - 1) q
     unfolding find_parameter parameter_of
     parameter_is y = let x = rw z at hr in record { held = x.held; is = sought_here parameters_of parameters parameter_name s m a n c h e _ x.first d hd y }
@@ -196,12 +194,12 @@ module _ (s m a : List ℕ) (n : ℕ) (c : Cursor) (h : SoughtParameter s m a n 
     unfolding parameter_of
     parameter_on y = let x = rw z at hr in sought_on parameters_of parameters parameter_name s m a n c h e _ x.first d hd y x.after
 
-module _ (s m a : List ℕ) (n : ℕ) (c : Cursor) (h : SoughtCommand s m a n c) (r : C.NextCommand) (hr : NextCommandIs s c r) where
-  pub command_missing : r ≡ C.TheVariants.End → find_command (table_of s) m a ≡ none
+module _ (s m a : List ℕ) (n : ℕ) (c : Cursor) (h : SoughtCommand s m a n c) (r : Option (CommandAt × Cursor)) (hr : NextCommandIs s c r) where
+  pub command_missing : r ≡ None → find_command (table_of s) m a ≡ None
   unfolding find_command
   command_missing z = sought_end commands_of commands command_name s m a n c h (rw z at hr)
 
-  module _ (q : CommandAt) (e : Cursor) (z : r ≡ C.TheVariants.At q e) (d : Bool) (hd : d ≡ (same m (bytes_of s e.name) && same a (bytes_of s q.name))) where
+  module _ (q : CommandAt) (e : Cursor) (z : r ≡ Some (q, e)) (d : Bool) (hd : d ≡ (same m (bytes_of s e.name) && same a (bytes_of s q.name))) where
     pub command_is : d ≡ true → CommandFound s m a n (e.modules - 1) q
     unfolding find_command command_of
     command_is y =
@@ -222,14 +220,14 @@ module _ (s m a : List ℕ) (n : ℕ) (c : Cursor) (h : SoughtCommand s m a n c)
 
 -- ## One law for each way through a search by number
 
-module _ (s : List ℕ) (k n : ℕ) (c : Cursor) (h : Counted parameters_of parameters s n c) (r : P.NextParameter) (hr : NextParameterIs s c r) where
-  pub number_end : r ≡ P.TheVariants.End → drop n (parameters (table_of s)) ≡ []
+module _ (s : List ℕ) (k n : ℕ) (c : Cursor) (h : Counted parameters_of parameters s n c) (r : Option (ParameterAt × Cursor)) (hr : NextParameterIs s c r) where
+  pub number_end : r ≡ None → drop n (parameters (table_of s)) ≡ []
   number_end z = counted_end parameters_of parameters s n c h (rw z at hr)
 
-  pub number_missing : r ≡ P.TheVariants.End → n ≤ k → get_elem? (parameters (table_of s)) k ≡ none
+  pub number_missing : r ≡ None → n ≤ k → slice_get (parameters (table_of s)) k ≡ None
   number_missing z l = drop_past n (parameters (table_of s)) k (number_end z) l
 
-  module _ (q : ParameterAt) (e : Cursor) (z : r ≡ P.TheVariants.At q e) where
+  module _ (q : ParameterAt) (e : Cursor) (z : r ≡ Some (q, e)) where
     pub number_is_lem : n ≡ k → ParameterNumbered s k q e
     number_is_lem y = let x = rw z at hr in
         rw (← y)

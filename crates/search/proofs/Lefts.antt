@@ -1,11 +1,11 @@
 -- Laws of what is left of a table's accessibles at a cursor, one for each way through a function that reads a record. Assumes nothing.
+use Rattle.std.specs.Prelude.{Option, Some, None}
 use Prim.Native.Nat.{ℕ, zero, suc, ◌+◌, ◌-◌, ◌≤◌, ◌<◌}
 use native.Mathlib.Numerals.{add-one}
 use native.Mathlib.Omega.{arith}
 use mathlib.Core.Path.{◌≡◌, refl, sym, ap, ◌∙◌}
 use mathlib.Core.Bool.{Bool, true, false, cond, not, false≢true}
 use mathlib.Core.List.{List, [], ◌∷◌, ◌++◌, map}
-use mathlib.Core.Option.{Option, none, some}
 use lib.ListN.{length, drop}
 use lib.Dec.{eqb}
 use borrow.Author.Tests.{eq-eqb, ne_eqb, not-true, not-false}
@@ -19,9 +19,7 @@ use Rattle.table.specs.declared.layout.ParameterAt.{ParameterAt}
 use Rattle.table.specs.declared.layout.CommandAt.{CommandAt}
 use Rattle.table.specs.declared.layout.Accessible as A
 use Rattle.table.specs.declared.layout.ModuleAt.{ModuleAt}
-use Rattle.table.specs.declared.layout.Heading as H
 use Rattle.table.specs.declared.layout.HeadAt.{HeadAt}
-use Rattle.table.specs.declared.layout.Head as Head
 use Rattle.table.specs.Clauses.At.{bytes_of, texts_at, accessible_begins, accessible_at, accessibles_from, AccessibleIs, heading_at, module_of, HeadingIs, modules_from, HeadRead}
 use Rattle.table.proofs.Accessibles.{in_some}
 use Rattle.table.proofs.Enough.{before, accessibles_stop, accessibles_more, accessible_less, modules_stop, modules_more, heading_less}
@@ -45,15 +43,15 @@ module _ {A : Type 0} where
 -- a first element that was read before others
 pub record Split {A : Type 0} (a : A) (o : Option (List A × List ℕ)) (l : List A) (x : List ℕ) : Type 0 where
   pub others : List A
-  pub are : o ≡ some (others, x)
+  pub are : o ≡ Some (others, x)
   pub is : l ≡ a ∷ others
 
-pub split : {A : Type 0} (a : A) (o : Option (List A × List ℕ)) (l : List A) (x : List ℕ) → before a o ≡ some (l, x) → Split a o l x
-split a none l x e = absurd (never e)
-split {A} a (some q) l x e =
+pub split : {A : Type 0} (a : A) (o : Option (List A × List ℕ)) (l : List A) (x : List ℕ) → before a o ≡ Some (l, x) → Split a o l x
+split a None l x e = absurd (never e)
+split {A} a (Some q) l x e =
     let y : a ∷ q.0 ≡ l = ap (λ (z : List A × List ℕ). z.0) (in_some e) in
     let z : q.1 ≡ x = ap (λ (z : List A × List ℕ). z.1) (in_some e) in
-    record { others = q.0; are = ap (λ (w : List ℕ). some (q.0, w)) z; is = sym y }
+    record { others = q.0; are = ap (λ (w : List ℕ). Some (q.0, w)) z; is = sym y }
 
 -- ## Whether an accessible is next
 
@@ -92,11 +90,11 @@ is_next_lem s c e = go (eqb c.modules 0) refl e
     go true z e = absurd (false≢true e)
     go false z e = record { begins = e; tested = z; begun = some_of c.modules z }
 
-left_none : (s : List ℕ) (c : Cursor) → follows s c ≡ false → accessibles_left s c ≡ some ([], drop c.at s)
+left_none : (s : List ℕ) (c : Cursor) → follows s c ≡ false → accessibles_left s c ≡ Some ([], drop c.at s)
 unfolding follows accessibles_left
 left_none s c e = go (eqb c.modules 0) e
   where
-    go : (b : Bool) → cond b false (accessible_begins (drop c.at s)) ≡ false → cond b (some ([], drop c.at s)) (accessibles_from s c.at) ≡ some ([], drop c.at s)
+    go : (b : Bool) → cond b false (accessible_begins (drop c.at s)) ≡ false → cond b (Some ([], drop c.at s)) (accessibles_from s c.at) ≡ Some ([], drop c.at s)
     go true e = refl
     go false e = accessibles_stop s c.at e
 
@@ -109,7 +107,7 @@ left_more s c f = let n = is_next_lem s c f in rw n.tested (accessibles_more s c
 module _ {A : Type 0} (of : List Table.Accessible → List A) (s : List ℕ) (c : Cursor) where
   -- the modules that follow a module's accessibles xs, and what is left with them
   abbrev pub with_modules : List Table.Accessible → Option (List Table.Module × List ℕ) → Option (List (Placed A))
-  with_modules xs o = o >>= λ y. some (map (placed s c) (of xs) ++ placed_from of c.modules y.0)
+  with_modules xs o = o >>= λ y. Some (map (placed s c) (of xs) ++ placed_from of c.modules y.0)
 
   abbrev pub with_rest : Option (List Table.Accessible × List ℕ) → Option (List (Placed A))
   with_rest o = o >>= λ x. with_modules x.0 (modules_at (length s) (length x.1) x.1)
@@ -122,14 +120,14 @@ module _ {A : Type 0} (of : List Table.Accessible → List A) (s : List ℕ) (c 
 abbrev pub whole : (s : List ℕ) (c : Cursor) → OnWay s c → List (Placed Table.Accessible)
 whole s c h = map (placed s c) h.own ++ placed_from accessibles_of c.modules (drop c.modules (table_of s).modules)
 
-pub way_left : (s : List ℕ) (c : Cursor) (h : OnWay s c) → left_from accessibles_of s c ≡ some (whole s c h)
+pub way_left : (s : List ℕ) (c : Cursor) (h : OnWay s c) → left_from accessibles_of s c ≡ Some (whole s c h)
 way_left s c h = left_as accessibles_of s c ∙ rw (h.reads, h.follow)
 
 -- the same in the latest module, from position j on
 abbrev pub moved : Cursor → ℕ → Cursor
 moved c j = record { at = j; modules = c.modules; name = c.name }
 
-module _ (s : List ℕ) (c : Cursor) (f : follows s c ≡ true) (a : Table.Accessible) (j : ℕ) (e : accessible_at (length s) (drop c.at s) ≡ some (a, drop j s)) where
+module _ (s : List ℕ) (c : Cursor) (f : follows s c ≡ true) (a : Table.Accessible) (j : ℕ) (e : accessible_at (length s) (drop c.at s) ≡ Some (a, drop j s)) where
   n : Next s c
   n = is_next_lem s c f
 
@@ -140,21 +138,21 @@ module _ (s : List ℕ) (c : Cursor) (f : follows s c ≡ true) (a : Table.Acces
   unfolding accessibles_left
   left_moved = rw n.tested
 
-  past_begins : (l : List (Placed Table.Accessible)) → left_from accessibles_of s c ≡ some l → FirstIs accessibles_of s c (moved c j) a
+  past_begins : (l : List (Placed Table.Accessible)) → left_from accessibles_of s c ≡ Some l → FirstIs accessibles_of s c (moved c j) a
   past_begins l w = go (accessibles_from s j) refl (sym (left_as accessibles_of s c ∙ ap (with_rest accessibles_of s c) left_one) ∙ w)
     where
-      second : (xs : List Table.Accessible) (r : List ℕ) → accessibles_from s j ≡ some (xs, r) → (o : Option (List Table.Module × List ℕ)) → modules_at (length s) (length r) r ≡ o → with_modules accessibles_of s c (a ∷ xs) o ≡ some l → FirstIs accessibles_of s c (moved c j) a
-      second xs r u none v z = absurd (never z)
-      second xs r u (some y) v z =
+      second : (xs : List Table.Accessible) (r : List ℕ) → accessibles_from s j ≡ Some (xs, r) → (o : Option (List Table.Module × List ℕ)) → modules_at (length s) (length r) r ≡ o → with_modules accessibles_of s c (a ∷ xs) o ≡ Some l → FirstIs accessibles_of s c (moved c j) a
+      second xs r u None v z = absurd (never z)
+      second xs r u (Some y) v z =
           record {
             others = map (placed s c) xs ++ placed_from accessibles_of c.modules y.0;
             is = w ∙ sym z;
             left = left_as accessibles_of s (moved c j) ∙ ap (with_rest accessibles_of s (moved c j)) (left_moved ∙ u) ∙ ap (with_modules accessibles_of s (moved c j) xs) v;
           }
 
-      go : (o : Option (List Table.Accessible × List ℕ)) → accessibles_from s j ≡ o → with_rest accessibles_of s c (before a o) ≡ some l → FirstIs accessibles_of s c (moved c j) a
-      go none u z = absurd (never z)
-      go (some x) u z = second x.0 x.1 u (modules_at (length s) (length x.1) x.1) refl z
+      go : (o : Option (List Table.Accessible × List ℕ)) → accessibles_from s j ≡ o → with_rest accessibles_of s c (before a o) ≡ Some l → FirstIs accessibles_of s c (moved c j) a
+      go None u z = absurd (never z)
+      go (Some x) u z = second x.0 x.1 u (modules_at (length s) (length x.1) x.1) refl z
 
   past_fits : j ≤ length s → Fits s c → Fits s (moved c j)
   past_fits w h =
@@ -183,8 +181,8 @@ module _ (s : List ℕ) (c : Cursor) (f : follows s c ≡ true) (a : Table.Acces
       let m = h.fits.within in
       record { way = past_way w h; later = omega arith; begun = n.begun }
 
-module _ (s : List ℕ) (c : Cursor) (h : OnWay s c) (f : follows s c ≡ true) (r : A.Accessible) (hr : AccessibleIs s r (accessible_at (length s) (drop c.at s))) where
-  pub record_parameter : (q : ParameterAt) → r ≡ A.TheVariants.Parameter q → ParameterFirst accessibles_of Table.parameter s c q (moved c q.next)
+module _ (s : List ℕ) (c : Cursor) (h : OnWay s c) (f : follows s c ≡ true) (r : Option A.Accessible) (hr : AccessibleIs s r (accessible_at (length s) (drop c.at s))) where
+  pub record_parameter : (q : ParameterAt) → r ≡ Some (A.TheVariants.Parameter q) → ParameterFirst accessibles_of Table.parameter s c q (moved c q.next)
   record_parameter q e =
       let x = rw e at hr in
       let b = past_begins s c f _ q.next x.is (whole s c h) (way_left s c h) in
@@ -208,7 +206,7 @@ module _ (s : List ℕ) (c : Cursor) (h : OnWay s c) (f : follows s c ≡ true) 
         first = b;
       }
 
-  pub record_command : (q : CommandAt) → r ≡ A.TheVariants.Command q → CommandFirst accessibles_of Table.command s c q (moved c q.next)
+  pub record_command : (q : CommandAt) → r ≡ Some (A.TheVariants.Command q) → CommandFirst accessibles_of Table.command s c q (moved c q.next)
   record_command q e =
       let x = rw e at hr in
       let b = past_begins s c f _ q.next x.is (whole s c h) (way_left s c h) in
@@ -231,20 +229,20 @@ module _ (s : List ℕ) (c : Cursor) (h : OnWay s c) (f : follows s c ≡ true) 
         first = b;
       }
 
-  pub record_bad : r ≡ A.TheVariants.Bad → Ended accessibles_of s c
+  pub record_bad : r ≡ None → Ended accessibles_of s c
   record_bad e = absurd (never (sym (left_as accessibles_of s c ∙ ap (with_rest accessibles_of s c) none_left) ∙ way_left s c h))
     where
-      none_left : accessibles_left s c ≡ none
+      none_left : accessibles_left s c ≡ None
       none_left = left_more s c f ∙ rw (rw e at hr)
 
 -- ## The next module
 
 has_first : {A B : Type 0} (o : Option A) (f : A → Option B) → is_some (o >>= f) ≡ true → is_some o ≡ true
-has_first none f e = absurd (false≢true e)
-has_first (some a) f e = refl
+has_first None f e = absurd (false≢true e)
+has_first (Some a) f e = refl
 
 -- a module's beginning has its mark
-heading_begins : (xs : List ℕ) (m : Table.Module) (r : List ℕ) → heading_at xs ≡ some (m, r) → begins (bytes "MO") xs ≡ true
+heading_begins : (xs : List ℕ) (m : Table.Module) (r : List ℕ) → heading_at xs ≡ Some (m, r) → begins (bytes "MO") xs ≡ true
 unfolding heading_at texts_at begins
 heading_begins xs m r e = has_first (after (bytes "MO") xs) _ (has_first (texts_at (bytes "MO") xs) _ (ap is_some e))
 
@@ -252,27 +250,27 @@ heading_begins xs m r e = has_first (after (bytes "MO") xs) _ (has_first (texts_
 abbrev pub entered : Cursor → ModuleAt → Cursor
 entered c q = record { at = q.next; modules = c.modules + 1; name = q.name }
 
-module _ (s : List ℕ) (c : Cursor) (f : follows s c ≡ false) (h : H.Heading) (hh : HeadingIs s h (heading_at (drop c.at s))) where
+module _ (s : List ℕ) (c : Cursor) (f : follows s c ≡ false) (h : Option ModuleAt) (hh : HeadingIs s h (heading_at (drop c.at s))) where
   -- what is left, read from the modules that follow
   on : left_from accessibles_of s c ≡ with_modules accessibles_of s c [] (modules_from s c.at)
   on = left_as accessibles_of s c ∙ ap (with_rest accessibles_of s c) (left_none s c f)
 
-  pub enter_bad : h ≡ H.TheVariants.Bad → OnWay s c → Ended accessibles_of s c
+  pub enter_bad : h ≡ None → OnWay s c → Ended accessibles_of s c
   unfolding placed_from
   enter_bad e i = go (begins (bytes "MO") (drop c.at s)) refl
     where
-      unread_modules : begins (bytes "MO") (drop c.at s) ≡ true → modules_from s c.at ≡ none
+      unread_modules : begins (bytes "MO") (drop c.at s) ≡ true → modules_from s c.at ≡ None
       unread_modules z = modules_more s c.at z ∙ simp (module_as, rw e at hh)
 
       go : (b : Bool) → begins (bytes "MO") (drop c.at s) ≡ b → Ended accessibles_of s c
       go true z = absurd (never (sym (on ∙ ap (with_modules accessibles_of s c []) (unread_modules z)) ∙ way_left s c i))
       go false z = on ∙ ap (with_modules accessibles_of s c []) (modules_stop s c.at z)
 
-  module _ (q : ModuleAt) (e : h ≡ H.TheVariants.Read q) where
+  module _ (q : ModuleAt) (e : h ≡ Some q) where
     starts : begins (bytes "MO") (drop c.at s) ≡ true
     starts = heading_begins (drop c.at s) _ _ (rw e at hh).is
 
-    first_module : modules_from s c.at ≡ ((accessibles_from s q.next >>= λ x. some (with_them (module_of s q) x)) >>= λ p. before p.0 (modules_at (length s) (length p.1) p.1))
+    first_module : modules_from s c.at ≡ ((accessibles_from s q.next >>= λ x. Some (with_them (module_of s q) x)) >>= λ p. before p.0 (modules_at (length s) (length p.1) p.1))
     first_module = modules_more s c.at starts ∙ rw (module_is s c.at h hh q e)
 
     left_entered : accessibles_left s (entered c q) ≡ accessibles_from s q.next
@@ -286,43 +284,43 @@ module _ (s : List ℕ) (c : Cursor) (f : follows s c ≡ false) (h : H.Heading)
         ∙ sym (left_as accessibles_of s (entered c q) ∙ ap (with_rest accessibles_of s (entered c q)) left_entered)
       where
         numbered : ℕ → ℕ → List Table.Accessible → List Table.Module → Option (List (Placed Table.Accessible))
-        numbered k n xs ms = some (map (λ (a : Table.Accessible). record { home = k; module_name = bytes_of s q.name; it = a }) xs ++ placed_from accessibles_of n ms)
+        numbered k n xs ms = Some (map (λ (a : Table.Accessible). record { home = k; module_name = bytes_of s q.name; it = a }) xs ++ placed_from accessibles_of n ms)
 
         numbers : (k n : ℕ) (xs : List Table.Accessible) (ms : List Table.Module) → k ≡ c.modules → n ≡ suc c.modules → numbered c.modules (suc c.modules) xs ms ≡ numbered k n xs ms
         numbers k n xs ms e u = rw (e, u)
 
         inner : (xs : List Table.Accessible) (o : Option (List Table.Module × List ℕ)) → with_modules accessibles_of s c [] (before (with_accessibles (module_of s q) xs) o) ≡ with_modules accessibles_of s (entered c q) xs o
-        inner xs none = refl
-        inner xs (some y) = numbers (c.modules + 1 - 1) (c.modules + 1) xs y.0 (omega arith) (add-one c.modules)
+        inner xs None = refl
+        inner xs (Some y) = numbers (c.modules + 1 - 1) (c.modules + 1) xs y.0 (omega arith) (add-one c.modules)
 
-        go : (o : Option (List Table.Accessible × List ℕ)) → with_modules accessibles_of s c [] ((o >>= λ x. some (with_them (module_of s q) x)) >>= λ p. before p.0 (modules_at (length s) (length p.1) p.1)) ≡ with_rest accessibles_of s (entered c q) o
-        go none = refl
-        go (some x) = inner x.0 (modules_at (length s) (length x.1) x.1)
+        go : (o : Option (List Table.Accessible × List ℕ)) → with_modules accessibles_of s c [] ((o >>= λ x. Some (with_them (module_of s q) x)) >>= λ p. before p.0 (modules_at (length s) (length p.1) p.1)) ≡ with_rest accessibles_of s (entered c q) o
+        go None = refl
+        go (Some x) = inner x.0 (modules_at (length s) (length x.1) x.1)
 
     module _ (i : OnWay s c) where
       -- where the accessibles of the modules before are at an end, the next module is read
-      here : modules_from s c.at ≡ some (drop c.modules (table_of s).modules, i.left)
+      here : modules_from s c.at ≡ Some (drop c.modules (table_of s).modules, i.left)
       here = let r = ap (λ (x : List Table.Accessible × List ℕ). x.1) (in_some (sym i.reads ∙ left_none s c f)) in rw r at i.follow
 
       -- its own accessibles, and the modules after it
       record Entered : Type 0 where
         pub own : List Table.Accessible
         pub rest : List ℕ
-        pub reads : accessibles_from s q.next ≡ some (own, rest)
-        pub follow : modules_at (length s) (length rest) rest ≡ some (drop (c.modules + 1) (table_of s).modules, i.left)
+        pub reads : accessibles_from s q.next ≡ Some (own, rest)
+        pub follow : modules_at (length s) (length rest) rest ≡ Some (drop (c.modules + 1) (table_of s).modules, i.left)
 
       inside : Entered
       inside = go (accessibles_from s q.next) refl (sym first_module ∙ here)
         where
-          go : (o : Option (List Table.Accessible × List ℕ)) → accessibles_from s q.next ≡ o → ((o >>= λ x. some (with_them (module_of s q) x)) >>= λ p. before p.0 (modules_at (length s) (length p.1) p.1)) ≡ some (drop c.modules (table_of s).modules, i.left) → Entered
-          go none g z = absurd (never z)
-          go (some x) g z =
+          go : (o : Option (List Table.Accessible × List ℕ)) → accessibles_from s q.next ≡ o → ((o >>= λ x. Some (with_them (module_of s q) x)) >>= λ p. before p.0 (modules_at (length s) (length p.1) p.1)) ≡ Some (drop c.modules (table_of s).modules, i.left) → Entered
+          go None g z = absurd (never z)
+          go (Some x) g z =
               let y = split (with_accessibles (module_of s q) x.0) (modules_at (length s) (length x.1) x.1) (drop c.modules (table_of s).modules) i.left z in
               record {
                 own = x.0;
                 rest = x.1;
                 reads = g;
-                follow = y.are ∙ ap (λ (l : List Table.Module). some (l, i.left)) (sym (drop_next c.modules (table_of s).modules _ _ y.is));
+                follow = y.are ∙ ap (λ (l : List Table.Module). Some (l, i.left)) (sym (drop_next c.modules (table_of s).modules _ _ y.is));
               }
 
       entered_home : (n : ℕ) → n ≡ c.modules → HomeIs s n q.name
@@ -351,18 +349,18 @@ module _ (s : List ℕ) (c : Cursor) (f : follows s c ≡ false) (h : H.Heading)
 
 -- ## Before the first module
 
-module _ (s : List ℕ) (g : Readable s) (r : Head.Head) (h : HeadRead s r) where
-  pub first_bad : r ≡ Head.TheVariants.Bad → {c : Cursor} → FirstCursor s c
+module _ (s : List ℕ) (g : Readable s) (r : Option HeadAt) (h : HeadRead s r) where
+  pub first_bad : r ≡ None → {c : Cursor} → FirstCursor s c
   first_bad e = absurd (unread s r h (table_of s) (readable_whole s g) e)
 
-  module _ (q : HeadAt) (e : r ≡ Head.TheVariants.Read q) where
+  module _ (q : HeadAt) (e : r ≡ Some q) where
     abbrev start : Cursor
     start = record { at = q.first; modules = 0; name = record { from = q.first; to = q.first } }
 
     o : Opened s q (table_of s)
     o = opened s r h (table_of s) (readable_whole s g) q e
 
-    all_left : {A : Type 0} (of : List Table.Accessible → List A) → of [] ≡ [] → left_from of s start ≡ some (placed_from of 0 (table_of s).modules)
+    all_left : {A : Type 0} (of : List Table.Accessible → List A) → of [] ≡ [] → left_from of s start ≡ Some (placed_from of 0 (table_of s).modules)
     unfolding accessibles_left
     all_left of z = left_as of s start ∙ rw (o.modules, z)
 

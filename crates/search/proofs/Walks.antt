@@ -1,9 +1,9 @@
 -- Laws of walks over the parameters, or over the commands, that are left at a cursor. Assumes nothing.
+use Rattle.std.specs.Prelude.{Option, Some, None}
 use Prim.Native.Nat.{ℕ, suc, ◌-◌, ◌≤◌, ◌<◌}
 use native.Mathlib.Omega.{arith}
 use mathlib.Core.Path.{◌≡◌, refl, sym, ap, ◌∙◌}
 use mathlib.Core.List.{List, [], ◌∷◌, ◌++◌, map, append_assoc}
-use mathlib.Core.Option.{Option, none, some}
 use lib.ListN.{length}
 use Rattle.ascii.specs.Bytes.{◌>>=◌}
 use Rattle.table.specs.Table as Table
@@ -72,18 +72,18 @@ module _ {A : Type 0} (of : List Table.Accessible → List A) (k : Picks of) whe
   pick_placed n [] = refl
   pick_placed n (m ∷ ms) = pick_append (map (at_home n m.name) m.accessibles) (placed_from accessibles_of (suc n) ms) ∙ rw (pick_one n m.name m.accessibles, pick_placed (suc n) ms)
 
-  pick_left : (s : List ℕ) (c : Cursor) → left_from of s c ≡ (left_from accessibles_of s c >>= λ l. some (pick of l))
-  pick_left s c = left_as of s c ∙ go (accessibles_left s c) ∙ ap (λ o. o >>= λ l. some (pick of l)) (sym (left_as accessibles_of s c))
+  pick_left : (s : List ℕ) (c : Cursor) → left_from of s c ≡ (left_from accessibles_of s c >>= λ l. Some (pick of l))
+  pick_left s c = left_as of s c ∙ go (accessibles_left s c) ∙ ap (λ o. o >>= λ l. Some (pick of l)) (sym (left_as accessibles_of s c))
     where
-      second : (xs : List Table.Accessible) (o : Option (List Table.Module × List ℕ)) → with_modules of s c xs o ≡ (with_modules accessibles_of s c xs o >>= λ l. some (pick of l))
-      second xs none = refl
-      second xs (some y) = ap some (sym (pick_append (map (placed s c) xs) (placed_from accessibles_of c.modules y.0) ∙ rw (pick_one (c.modules - 1) (bytes_of s c.name) xs, pick_placed c.modules y.0)))
+      second : (xs : List Table.Accessible) (o : Option (List Table.Module × List ℕ)) → with_modules of s c xs o ≡ (with_modules accessibles_of s c xs o >>= λ l. Some (pick of l))
+      second xs None = refl
+      second xs (Some y) = ap Some (sym (pick_append (map (placed s c) xs) (placed_from accessibles_of c.modules y.0) ∙ rw (pick_one (c.modules - 1) (bytes_of s c.name) xs, pick_placed c.modules y.0)))
 
-      go : (o : Option (List Table.Accessible × List ℕ)) → with_rest of s c o ≡ (with_rest accessibles_of s c o >>= λ l. some (pick of l))
-      go none = refl
-      go (some x) = second x.0 (modules_at (length s) (length x.1) x.1)
+      go : (o : Option (List Table.Accessible × List ℕ)) → with_rest of s c o ≡ (with_rest accessibles_of s c o >>= λ l. Some (pick of l))
+      go None = refl
+      go (Some x) = second x.0 (modules_at (length s) (length x.1) x.1)
 
-  pick_there : (s : List ℕ) (c : Cursor) (x : List (Placed Table.Accessible)) → left_from accessibles_of s c ≡ some x → left_from of s c ≡ some (pick of x)
+  pick_there : (s : List ℕ) (c : Cursor) (x : List (Placed Table.Accessible)) → left_from accessibles_of s c ≡ Some x → left_from of s c ≡ Some (pick of x)
   pick_there s c x z = pick_left s c ∙ rw z
 
   module _ (s : List ℕ) (c : Cursor) where
@@ -93,7 +93,7 @@ module _ {A : Type 0} (of : List Table.Accessible → List A) (k : Picks of) whe
 
     module _ (e : Cursor) where
       pub picks_on : Goes accessibles_of s c e → Goes of s c e
-      picks_on g = pick_left s e ∙ ap (λ o. o >>= λ l. some (pick of l)) g ∙ sym (pick_left s c)
+      picks_on g = pick_left s e ∙ ap (λ o. o >>= λ l. Some (pick of l)) g ∙ sym (pick_left s c)
 
       module _ (x : Table.Accessible) (b : FirstIs accessibles_of s c e x) where
         pub picks_past : of (x ∷ []) ≡ [] → Goes of s c e

@@ -5,7 +5,7 @@ ghost use Rattle.table.specs.Layout.{Readable};
 ghost use Rattle.search.specs.Clauses.Left.{follows, OnWay, FirstCursor, RecordIs, name_of, NextAccessibleIs, NextParameterIs, NextCommandIs};
 
 use table::layout::{
-    Accessible, CommandAt, Head, Heading, ParameterAt, Part, accessible_at, head_at, heading_at,
+    Accessible, CommandAt, ParameterAt, Part, accessible_at, head_at, heading_at,
     is_accessible,
 };
 
@@ -26,40 +26,12 @@ pub(crate) enum Record {
     End,
 }
 
-// An accessible of either kind, and where its parts lie.
-#[derive(Clone, Copy)]
-pub enum One {
-    Parameter(ParameterAt),
-    Command(CommandAt),
-}
-
-// The next accessible, with the cursor after it.
-#[derive(Clone, Copy)]
-pub enum NextAccessible {
-    At(One, Cursor),
-    End,
-}
-
-// The next parameter, with the cursor after it.
-#[derive(Clone, Copy)]
-pub enum NextParameter {
-    At(ParameterAt, Cursor),
-    End,
-}
-
-// The next command, with the cursor after it.
-#[derive(Clone, Copy)]
-pub(crate) enum NextCommand {
-    At(CommandAt, Cursor),
-    End,
-}
-
 // The cursor before the first module, with no name yet.
 pub fn first_cursor(s: &[u8]) -> Cursor
     requires { Readable s.now }
     ensures { FirstCursor s.now result }
 {
-    let Head::Read(h) = head_at(s) else {
+    let Some(h) = head_at(s) else {
         return Cursor {
             at: 0,
             modules: 0,
@@ -93,7 +65,7 @@ fn enter(s: &[u8], c: Cursor) -> Record
 {
     let at = c.at;
     let modules = c.modules;
-    let Heading::Read(m) = heading_at(s, at) else {
+    let Some(m) = heading_at(s, at) else {
         return Record::End;
     };
     let next = m.next;
@@ -117,7 +89,7 @@ fn next_record(s: &[u8], c: Cursor) -> Record
         return enter(s, c);
     }
     match accessible_at(s, at) {
-        Accessible::Parameter(q) => {
+        Some(Accessible::Parameter(q)) => {
             let next = q.next;
             Record::Parameter(
                 q,
@@ -128,7 +100,7 @@ fn next_record(s: &[u8], c: Cursor) -> Record
                 },
             )
         }
-        Accessible::Command(q) => {
+        Some(Accessible::Command(q)) => {
             let next = q.next;
             Record::Command(
                 q,
@@ -139,22 +111,22 @@ fn next_record(s: &[u8], c: Cursor) -> Record
                 },
             )
         }
-        Accessible::Bad => Record::End,
+        None => Record::End,
     }
 }
 
 // Where the name of an accessible lies.
-pub fn name_of(a: One) -> Part
+pub fn name_of(a: Accessible) -> Part
     ensures { result ≡ name_of a }
 {
     match a {
-        One::Parameter(q) => q.name,
-        One::Command(q) => q.name,
+        Accessible::Parameter(q) => q.name,
+        Accessible::Command(q) => q.name,
     }
 }
 
 // Into the modules that follow.
-pub fn next_accessible(s: &[u8], c: Cursor) -> NextAccessible
+pub fn next_accessible(s: &[u8], c: Cursor) -> Option<(Accessible, Cursor)>
     requires { OnWay s.now c }
     ensures { NextAccessibleIs s.now c result }
 {
@@ -162,23 +134,23 @@ pub fn next_accessible(s: &[u8], c: Cursor) -> NextAccessible
     loop {
         match next_record(s, i) {
             Record::Parameter(q, e) => {
-                return NextAccessible::At(One::Parameter(q), e);
+                return Some((Accessible::Parameter(q), e));
             }
             Record::Command(q, e) => {
-                return NextAccessible::At(One::Command(q), e);
+                return Some((Accessible::Command(q), e));
             }
             Record::Module(e) => {
                 i = e;
             }
             Record::End => {
-                return NextAccessible::End;
+                return None;
             }
         }
     }
 }
 
 // Past commands, and into the modules that follow.
-pub fn next_parameter(s: &[u8], c: Cursor) -> NextParameter
+pub fn next_parameter(s: &[u8], c: Cursor) -> Option<(ParameterAt, Cursor)>
     requires { OnWay s.now c }
     ensures { NextParameterIs s.now c result }
 {
@@ -186,7 +158,7 @@ pub fn next_parameter(s: &[u8], c: Cursor) -> NextParameter
     loop {
         match next_record(s, i) {
             Record::Parameter(q, e) => {
-                return NextParameter::At(q, e);
+                return Some((q, e));
             }
             Record::Command(_, e) => {
                 i = e;
@@ -195,14 +167,14 @@ pub fn next_parameter(s: &[u8], c: Cursor) -> NextParameter
                 i = e;
             }
             Record::End => {
-                return NextParameter::End;
+                return None;
             }
         }
     }
 }
 
 // Past parameters, and into the modules that follow.
-pub(crate) fn next_command(s: &[u8], c: Cursor) -> NextCommand
+pub(crate) fn next_command(s: &[u8], c: Cursor) -> Option<(CommandAt, Cursor)>
     requires { OnWay s.now c }
     ensures { NextCommandIs s.now c result }
 {
@@ -210,7 +182,7 @@ pub(crate) fn next_command(s: &[u8], c: Cursor) -> NextCommand
     loop {
         match next_record(s, i) {
             Record::Command(q, e) => {
-                return NextCommand::At(q, e);
+                return Some((q, e));
             }
             Record::Parameter(_, e) => {
                 i = e;
@@ -219,7 +191,7 @@ pub(crate) fn next_command(s: &[u8], c: Cursor) -> NextCommand
                 i = e;
             }
             Record::End => {
-                return NextCommand::End;
+                return None;
             }
         }
     }

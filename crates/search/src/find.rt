@@ -1,37 +1,15 @@
 // Modules and commands by name, parameters by name and by number, in a table that can be read. Names are compared as they stand.
-ghost use Rattle.std.specs.Prelude.{◌≡◌, ◌&&◌, List, ℕ, ◌≤◌, length};
-ghost use Rattle.std.proofs.Math.Option.{some};
+ghost use Rattle.std.specs.Prelude.{◌≡◌, ◌&&◌, List, ℕ, ◌≤◌, length, Option, Some, None};
 ghost use Rattle.ascii.specs.Bytes.{same};
 ghost use Rattle.table.specs.Table.{Module};
 ghost use Rattle.table.specs.Layout.{Readable, table_of};
 ghost use Rattle.table.specs.Clauses.At.{bytes_of, Inside, modules_from};
 ghost use Rattle.search.specs.Clauses.Found.{FindsFirst, FindsModule, FindsParameter, FindsCommand, NumberedParameter};
 
-use crate::cursor::{NextCommand, NextParameter, first_cursor, next_command, next_parameter};
+use crate::cursor::{Cursor, first_cursor, next_command, next_parameter};
 use ascii::names::compare;
-use table::judge::{Kind, Named, count, is_next, name_at};
-use table::layout::{CommandAt, Head, ParameterAt, Part, head_at};
-
-// A module's number and where its record begins.
-#[derive(Clone, Copy)]
-pub enum FoundModule {
-    At(usize, usize),
-    Nothing,
-}
-
-// A parameter's number among all parameters, its module's number, and where its parts lie.
-#[derive(Clone, Copy)]
-pub enum FoundParameter {
-    At(usize, usize, ParameterAt),
-    Nothing,
-}
-
-// A command's number among all commands, its module's number, and where its parts lie.
-#[derive(Clone, Copy)]
-pub enum FoundCommand {
-    At(usize, usize, CommandAt),
-    Nothing,
-}
+use table::judge::{Kind, count, is_next, name_at};
+use table::layout::{CommandAt, ParameterAt, Part, head_at};
 
 // Whether a part of s is a name. Every search of a module or an accessible compares names here, by the one comparison.
 fn part_is(s: &[u8], p: Part, name: &[u8]) -> bool
@@ -45,32 +23,32 @@ fn part_is(s: &[u8], p: Part, name: &[u8]) -> bool
 }
 
 // The first module of a name among those that follow.
-fn module_from(s: &[u8], at: usize, name: &[u8]) -> FoundModule
+fn module_from(s: &[u8], at: usize, name: &[u8]) -> Option<(usize, usize)>
     requires { at ≤ length s.now }
-    ensures { (ms : List Module) (x : List ℕ) → modules_from s.now at ≡ some (ms, x)
+    ensures { (ms : List Module) (x : List ℕ) → modules_from s.now at ≡ Some (ms, x)
         → FindsFirst s.now name.now result ms x }
 {
     let mut n = 0;
     let mut i = at;
     while is_next(s, i, Kind::Modules) {
-        let Named::Read(p, e) = name_at(s, i, Kind::Modules) else {
-            return FoundModule::Nothing;
+        let Some((p, e)) = name_at(s, i, Kind::Modules) else {
+            return None;
         };
         if part_is(s, p, name) {
-            return FoundModule::At(n, i);
+            return Some((n, i));
         }
         n += 1;
         i = e;
     }
-    FoundModule::Nothing
+    None
 }
 
-pub fn find_module(s: &[u8], name: &[u8]) -> FoundModule
+pub fn find_module(s: &[u8], name: &[u8]) -> Option<(usize, usize)>
     requires { Readable s.now }
     ensures { FindsModule s.now name.now result }
 {
-    let Head::Read(h) = head_at(s) else {
-        return FoundModule::Nothing;
+    let Some(h) = head_at(s) else {
+        return None;
     };
     let first = h.first;
     module_from(s, first, name)
@@ -87,42 +65,42 @@ pub fn are_named(s: &[u8], p: Part, q: Part, module: &[u8], name: &[u8]) -> bool
     part_is(s, q, name)
 }
 
-pub fn find_parameter(s: &[u8], module: &[u8], name: &[u8]) -> FoundParameter
+pub fn find_parameter(s: &[u8], module: &[u8], name: &[u8]) -> Option<(usize, usize, ParameterAt)>
     requires { Readable s.now }
     ensures { FindsParameter s.now «module».now name.now result }
 {
     let mut k = 0;
     let mut c = first_cursor(s);
     loop {
-        let NextParameter::At(q, e) = next_parameter(s, c) else {
-            return FoundParameter::Nothing;
+        let Some((q, e)) = next_parameter(s, c) else {
+            return None;
         };
         let p = e.name;
         let a = q.name;
         if are_named(s, p, a, module, name) {
             let home = e.modules - 1;
-            return FoundParameter::At(k, home, q);
+            return Some((k, home, q));
         }
         k += 1;
         c = e;
     }
 }
 
-pub fn find_command(s: &[u8], module: &[u8], name: &[u8]) -> FoundCommand
+pub fn find_command(s: &[u8], module: &[u8], name: &[u8]) -> Option<(usize, usize, CommandAt)>
     requires { Readable s.now }
     ensures { FindsCommand s.now «module».now name.now result }
 {
     let mut k = 0;
     let mut c = first_cursor(s);
     loop {
-        let NextCommand::At(q, e) = next_command(s, c) else {
-            return FoundCommand::Nothing;
+        let Some((q, e)) = next_command(s, c) else {
+            return None;
         };
         let p = e.name;
         let a = q.name;
         if are_named(s, p, a, module, name) {
             let home = e.modules - 1;
-            return FoundCommand::At(k, home, q);
+            return Some((k, home, q));
         }
         k += 1;
         c = e;
@@ -130,18 +108,18 @@ pub fn find_command(s: &[u8], module: &[u8], name: &[u8]) -> FoundCommand
 }
 
 // The parameter of a number, with the cursor after it.
-pub fn parameter_by_number(s: &[u8], k: usize) -> NextParameter
+pub fn parameter_by_number(s: &[u8], k: usize) -> Option<(ParameterAt, Cursor)>
     requires { Readable s.now }
     ensures { NumberedParameter s.now k result }
 {
     let mut i = 0;
     let mut c = first_cursor(s);
     loop {
-        let NextParameter::At(q, e) = next_parameter(s, c) else {
-            return NextParameter::End;
+        let Some((q, e)) = next_parameter(s, c) else {
+            return None;
         };
         if i == k {
-            return NextParameter::At(q, e);
+            return Some((q, e));
         }
         i += 1;
         c = e;
@@ -153,7 +131,7 @@ pub fn module_count(s: &[u8]) -> usize
     requires { Readable s.now }
     ensures { result ≡ length (table_of s.now).modules }
 {
-    let Head::Read(h) = head_at(s) else {
+    let Some(h) = head_at(s) else {
         return 0;
     };
     let first = h.first;

@@ -1,11 +1,11 @@
 -- When a call is accepted, and that each call does what the items that it used do. Assumes nothing.
+use Rattle.std.specs.Prelude.{slice_get}
 use Prim.Native.Nat.{ℕ, zero, suc, ◌≤◌}
 use mathlib.Core.Bool.{Bool, true, false, cond, not, ◌&&◌, So, and-eq-true_iff, false≢true}
 use mathlib.Core.List.{List, [], ◌∷◌, append-nil}
 use mathlib.Core.Path.{◌≡◌, refl, sym, ◌∙◌, ap, ap₂}
 use mathlib.Core.Logic.{◌↔◌}
 use lib.Dec.{eqb, ltb}
-use lib.ListN.{get_elem?}
 use native.Mathlib.Omega.{arith}
 use borrow.Author.Tests.{eq-eqb, eqb-true, le-ltb, ltb-false}
 use Rattle.ascii.specs.Bytes.{is_some, all}
@@ -52,9 +52,9 @@ module _ (table : List ℕ) where
   readable (opens c t) = true
   readable (closes c t) = true
   readable (reads p bs t) =
-      not (not (is_some (get_elem? (parameters (table_of table)) p)))
-      && not (not (is_fit (reading_verdict (get_elem? (parameters (table_of table)) p) bs)))
-  readable (fails p k t) = not (not (is_some (get_elem? (parameters (table_of table)) p))) && not (not (is_some (fault_of k)))
+      not (not (is_some (slice_get (parameters (table_of table)) p)))
+      && not (not (is_fit (reading_verdict (slice_get (parameters (table_of table)) p) bs)))
+  readable (fails p k t) = not (not (is_some (slice_get (parameters (table_of table)) p))) && not (not (is_some (fault_of k)))
 
   -- what an event needs besides its time
   abbrev pub permitted : Node → Event → Bool
@@ -76,9 +76,9 @@ module _ (table : List ℕ) where
   by_itself n (Close c t) = timed t 10 11 (ltb 7 c) (not (is_open (n.clients c)))
   by_itself n (Piece c bs t) = timed t 10 11 (ltb 7 c) (not (is_open (n.clients c)))
   by_itself n (Reading p bs t) =
-      let x = get_elem? (parameters (table_of table)) p in
+      let x = slice_get (parameters (table_of table)) p in
       timed t 13 14 (not (is_some x)) (not (is_fit (reading_verdict x bs)))
-  by_itself n (Unreadable p k t) = timed t 13 15 (not (is_some (get_elem? (parameters (table_of table)) p))) (not (is_some (fault_of k)))
+  by_itself n (Unreadable p k t) = timed t 13 15 (not (is_some (slice_get (parameters (table_of table)) p))) (not (is_some (fault_of k)))
 
   pub accepts : table_number table ≡ 0 → (n : Node) (e : Call) → (call_number table false n e ≡ 0) ↔ (Roomy e × So (permitted n e.event))
   accepts z n e =

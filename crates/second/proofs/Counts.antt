@@ -1,12 +1,11 @@
 -- Counts are true: item by item, and so of every history. Assumes nothing.
+use Rattle.std.specs.Prelude.{Option, Some, None, slice_get}
 use Prim.Native.Nat.{ℕ, ◌+◌, min}
 use native.Mathlib.Nat.{zero-add, add-zero, add_assoc}
 use mathlib.Core.Bool.{Bool, true, false, cond, ◌||◌}
 use mathlib.Core.List.{List, [], ◌∷◌}
-use mathlib.Core.Option.{Option, none, some}
 use mathlib.Core.Path.{◌≡◌, refl, sym, ap, ◌∙◌}
 use lib.Dec.{eqb}
-use lib.ListN.{get_elem?}
 use borrow.Author.Tests.{eqb-true}
 use Rattle.ascii.proofs.Lists.{neither}
 use Rattle.counter.specs.declared.Counts.{Counts}
@@ -102,19 +101,19 @@ module _ (w : Table) (d : ℕ) where
   after_has n (mark (opens c t)) l e u o h =
       ap (λ (b : Bool). cond b no_counts (n.counts d)) (neither (eqb d c) false o).0 ∙ same n l e u h
   after_has n (mark (closes c t)) l e u o h = same n l e u h
-  after_has n (mark (reads p bs t)) l e u o h = go (get_elem? (parameters w) p)
+  after_has n (mark (reads p bs t)) l e u o h = go (slice_get (parameters w) p)
     where
       go : (x : Option (Placed Parameter)) → let r = reading_effect n p x bs t in
           Has r.next (l + 0) (e + errors_sent d r.records) (u + updates_sent d r.records)
-      go none = same n l e u h
-      go (some q) = driver_has n p q (valued (stored_form q.it.datainfo bs)) t l e u h
-  after_has n (mark (fails p k t)) l e u o h = go (get_elem? (parameters w) p) (fault_of k)
+      go None = same n l e u h
+      go (Some q) = driver_has n p q (valued (stored_form q.it.datainfo bs)) t l e u h
+  after_has n (mark (fails p k t)) l e u o h = go (slice_get (parameters w) p) (fault_of k)
     where
       go : (x : Option (Placed Parameter)) (y : Option Fault) → let r = unreadable_effect n p x y t in
           Has r.next (l + 0) (e + errors_sent d r.records) (u + updates_sent d r.records)
-      go none y = same n l e u h
-      go (some q) none = same n l e u h
-      go (some q) (some f) = driver_has n p q (failed f) t l e u h
+      go None y = same n l e u h
+      go (Some q) None = same n l e u h
+      go (Some q) (Some f) = driver_has n p q (failed f) t l e u h
 
   -- one item, and then the others
   feeds_cons : (i : Item) (x : List Item) → feeds_in d (i ∷ x) ≡ feeds_in d (i ∷ []) + feeds_in d x

@@ -1,8 +1,8 @@
 -- Carrying out a line looks at no client's unfinished line, changes none, and opens or closes nobody. Assumes nothing.
+use Rattle.std.specs.Prelude.{Option, Some, None}
 use Prim.Native.Nat.{ℕ}
 use mathlib.Core.Bool.{Bool, true, false, cond, not, ◌&&◌, ◌||◌}
 use mathlib.Core.List.{List, [], ◌∷◌, ◌++◌}
-use mathlib.Core.Option.{Option, none, some}
 use mathlib.Core.Path.{◌≡◌, refl, ◌∙◌, ap, ap₂, fun_ext}
 use lib.Dec.{eqb, ltb}
 use lib.ListN.{length}
@@ -72,8 +72,8 @@ updates_woven f s i r (c ∷ cs) = rw (active_relined (f c) (s c) i, updates_wov
 busy_woven : (f : ℕ → Client) (s : ℕ → Line) (o : Option (ℕ × Placed Parameter)) (t : ℕ)
     → busy_updates (λ d. relined (f d) (s d)) o t ≡ busy_updates f o t
 unfolding busy_updates
-busy_woven f s none t = refl
-busy_woven f s (some x) t = updates_woven f s x.1.home _ client_numbers
+busy_woven f s None t = refl
+busy_woven f s (Some x) t = updates_woven f s x.1.home _ client_numbers
 
 -- ## Outcomes
 

@@ -1,11 +1,10 @@
 -- The plain node run on items, and why it depends on each client's own items and on the marks alone. Assumes nothing.
+use Rattle.std.specs.Prelude.{Option, Some, None, slice_get}
 use Prim.Native.Nat.{ℕ}
 use mathlib.Core.Bool.{Bool, true, false, cond}
 use mathlib.Core.List.{List, [], ◌∷◌, ◌++◌, tail, append_assoc}
 use mathlib.Core.Path.{◌≡◌, refl, sym, ◌∙◌, ap, ap₂, fun_ext}
-use mathlib.Core.Option.{Option, none, some}
 use lib.Dec.{eqb}
-use lib.ListN.{get_elem?}
 use borrow.Author.Tests.{eq-eqb}
 use Rattle.table.specs.Table.{Parameter, Table}
 use Rattle.table.specs.Search.{Placed, parameters}
@@ -74,8 +73,8 @@ module _ (w : Table) where
   after_mark n s (feeds c t) = told (answer_parts w (with_line n c) c t (parts_of (content (line_of (relined (n.clients c) (s c))))))
   after_mark n s (opens c t) = (opened n c, [])
   after_mark n s (closes c t) = (with_client n c closed, [])
-  after_mark n s (reads p bs t) = out_of (reading_effect n p (get_elem? (parameters w) p) bs t)
-  after_mark n s (fails p k t) = out_of (unreadable_effect n p (get_elem? (parameters w) p) (fault_of k) t)
+  after_mark n s (reads p bs t) = out_of (reading_effect n p (slice_get (parameters w) p) bs t)
+  after_mark n s (fails p k t) = out_of (unreadable_effect n p (slice_get (parameters w) p) (fault_of k) t)
 
   abbrev run_by : Node → (ℕ → List Line) → List Mark → Node × List Record
   run_by n f [] = (weave n (λ d. first_line (f d)), [])
@@ -118,19 +117,19 @@ module _ (w : Table) where
       go (connected k a) l = refl
   after_mark_lem n s (opens c t) = ap (λ (m : Node). (with_count m c no_counts, [])) (weave_put n s c fresh (whole []))
   after_mark_lem n s (closes c t) = λ i. (weave_put n s c closed (whole []) i, [])
-  after_mark_lem n s (reads p bs t) = go (get_elem? (parameters w) p)
+  after_mark_lem n s (reads p bs t) = go (slice_get (parameters w) p)
     where
       go : (o : Option (Placed Parameter)) → out_of (reading_effect (weave n s) p o bs t)
           ≡ (weave (reading_effect n p o bs t).next s, (reading_effect n p o bs t).records)
-      go none = refl
-      go (some q) = after_driver n s p q (valued (stored_form q.it.datainfo bs)) t
-  after_mark_lem n s (fails p k t) = go (get_elem? (parameters w) p) (fault_of k)
+      go None = refl
+      go (Some q) = after_driver n s p q (valued (stored_form q.it.datainfo bs)) t
+  after_mark_lem n s (fails p k t) = go (slice_get (parameters w) p) (fault_of k)
     where
       go : (o : Option (Placed Parameter)) (x : Option Fault) → out_of (unreadable_effect (weave n s) p o x t)
           ≡ (weave (unreadable_effect n p o x t).next s, (unreadable_effect n p o x t).records)
-      go none x = refl
-      go (some q) none = refl
-      go (some q) (some f) = after_driver n s p q (failed f) t
+      go None x = refl
+      go (Some q) None = refl
+      go (Some q) (Some f) = after_driver n s p q (failed f) t
 
   -- the lines that are seen
   lines_byte : (s : ℕ → Line) (c b : ℕ) (x : List Item) → lines (put s c (with_byte (s c) b)) x ≡ lines s (byte c b ∷ x)
@@ -216,17 +215,17 @@ module _ (w : Table) where
       ∙ put_open n c (emptied (n.clients c)) (mark (feeds c t)) (emptied_open (n.clients c)) d
   after_open n (mark (opens c t)) d = put_open n c fresh (mark (opens c t)) refl d
   after_open n (mark (closes c t)) d = put_open n c closed (mark (closes c t)) refl d
-  after_open n (mark (reads p bs t)) d = go (get_elem? (parameters w) p)
+  after_open n (mark (reads p bs t)) d = go (slice_get (parameters w) p)
     where
       go : (o : Option (Placed Parameter)) → is_open ((reading_effect n p o bs t).next.clients d) ≡ is_open (n.clients d)
-      go none = refl
-      go (some q) = refl
-  after_open n (mark (fails p k t)) d = go (get_elem? (parameters w) p) (fault_of k)
+      go None = refl
+      go (Some q) = refl
+  after_open n (mark (fails p k t)) d = go (slice_get (parameters w) p) (fault_of k)
     where
       go : (o : Option (Placed Parameter)) (x : Option Fault) → is_open ((unreadable_effect n p o x t).next.clients d) ≡ is_open (n.clients d)
-      go none x = refl
-      go (some q) none = refl
-      go (some q) (some f) = refl
+      go None x = refl
+      go (Some q) None = refl
+      go (Some q) (Some f) = refl
 
   pub run_open : (x : List Item) (n : Node) (d : ℕ) → is_open ((run n x).0.clients d) ≡ standing (is_open (n.clients d)) (own d x)
   unfolding own standing run_node

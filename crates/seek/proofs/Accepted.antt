@@ -1,10 +1,10 @@
 -- What is known of the accessibles of an accepted table. Assumes nothing.
+use Rattle.std.specs.Prelude.{Option, Some, None}
 use Prim.Native.Nat.{ℕ, ◌≤◌}
 use native.Mathlib.Omega.{arith}
 use mathlib.Core.Path.{◌≡◌}
 use mathlib.Core.Bool.{true, not}
 use mathlib.Core.List.{List}
-use mathlib.Core.Option.{Option, none, some}
 use lib.ListN.{length}
 use borrow.Author.Tests.{not-false}
 use Rattle.table.specs.Table.{Table}
@@ -26,8 +26,8 @@ unfolding table_number table_of number_of or_empty
 table_good s e = go (read_table s) e
   where
     go : (o : Option Table) → number_of o ≡ 0 → (counts_good (or_empty o) ≡ true) × (names_good (or_empty o) ≡ true)
-    go none e = absurd (omega arith)
-    go (some t) e = tree_good t e
+    go None e = absurd (omega arith)
+    go (Some t) e = tree_good t e
 
 pub accepted_few : (s : List ℕ) → table_number s ≡ 0 → length (accessibles (table_of s)) ≤ 64
 accepted_few s e = accessibles_few (table_of s) (table_good s e).0

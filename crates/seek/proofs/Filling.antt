@@ -1,4 +1,5 @@
 -- Laws of filling an index from a table, one for each way through a function. Assumes nothing.
+use Rattle.std.specs.Prelude.{Option, Some, None}
 use Prim.Native.Nat.{ℕ, ◌≤◌, ◌<◌}
 use native.Mathlib.Omega.{arith}
 use mathlib.Core.Path.{◌≡◌, sym, ap, ◌∙◌}
@@ -13,17 +14,17 @@ use Rattle.table.specs.Clauses.At.{bytes_of}
 use Rattle.table.specs.declared.layout.Part.{Part}
 use Rattle.report.specs.Judge.{first_fault, table_number}
 use Rattle.report.proofs.Faults.{first_fault_first}
-use Rattle.search.specs.declared.cursor.One as O
+use Rattle.table.specs.declared.layout.Accessible as O
 use Rattle.search.specs.Clauses.Left.{name_of}
 use Rattle.index.specs.Index.{empty, entered}
 use Rattle.index.specs.Accessibles.{accessibles, start_of, index_of}
 use Rattle.index.proofs.Searches.{there_within}
 use Rattle.index.proofs.Loops.{Filling, filling_start, filling_more, filling_end}
 use Rattle.seek.specs.declared.walk.Walk.{Walk}
-use Rattle.seek.specs.declared.walk.Step as S
 use Rattle.seek.specs.Clauses.Walk.{Passed, There, Begins, StepIs}
 use Rattle.seek.specs.Fill.{fill_number, index_after, Fills}
 use Rattle.seek.proofs.Accepted.{accepted_few}
+use Rattle.table.specs.declared.layout.Accessible.{Accessible}
 
 -- the accessibles that the walk w has passed are in the index xs
 pub record Filled (s : List ℕ) (w : Walk) (xs : List ℕ) : Type 0 where
@@ -42,12 +43,12 @@ unfolding empty
 fill_start s w xs g b e =
     record { passed = b.passed; few = accepted_few s g; filling = rw b.none_yet (filling_start start_of (accessibles (table_of s)) xs (ap length e) e) }
 
-module _ (s : List ℕ) (w : Walk) (xs : List ℕ) (c : Filled s w xs) (r : S.Step) (h : StepIs s w r) where
-  pub fill_end : r ≡ S.TheVariants.End → xs ≡ index_of (table_of s)
+module _ (s : List ℕ) (w : Walk) (xs : List ℕ) (c : Filled s w xs) (r : Option (O.Accessible × Walk)) (h : StepIs s w r) where
+  pub fill_end : r ≡ None → xs ≡ index_of (table_of s)
   unfolding index_of
   fill_end z = filling_end start_of (accessibles (table_of s)) w.accessibles xs c.filling (rw z at h)
 
-  module _ (one : O.One) (v : Walk) (z : r ≡ S.TheVariants.At one v) where
+  module _ (one : O.Accessible) (v : Walk) (z : r ≡ Some (one, v)) where
     here : There s w.accessibles one v
     here = (rw z at h).there
 

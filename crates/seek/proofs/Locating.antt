@@ -1,10 +1,10 @@
 -- Laws of what is located, one for each way through a function. Assumes nothing.
+use Rattle.std.specs.Prelude.{Option, Some, None}
 use Prim.Native.Nat.{ℕ, ◌+◌, ◌-◌, ◌<◌}
 use native.Mathlib.Omega.{arith}
 use mathlib.Core.Path.{◌≡◌, sym, ap, ◌∙◌}
 use mathlib.Core.Bool.{true, ◌&&◌}
 use mathlib.Core.List.{List}
-use mathlib.Core.Option.{Option, none, some}
 use Rattle.ascii.specs.Bytes.{same, is_some}
 use Rattle.ascii.proofs.Lists.{both, same_is}
 use Rattle.table.specs.Table.{Accessible}
@@ -16,8 +16,7 @@ use Rattle.table.specs.declared.layout.ParameterAt.{ParameterAt}
 use Rattle.table.specs.declared.layout.CommandAt.{CommandAt}
 use Rattle.table.proofs.Search.{first_passes}
 use Rattle.report.specs.Judge.{table_number}
-use Rattle.search.specs.declared.cursor.One as O
-use Rattle.search.specs.declared.find.FoundModule as F
+use Rattle.table.specs.declared.layout.Accessible as O
 use Rattle.search.specs.declared.locate.Located as L
 use Rattle.search.specs.Clauses.Left.{placed}
 use Rattle.search.specs.Clauses.Found.{FindsModule, ParameterLocated, CommandLocated, NothingLocated, Locates}
@@ -25,43 +24,42 @@ use Rattle.index.specs.Among.{as_one}
 use Rattle.index.specs.Accessibles.{accessibles, is_named, find_accessible, sought, seek_steps, parameter_in, command_in}
 use Rattle.index.proofs.Accepted.{answers_stand, parameter_meant, command_meant, parameters_are_accessibles, commands_are_accessibles}
 use Rattle.seek.specs.declared.walk.Walk.{Walk}
-use Rattle.seek.specs.declared.walk.Step as S
 use Rattle.seek.specs.declared.look.Sought.{Sought}
 use Rattle.seek.specs.Clauses.Walk.{There, ParameterThere, CommandThere}
-use Rattle.seek.specs.Clauses.Seek.{FoundIs, Finds, Answers, Some, located_as}
+use Rattle.seek.specs.Clauses.Seek.{FoundIs, Finds, Answers, Counted, located_as}
 use Rattle.seek.proofs.Accepted.{accepted_names}
 
 -- ## Counts of what is found
 
-some_there : (s : List ℕ) (k : ℕ) (one : O.One) (v : Walk) → There s k one v → Some (S.TheVariants.At one v)
+some_there : (s : List ℕ) (k : ℕ) (one : O.Accessible) (v : Walk) → There s k one v → Counted (Some (one, v))
 some_there s k (O.TheVariants.Parameter q) v t = (t.begun, t.one.some_passed)
 some_there s k (O.TheVariants.Command q) v t = (t.begun, t.one.some_passed)
 
-some_found : (s : List ℕ) (f : S.Step) (o : Option (ℕ × Placed Accessible)) → Finds s f o → Some f
-some_found s (S.TheVariants.At one v) o h = some_there s h.number one v h.there
-some_found s S.TheVariants.End o h = tt
+some_found : (s : List ℕ) (f : Option (O.Accessible × Walk)) (o : Option (ℕ × Placed Accessible)) → Finds s f o → Counted f
+some_found s (Some (one, v)) o h = some_there s h.number one v h.there
+some_found s None o h = tt
 
-pub sought_some : (s lent m a : List ℕ) (r : Sought) → Answers s r (sought (table_of s) lent m a) → Some r.found
+pub sought_some : (s lent m a : List ℕ) (r : Sought) → Answers s r (sought (table_of s) lent m a) → Counted r.found
 sought_some s lent m a r h = some_found s r.found _ h.finds
 
-module _ (f : S.Step) (h : Some f) (one : O.One) (v : Walk) (z : f ≡ S.TheVariants.At one v) where
+module _ (f : Option (O.Accessible × Walk)) (h : Counted f) (one : O.Accessible) (v : Walk) (z : f ≡ Some (one, v)) where
   pub some_home : 0 < v.cursor.modules
   some_home = go one (rw z at h)
     where
-      go : (a : O.One) → Some (S.TheVariants.At a v) → 0 < v.cursor.modules
+      go : (a : O.Accessible) → Counted (Some (a, v)) → 0 < v.cursor.modules
       go (O.TheVariants.Parameter q) x = x.0
       go (O.TheVariants.Command q) x = x.0
 
   module _ (q : ParameterAt) (y : one ≡ O.TheVariants.Parameter q) where
     pub some_parameter : 0 < v.parameters
-    some_parameter = let x : Some (S.TheVariants.At one v) = rw z at h in (rw y at x).1
+    some_parameter = let x : Counted (Some (one, v)) = rw z at h in (rw y at x).1
 
     pub as_parameter : L.TheVariants.Parameter (v.parameters - 1) (v.cursor.modules - 1) q ≡ located_as f
     as_parameter = rw (z, y)
 
   module _ (q : CommandAt) (y : one ≡ O.TheVariants.Command q) where
     pub some_command : 0 < v.commands
-    some_command = let x : Some (S.TheVariants.At one v) = rw z at h in (rw y at x).1
+    some_command = let x : Counted (Some (one, v)) = rw z at h in (rw y at x).1
 
     pub as_command : L.TheVariants.Command (v.commands - 1) (v.cursor.modules - 1) q ≡ located_as f
     as_command = rw (z, y)
@@ -69,7 +67,7 @@ module _ (f : S.Step) (h : Some f) (one : O.One) (v : Walk) (z : f ≡ S.TheVari
 -- ## What is found is located
 
 module _ (s m a : List ℕ) (g : table_number s ≡ 0) (home : is_some (find_module (table_of s) m) ≡ true) where
-  nothing : find_accessible (table_of s) m a ≡ none → NothingLocated s m a
+  nothing : find_accessible (table_of s) m a ≡ None → NothingLocated s m a
   unfolding as_one
   nothing e =
       record {
@@ -78,7 +76,7 @@ module _ (s m a : List ℕ) (g : table_number s ≡ 0) (home : is_some (find_mod
         command = commands_are_accessibles (table_of s) m a (accepted_names s g) ∙ rw e;
       }
 
-  module _ (k : ℕ) (v : Walk) (it : Accessible) (e : find_accessible (table_of s) m a ≡ some (k, placed s v.cursor it)) where
+  module _ (k : ℕ) (v : Walk) (it : Accessible) (e : find_accessible (table_of s) m a ≡ Some (k, placed s v.cursor it)) where
     abbrev at_home : {A : Type 0} → List ℕ → A → Placed A
     at_home name y = record { home = v.cursor.modules - 1; module_name = name; it = y }
 
@@ -99,7 +97,7 @@ module _ (s m a : List ℕ) (g : table_number s ≡ 0) (home : is_some (find_mod
                 held = t.held;
                 is =
                     parameter_meant (table_of s) m a (accepted_names s g) (v.parameters - 1) _ t.number (rw t.is at named)
-                    ∙ ap (λ (x : List ℕ). some (v.parameters - 1, at_home x (parameter_of s q t.held.datainfo))) (sym module_name_lem);
+                    ∙ ap (λ (x : List ℕ). Some (v.parameters - 1, at_home x (parameter_of s q t.held.datainfo))) (sym module_name_lem);
               };
           command = commands_are_accessibles (table_of s) m a (accepted_names s g) ∙ rw (e, t.is);
         }
@@ -118,7 +116,7 @@ module _ (s m a : List ℕ) (g : table_number s ≡ 0) (home : is_some (find_mod
                 held = t.held;
                 is =
                     command_meant (table_of s) m a (accepted_names s g) (v.commands - 1) _ t.number (rw t.is at named)
-                    ∙ ap (λ (x : List ℕ). some (v.commands - 1, at_home x (command_of s q t.held.argument))) (sym module_name_lem);
+                    ∙ ap (λ (x : List ℕ). Some (v.commands - 1, at_home x (command_of s q t.held.argument))) (sym module_name_lem);
                 next = v.cursor;
                 way = w.passed.way;
                 at = w.next;
@@ -128,25 +126,25 @@ module _ (s m a : List ℕ) (g : table_number s ≡ 0) (home : is_some (find_mod
         }
 
   one_located :
-      (one : O.One) (v : Walk) → FoundIs s one v (find_accessible (table_of s) m a) → Locates s m a (located_as (S.TheVariants.At one v))
+      (one : O.Accessible) (v : Walk) → FoundIs s one v (find_accessible (table_of s) m a) → Locates s m a (located_as (Some (one, v)))
   one_located (O.TheVariants.Parameter q) v f = parameter_located f.number v f.there.it f.is q f.there.one
   one_located (O.TheVariants.Command q) v f = command_located f.number v f.there.it f.is q f.there f.there.one
 
-  found_located : (f : S.Step) → Finds s f (find_accessible (table_of s) m a) → Locates s m a (located_as f)
-  found_located (S.TheVariants.At one v) h = one_located one v h
-  found_located S.TheVariants.End h = nothing h
+  found_located : (f : Option (O.Accessible × Walk)) → Finds s f (find_accessible (table_of s) m a) → Locates s m a (located_as f)
+  found_located (Some (one, v)) h = one_located one v h
+  found_located None h = nothing h
 
 -- ## One law for each way
 
-module _ (s lent m a : List ℕ) (g : table_number s ≡ 0) (r : F.FoundModule) (f : FindsModule s m r) where
-  pub no_module : r ≡ F.TheVariants.Nothing → find_module (table_of s) m ≡ none
+module _ (s lent m a : List ℕ) (g : table_number s ≡ 0) (r : Option (ℕ × ℕ)) (f : FindsModule s m r) where
+  pub no_module : r ≡ None → find_module (table_of s) m ≡ None
   no_module z = rw z at f
 
-  pub no_steps : r ≡ F.TheVariants.Nothing → 0 ≡ seek_steps (table_of s) lent m a
+  pub no_steps : r ≡ None → 0 ≡ seek_steps (table_of s) lent m a
   unfolding seek_steps
   no_steps z = rw (no_module z)
 
-  module _ {n i : ℕ} (z : r ≡ F.TheVariants.At n i) (w : Sought) (h : Answers s w (sought (table_of s) lent m a)) where
+  module _ {n i : ℕ} (z : r ≡ Some (n, i)) (w : Sought) (h : Answers s w (sought (table_of s) lent m a)) where
     has_module : is_some (find_module (table_of s) m) ≡ true
     has_module = ap is_some (rw z at f).is
 

@@ -1,10 +1,10 @@
 -- Laws of searches for an accessible of an accepted table, one for each way through a function. Assumes nothing.
+use Rattle.std.specs.Prelude.{Option, Some, None}
 use Prim.Native.Nat.{ℕ, ◌+◌, ◌%◌, ◌≤◌, ◌<◌}
 use native.Mathlib.Omega.{arith}
 use mathlib.Core.Path.{◌≡◌, refl, sym, ap, ap₂, ◌∙◌}
 use mathlib.Core.Bool.{Bool, true, false, not, ◌&&◌}
 use mathlib.Core.List.{List}
-use mathlib.Core.Option.{none, some}
 use lib.ListN.{length, get_or, take}
 use lib.Seq.{length-take-le}
 use borrow.Author.Tests.{lt-ltb, le-ltb, not-true, not-false}
@@ -19,7 +19,7 @@ use Rattle.table.specs.Search.{Placed}
 use Rattle.table.specs.Clauses.At.{bytes_of, Inside}
 use Rattle.table.specs.declared.layout.Part.{Part}
 use Rattle.report.specs.Judge.{table_number}
-use Rattle.search.specs.declared.cursor.One as O
+use Rattle.table.specs.declared.layout.Accessible as O
 use Rattle.search.specs.Clauses.Left.{placed, name_of}
 use Rattle.index.specs.Index.{around}
 use Rattle.index.specs.Search as Index
@@ -30,46 +30,45 @@ use Rattle.index.proofs.Searches.{looked_few, walked_few}
 use Rattle.index.proofs.Loops.{Looking, looking_found, looking_free, looking_more, looking_end}
 use Rattle.index.proofs.Loops.{Walking, walking_start, walking_found, walking_more, walking_end}
 use Rattle.seek.specs.declared.walk.Walk.{Walk}
-use Rattle.seek.specs.declared.walk.Step as S
 use Rattle.seek.specs.declared.look.Sought.{Sought}
 use Rattle.seek.specs.Clauses.Walk.{Passed, There, Begins, StepIs, NumberedIs}
 use Rattle.seek.specs.Clauses.Seek.{FoundIs, Finds, Answers}
 use Rattle.seek.proofs.Accepted.{accepted_few}
 
 module _ {s : List ℕ} {o : Index.Sought (Placed Accessible)} {n : ℕ} where
-  answer_nothing : o ≡ record { found = none; steps = n } → Answers s (record { found = S.TheVariants.End; steps = n }) o
+  answer_nothing : o ≡ record { found = None; steps = n } → Answers s (record { found = None; steps = n }) o
   answer_nothing e = rw e record { finds = refl; steps = refl }
 
   answer_at :
-      {a : O.One} {v : Walk} {k : ℕ} (t : There s k a v) → o ≡ record { found = some (k, placed s v.cursor t.it); steps = n }
-      → Answers s (record { found = S.TheVariants.At a v; steps = n }) o
+      {a : O.Accessible} {v : Walk} {k : ℕ} (t : There s k a v) → o ≡ record { found = Some (k, placed s v.cursor t.it); steps = n }
+      → Answers s (record { found = Some (a, v); steps = n }) o
   answer_at {a} {v} {k} t e = rw e record { finds = record { number = k; there = t; is = refl }; steps = refl }
 
 -- whether an accessible that is there has both names, as the code compares them
-module _ (s m a : List ℕ) (k : ℕ) (one : O.One) (v : Walk) (there : There s k one v) (p : Part) (hp : p ≡ name_of one)
+module _ (s m a : List ℕ) (k : ℕ) (one : O.Accessible) (v : Walk) (there : There s k one v) (p : Part) (hp : p ≡ name_of one)
     (t : Bool) (ht : t ≡ (same m (bytes_of s v.cursor.name) && same a (bytes_of s p))) where
   passes : is_named m a (placed s v.cursor there.it) ≡ t
   passes = rw (there.named, ← hp) (sym ht)
 
 -- ## An accessible that is offered
 
-module _ (s m a : List ℕ) (k : ℕ) (r : S.Step) (h : NumberedIs s k r) where
-  pub there_name : (one : O.One) (v : Walk) → r ≡ S.TheVariants.At one v → (p : Part) → p ≡ name_of one → Inside s p
+module _ (s m a : List ℕ) (k : ℕ) (r : Option (O.Accessible × Walk)) (h : NumberedIs s k r) where
+  pub there_name : (one : O.Accessible) (v : Walk) → r ≡ Some (one, v) → (p : Part) → p ≡ name_of one → Inside s p
   there_name one v z p hp = rw hp (rw z at h).name
 
-  pub there_home : (one : O.One) (v : Walk) → r ≡ S.TheVariants.At one v → Inside s v.cursor.name
+  pub there_home : (one : O.Accessible) (v : Walk) → r ≡ Some (one, v) → Inside s v.cursor.name
   there_home one v z = (rw z at h).passed.way.fits.name
 
-  pub offered_none : r ≡ S.TheVariants.End → offered (is_named m a) (accessibles (table_of s)) k ≡ none
+  pub offered_none : r ≡ None → offered (is_named m a) (accessibles (table_of s)) k ≡ None
   unfolding offered
   offered_none z = rw (rw z at h)
 
-  module _ (one : O.One) (v : Walk) (z : r ≡ S.TheVariants.At one v) where
+  module _ (one : O.Accessible) (v : Walk) (z : r ≡ Some (one, v)) where
     there : There s k one v
     there = rw z at h
 
     module _ (p : Part) (hp : p ≡ name_of one) (t : Bool) (ht : t ≡ (same m (bytes_of s v.cursor.name) && same a (bytes_of s p))) where
-      pub offered_other : not t ≡ true → offered (is_named m a) (accessibles (table_of s)) k ≡ none
+      pub offered_other : not t ≡ true → offered (is_named m a) (accessibles (table_of s)) k ≡ None
       unfolding offered
       offered_other n = rw (there.is, passes s m a k one v there p hp t ht ∙ not-true t n)
 
@@ -82,22 +81,22 @@ module _ (s m a : List ℕ) (k : ℕ) (r : S.Step) (h : NumberedIs s k r) where
 module _ (s m a xs : List ℕ) (start n q : ℕ) (c : Looking (is_named m a) (accessibles (table_of s)) xs start n q) where
   pub look_free :
       n < 128 → get_or xs q 0 ≡ 255
-      → Answers s (record { found = S.TheVariants.End; steps = n + 1 }) (looked (is_named m a) (accessibles (table_of s)) (around start xs))
+      → Answers s (record { found = None; steps = n + 1 }) (looked (is_named m a) (accessibles (table_of s)) (around start xs))
   look_free h e = answer_nothing (looking_free (is_named m a) (accessibles (table_of s)) xs start n q c h e)
 
   pub look_end :
-      128 ≤ n → Answers s (record { found = S.TheVariants.End; steps = n }) (looked (is_named m a) (accessibles (table_of s)) (around start xs))
+      128 ≤ n → Answers s (record { found = None; steps = n }) (looked (is_named m a) (accessibles (table_of s)) (around start xs))
   look_end h = answer_nothing (looking_end (is_named m a) (accessibles (table_of s)) xs start n q c h)
 
-  module _ (h : n < 128) (u : get_or xs q 0 ≡ 255 → ⊥) (r : S.Step) (hr : Finds s r (offered (is_named m a) (accessibles (table_of s)) (get_or xs q 0))) where
+  module _ (h : n < 128) (u : get_or xs q 0 ≡ 255 → ⊥) (r : Option (O.Accessible × Walk)) (hr : Finds s r (offered (is_named m a) (accessibles (table_of s)) (get_or xs q 0))) where
     pub look_found :
-        (one : O.One) (v : Walk) → r ≡ S.TheVariants.At one v
-        → Answers s (record { found = S.TheVariants.At one v; steps = n + 1 }) (looked (is_named m a) (accessibles (table_of s)) (around start xs))
+        (one : O.Accessible) (v : Walk) → r ≡ Some (one, v)
+        → Answers s (record { found = Some (one, v); steps = n + 1 }) (looked (is_named m a) (accessibles (table_of s)) (around start xs))
     look_found one v z =
         let f : FoundIs s one v (offered (is_named m a) (accessibles (table_of s)) (get_or xs q 0)) = rw z at hr in
         answer_at f.there (looking_found (is_named m a) (accessibles (table_of s)) xs start n q c h u _ f.is)
 
-    pub look_more : r ≡ S.TheVariants.End → Looking (is_named m a) (accessibles (table_of s)) xs start (n + 1) ((q + 1) % 128)
+    pub look_more : r ≡ None → Looking (is_named m a) (accessibles (table_of s)) xs start (n + 1) ((q + 1) % 128)
     look_more z = looking_more (is_named m a) (accessibles (table_of s)) xs start n q c h u (rw z at hr)
 
 -- ## Walking over the accessibles
@@ -113,23 +112,23 @@ vain_start s m a w b = record { passed = b.passed; walking = rw b.none_yet (walk
 pub vain_passed : (s m a : List ℕ) (w : Walk) → InVain s m a w → Passed s w
 vain_passed s m a w c = c.passed
 
-module _ (s m a : List ℕ) (w : Walk) (c : InVain s m a w) (r : S.Step) (h : StepIs s w r) where
+module _ (s m a : List ℕ) (w : Walk) (c : InVain s m a w) (r : Option (O.Accessible × Walk)) (h : StepIs s w r) where
   pub walk_end :
-      r ≡ S.TheVariants.End → Answers s (record { found = S.TheVariants.End; steps = w.accessibles }) (walked (is_named m a) (accessibles (table_of s)))
+      r ≡ None → Answers s (record { found = None; steps = w.accessibles }) (walked (is_named m a) (accessibles (table_of s)))
   walk_end z = answer_nothing (walking_end (is_named m a) (accessibles (table_of s)) w.accessibles c.walking (rw z at h))
 
-  module _ (one : O.One) (v : Walk) (z : r ≡ S.TheVariants.At one v) where
+  module _ (one : O.Accessible) (v : Walk) (z : r ≡ Some (one, v)) where
     here : There s w.accessibles one v
     here = (rw z at h).there
 
     module _ (p : Part) (hp : p ≡ name_of one) (t : Bool) (ht : t ≡ (same m (bytes_of s v.cursor.name) && same a (bytes_of s p))) where
       pub walk_found :
-          t ≡ true → Answers s (record { found = S.TheVariants.At one v; steps = v.accessibles }) (walked (is_named m a) (accessibles (table_of s)))
+          t ≡ true → Answers s (record { found = Some (one, v); steps = v.accessibles }) (walked (is_named m a) (accessibles (table_of s)))
       walk_found y =
           answer_at here
           (walking_found (is_named m a) (accessibles (table_of s)) w.accessibles c.walking _ here.is
           (passes s m a w.accessibles one v here p hp t ht ∙ y)
-          ∙ ap (λ (n : ℕ). record { found = some (w.accessibles, placed s v.cursor here.it); steps = n }) (sym here.after))
+          ∙ ap (λ (n : ℕ). record { found = Some (w.accessibles, placed s v.cursor here.it); steps = n }) (sym here.after))
 
       pub walk_more : t ≡ false → InVain s m a v
       walk_more y =
@@ -160,21 +159,21 @@ module _
   look_is = rw hs at hr
 
   -- a match among the bytes looked at ends it, and without one the walk follows
-  unwalked : {k : ℕ × Placed Accessible} → look.found ≡ some k → whole ≡ look
+  unwalked : {k : ℕ × Placed Accessible} → look.found ≡ Some k → whole ≡ look
   unfolding searched
   unwalked e = rw e
 
-  then_walked : look.found ≡ none → whole ≡ later look.steps (walked (is_named m a) (accessibles (table_of s)))
+  then_walked : look.found ≡ None → whole ≡ later look.steps (walked (is_named m a) (accessibles (table_of s)))
   unfolding searched
   then_walked e = rw e
 
-  pub search_looked : (one : O.One) (v : Walk) → r.found ≡ S.TheVariants.At one v → Answers s r whole
+  pub search_looked : (one : O.Accessible) (v : Walk) → r.found ≡ Some (one, v) → Answers s r whole
   search_looked one v e =
       let f : FoundIs s one v look.found = rw e at look_is.finds in
       rw (unwalked f.is) look_is
 
   module _ (w : Sought) (hw : Answers s w (walked (is_named m a) (accessibles (table_of s)))) where
-    pub search_walked : r.found ≡ S.TheVariants.End → Answers s (record { found = w.found; steps = r.steps + w.steps }) whole
+    pub search_walked : r.found ≡ None → Answers s (record { found = w.found; steps = r.steps + w.steps }) whole
     search_walked e =
         rw (then_walked (rw e at look_is.finds)) record { finds = hw.finds; steps = ap₂ ◌+◌ look_is.steps hw.steps }
 

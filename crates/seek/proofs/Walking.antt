@@ -1,10 +1,10 @@
 -- Laws of walks over all accessibles of a table, one for each way through a function. Assumes nothing.
+use Rattle.std.specs.Prelude.{Option, Some, None, slice_get}
 use Prim.Native.Nat.{ℕ, ◌+◌, ◌-◌, ◌≤◌, ◌<◌}
 use native.Mathlib.Omega.{arith}
 use mathlib.Core.Path.{◌≡◌, refl, sym, ap, ◌∙◌}
 use mathlib.Core.List.{List, []}
-use mathlib.Core.Option.{none, some}
-use lib.ListN.{length, drop, get_elem?}
+use lib.ListN.{length, drop}
 use Rattle.table.specs.Table as Table
 use Rattle.table.specs.Layout.{table_of}
 use Rattle.table.specs.Rules.{accessible_name}
@@ -15,8 +15,7 @@ use Rattle.table.specs.declared.layout.ParameterAt.{ParameterAt}
 use Rattle.table.specs.declared.layout.CommandAt.{CommandAt}
 use Rattle.table.proofs.Accessibles.{in_some}
 use Rattle.search.specs.declared.cursor.Cursor.{Cursor}
-use Rattle.search.specs.declared.cursor.One as O
-use Rattle.search.specs.declared.cursor.NextAccessible as N
+use Rattle.table.specs.declared.layout.Accessible as O
 use Rattle.search.specs.Clauses.Left.{accessibles_left, left_from, accessibles_of, name_of, After, FirstIs, Goes, FirstCursor}
 use Rattle.search.specs.Clauses.Left.{ParameterFirst, CommandFirst, OneFirst, NextAccessibleIs}
 use Rattle.search.proofs.Lefts.{way_left}
@@ -24,9 +23,9 @@ use Rattle.search.proofs.Walks.{picks_parameters, picks_commands, picks_first, p
 use Rattle.search.proofs.Finds.{Counted, counted_end, counted_at, counted_left, drop_at, drop_past}
 use Rattle.index.specs.Accessibles.{accessibles}
 use Rattle.seek.specs.declared.walk.Walk.{Walk}
-use Rattle.seek.specs.declared.walk.Step as S
 use Rattle.seek.specs.Clauses.Walk.{Passed, ParameterThere, CommandThere, OneThere, next_of, There, Begins, Stepped, StepIs}
 use Rattle.seek.proofs.Lists.{none_later}
+use Rattle.table.specs.declared.layout.Accessible.{Accessible}
 
 -- ## The beginning
 
@@ -34,10 +33,10 @@ module _ (s : List ℕ) (c : Cursor) (f : FirstCursor s c) where
   none_own : f.way.own ≡ []
   unfolding accessibles_left
   none_own =
-      let e : accessibles_left s c ≡ some ([], drop c.at s) = rw f.modules in
+      let e : accessibles_left s c ≡ Some ([], drop c.at s) = rw f.modules in
       ap (λ (x : List Table.Accessible × List ℕ). x.0) (in_some (sym f.way.reads ∙ e))
 
-  all_left : left_from accessibles_of s c ≡ some (accessibles (table_of s))
+  all_left : left_from accessibles_of s c ≡ Some (accessibles (table_of s))
   unfolding accessibles
   all_left = way_left s c f.way ∙ rw (none_own, f.modules)
 
@@ -57,7 +56,7 @@ module _ (s : List ℕ) (c : Cursor) (f : FirstCursor s c) where
 
 -- ## A step
 
-one_after : (s : List ℕ) (c : Cursor) (a : O.One) (e : Cursor) → OneFirst s c a e → After s c e
+one_after : (s : List ℕ) (c : Cursor) (a : O.Accessible) (e : Cursor) → OneFirst s c a e → After s c e
 one_after s c (O.TheVariants.Parameter q) e x = x.after
 one_after s c (O.TheVariants.Command q) e x = x.after
 
@@ -79,8 +78,8 @@ module _ (s : List ℕ) (w : Walk) (h : Passed s w) where
       (first : FirstIs accessibles_of s c v.cursor it) where
     passed :
         (v.parameters ≤ w.parameters + 1) × (v.commands ≤ w.commands + 1)
-        → left_from parameters_of s v.cursor ≡ some (drop v.parameters (parameters (table_of s)))
-        → left_from commands_of s v.cursor ≡ some (drop v.commands (commands (table_of s))) → Passed s v
+        → left_from parameters_of s v.cursor ≡ Some (drop v.parameters (parameters (table_of s)))
+        → left_from commands_of s v.cursor ≡ Some (drop v.commands (commands (table_of s))) → Passed s v
     passed l p q =
         let f = h.few in
         let y = after.later in
@@ -93,7 +92,7 @@ module _ (s : List ℕ) (w : Walk) (h : Passed s w) where
         }
 
     stepped :
-        (one : O.One) → Inside s (name_of one) → accessible_name it ≡ bytes_of s (name_of one) → v.cursor.at ≡ next_of one → OneThere s one v it
+        (one : O.Accessible) → Inside s (name_of one) → accessible_name it ≡ bytes_of s (name_of one) → v.cursor.at ≡ next_of one → OneThere s one v it
         → Passed s v → Stepped s w one v
     stepped one inside name next there passed =
         record {
@@ -172,13 +171,13 @@ module _ (s : List ℕ) (w : Walk) (h : Passed s w) where
         (past_parameters ∙ h.of_parameters)
         (counted_left commands_of commands s w.commands c counted_commands e _ first_command))
 
-  module _ (r : N.NextAccessible) (hr : NextAccessibleIs s w.cursor r) where
-    pub step_end : r ≡ N.TheVariants.End → get_elem? (accessibles (table_of s)) w.accessibles ≡ none
+  module _ (r : Option (O.Accessible × Cursor)) (hr : NextAccessibleIs s w.cursor r) where
+    pub step_end : r ≡ None → slice_get (accessibles (table_of s)) w.accessibles ≡ None
     step_end z =
         drop_past w.accessibles (accessibles (table_of s)) w.accessibles
         (counted_end accessibles_of accessibles s w.accessibles c counted (rw z at hr)) (omega arith)
 
-    module _ (a : O.One) (e : Cursor) (z : r ≡ N.TheVariants.At a e) where
+    module _ (a : O.Accessible) (e : Cursor) (z : r ≡ Some (a, e)) where
       after : After s c e
       after = one_after s c a e (rw z at hr)
 
@@ -214,8 +213,8 @@ before_start s k w b = record { passed = b.passed; within = omega (arith, b.none
 pub before_passed : (s : List ℕ) (k : ℕ) (w : Walk) → Before s k w → Passed s w
 before_passed s k w b = b.passed
 
-module _ (s : List ℕ) (w : Walk) (r : S.Step) (h : StepIs s w r) where
-  module _ (a : O.One) (v : Walk) (z : r ≡ S.TheVariants.At a v) where
+module _ (s : List ℕ) (w : Walk) (r : Option (O.Accessible × Walk)) (h : StepIs s w r) where
+  module _ (a : O.Accessible) (v : Walk) (z : r ≡ Some (a, v)) where
     pub step_less : length s - v.cursor.at < length s - w.cursor.at
     step_less = let x = rw z at h in omega (arith, x.later, x.there.passed.way.fits.within)
 
@@ -226,10 +225,10 @@ module _ (s : List ℕ) (w : Walk) (r : S.Step) (h : StepIs s w r) where
     step_home = (rw z at h).there.passed.way.fits.name
 
   module _ (k : ℕ) (b : Before s k w) where
-    pub number_none : r ≡ S.TheVariants.End → get_elem? (accessibles (table_of s)) k ≡ none
+    pub number_none : r ≡ None → slice_get (accessibles (table_of s)) k ≡ None
     number_none z = none_later (accessibles (table_of s)) w.accessibles k (rw z at h) b.within
 
-    module _ (a : O.One) (v : Walk) (z : r ≡ S.TheVariants.At a v) where
+    module _ (a : O.Accessible) (v : Walk) (z : r ≡ Some (a, v)) where
       pub number_there : w.accessibles ≡ k → There s k a v
       number_there e = rw e at (rw z at h).there
 

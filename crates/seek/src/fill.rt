@@ -7,7 +7,7 @@ ghost use Rattle.report.specs.Judge.{table_number};
 ghost use Rattle.index.specs.Accessibles.{index_of};
 ghost use Rattle.seek.specs.Fill.{Fills};
 
-use crate::walk::{Step, advance, begin};
+use crate::walk::{advance, begin};
 use describe::judge::table_number;
 use hash::start_place;
 use index::fill::{clear, enter};
@@ -35,7 +35,7 @@ fn fill_all(s: &[u8], index: &mut [u8])
     clear(index);
     let mut w = begin(s);
     loop {
-        let Step::At(a, v) = advance(s, w) else {
+        let Some((a, v)) = advance(s, w) else {
             return;
         };
         let c = v.cursor;

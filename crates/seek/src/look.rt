@@ -8,33 +8,34 @@ ghost use Rattle.index.specs.Search.{offered, looked, walked, searched};
 ghost use Rattle.index.specs.Accessibles.{accessibles, is_named, sought};
 ghost use Rattle.seek.specs.Clauses.Seek.{Finds, Answers};
 
-use crate::walk::{Step, advance, begin, numbered};
+use crate::walk::{Walk, advance, begin, numbered};
 use hash::start_place;
 use limits::{FREE, INDEX};
 use search::cursor::name_of;
 use search::find::are_named;
+use table::layout::Accessible;
 
 // What was found, with the walk after it, and how many index bytes and accessibles were looked at.
 #[derive(Clone, Copy)]
 pub struct Sought {
-    pub found: Step,
+    pub found: Option<(Accessible, Walk)>,
     pub steps: usize,
 }
 
 // The accessible of the number k, which an index offers, if it has both names.
-fn offered(s: &[u8], k: usize, module: &[u8], name: &[u8]) -> Step
+fn offered(s: &[u8], k: usize, module: &[u8], name: &[u8]) -> Option<(Accessible, Walk)>
     requires { table_number s.now ≡ 0 }
     ensures { Finds s.now result (offered (is_named «module».now name.now) (accessibles (table_of s.now)) k) }
 {
-    let Step::At(a, v) = numbered(s, k) else {
-        return Step::End;
+    let Some((a, v)) = numbered(s, k) else {
+        return None;
     };
     let c = v.cursor;
     let home = c.name;
     if !are_named(s, home, name_of(a), module, name) {
-        return Step::End;
+        return None;
     }
-    Step::At(a, v)
+    Some((a, v))
 }
 
 // Byte by byte from the place start on, round the end.
@@ -49,13 +50,13 @@ fn look(s: &[u8], index: &[u8], start: usize, module: &[u8], name: &[u8]) -> Sou
         let b = index[at];
         if b == FREE {
             return Sought {
-                found: Step::End,
+                found: None,
                 steps: n + 1,
             };
         }
-        if let Step::At(a, v) = offered(s, b as usize, module, name) {
+        if let Some((a, v)) = offered(s, b as usize, module, name) {
             return Sought {
-                found: Step::At(a, v),
+                found: Some((a, v)),
                 steps: n + 1,
             };
         }
@@ -63,7 +64,7 @@ fn look(s: &[u8], index: &[u8], start: usize, module: &[u8], name: &[u8]) -> Sou
         at = (at + 1) % INDEX;
     }
     Sought {
-        found: Step::End,
+        found: None,
         steps: n,
     }
 }
@@ -76,9 +77,9 @@ fn walk(s: &[u8], module: &[u8], name: &[u8]) -> Sought
 {
     let mut w = begin(s);
     loop {
-        let Step::At(a, v) = advance(s, w) else {
+        let Some((a, v)) = advance(s, w) else {
             return Sought {
-                found: Step::End,
+                found: None,
                 steps: w.accessibles,
             };
         };
@@ -86,7 +87,7 @@ fn walk(s: &[u8], module: &[u8], name: &[u8]) -> Sought
         let home = c.name;
         if are_named(s, home, name_of(a), module, name) {
             return Sought {
-                found: Step::At(a, v),
+                found: Some((a, v)),
                 steps: v.accessibles,
             };
         }
@@ -104,7 +105,7 @@ fn search(s: &[u8], index: &[u8], module: &[u8], name: &[u8]) -> Sought
     let start = start_place(module, name);
     let looked = look(s, index, start, module, name);
     let found = looked.found;
-    if let Step::At(_, _) = found {
+    if let Some((_, _)) = found {
         return looked;
     }
     let walked = walk(s, module, name);

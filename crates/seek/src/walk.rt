@@ -3,7 +3,8 @@
 ghost use Rattle.table.specs.Layout.{Readable};
 ghost use Rattle.seek.specs.Clauses.Walk.{Passed, Begins, StepIs, NumberedIs};
 
-use search::cursor::{Cursor, NextAccessible, One, first_cursor, next_accessible};
+use search::cursor::{Cursor, first_cursor, next_accessible};
+use table::layout::Accessible;
 
 #[derive(Clone, Copy)]
 pub struct Walk {
@@ -11,13 +12,6 @@ pub struct Walk {
     pub accessibles: usize,
     pub parameters: usize,
     pub commands: usize,
-}
-
-// The next accessible, with the walk after it.
-#[derive(Clone, Copy)]
-pub enum Step {
-    At(One, Walk),
-    End,
 }
 
 pub fn begin(s: &[u8]) -> Walk
@@ -32,17 +26,17 @@ pub fn begin(s: &[u8]) -> Walk
     }
 }
 
-pub fn advance(s: &[u8], w: Walk) -> Step
+pub fn advance(s: &[u8], w: Walk) -> Option<(Accessible, Walk)>
     requires { Passed s.now w }
     ensures { StepIs s.now w result }
 {
     let c = w.cursor;
-    let NextAccessible::At(a, e) = next_accessible(s, c) else {
-        return Step::End;
+    let Some((a, e)) = next_accessible(s, c) else {
+        return None;
     };
     let accessibles = w.accessibles + 1;
     match a {
-        One::Parameter(_) => Step::At(
+        Accessible::Parameter(_) => Some((
             a,
             Walk {
                 cursor: e,
@@ -50,8 +44,8 @@ pub fn advance(s: &[u8], w: Walk) -> Step
                 parameters: w.parameters + 1,
                 commands: w.commands,
             },
-        ),
-        One::Command(_) => Step::At(
+        )),
+        Accessible::Command(_) => Some((
             a,
             Walk {
                 cursor: e,
@@ -59,22 +53,22 @@ pub fn advance(s: &[u8], w: Walk) -> Step
                 parameters: w.parameters,
                 commands: w.commands + 1,
             },
-        ),
+        )),
     }
 }
 
 // The accessible of a number, with the walk after it.
-pub fn numbered(s: &[u8], k: usize) -> Step
+pub fn numbered(s: &[u8], k: usize) -> Option<(Accessible, Walk)>
     requires { Readable s.now }
     ensures { NumberedIs s.now k result }
 {
     let mut w = begin(s);
     loop {
-        let Step::At(a, v) = advance(s, w) else {
-            return Step::End;
+        let Some((a, v)) = advance(s, w) else {
+            return None;
         };
         if w.accessibles == k {
-            return Step::At(a, v);
+            return Some((a, v));
         }
         w = v;
     }

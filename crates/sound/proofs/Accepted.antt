@@ -1,9 +1,9 @@
 -- What an accepted call says of its table and its time, and what an accepted table says of its parameters and commands.
 -- Assumes nothing.
+use Rattle.std.specs.Prelude.{Option, Some, None}
 use Prim.Native.Nat.{ℕ, suc, ◌≤◌}
 use mathlib.Core.Bool.{true, not, ◌&&◌}
 use mathlib.Core.List.{List, [], ◌∷◌, map}
-use mathlib.Core.Option.{Option, none, some}
 use mathlib.Core.Path.{◌≡◌, refl}
 use native.Mathlib.Omega.{arith}
 use lib.Dec.{leb, ltb}
@@ -110,13 +110,13 @@ pub record GoodText (x : List ℕ) : Type 0 where
   pub short : length x ≤ 16384
 
 abbrev pub GoodEdition : Option (List ℕ) → Type 0
-GoodEdition none = Unit {0}
-GoodEdition (some x) = GoodText x
+GoodEdition None = Unit {0}
+GoodEdition (Some x) = GoodText x
 
 good_edition : (o : Option (List ℕ)) → Within 16384 o → edition_good o ≡ true → GoodEdition o
 unfolding edition_good
-good_edition none h e = tt
-good_edition (some x) h e =
+good_edition None h e = tt
+good_edition (Some x) h e =
     let b = both (is_text x) (begins (bytes "ISSE,SECoP,") x) e in
     record { text = b.0; begun = b.1; short = h }
 
@@ -194,8 +194,8 @@ unfolding table_number table_of number_of or_empty
 accepted table e = go (read_table table) refl e
   where
     go : (o : Option Table) → read_table table ≡ o → number_of o ≡ 0 → Accepted (or_empty o)
-    go none q e = absurd (omega arith)
-    go (some w) q e = accepted_tree w (table_lies table w q) (edition_within table w q) e
+    go None q e = absurd (omega arith)
+    go (Some w) q e = accepted_tree w (table_lies table w q) (edition_within table w q) e
 
 pub datainfos_in_table : DatainfosInTable
 datainfos_in_table = record {

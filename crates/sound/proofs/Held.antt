@@ -1,12 +1,12 @@
 -- Small changes of a sound node leave it sound. Assumes nothing.
+use Rattle.std.specs.Prelude.{Some, slice_get}
 use Prim.Native.Nat.{ℕ, ◌≤◌, ◌<◌}
 use mathlib.Core.Bool.{Bool, false, not, ◌&&◌, ◌||◌}
 use mathlib.Core.List.{List}
-use mathlib.Core.Option.{some}
 use mathlib.Core.Path.{◌≡◌, refl}
 use native.Mathlib.Omega.{arith}
 use lib.Dec.{ltb}
-use lib.ListN.{length, get_elem?}
+use lib.ListN.{length}
 use borrow.Author.Tests.{le-ltb}
 use Rattle.ascii.specs.Bytes.{all}
 use Rattle.ascii.specs.Numbers.{latest}
@@ -34,12 +34,12 @@ module _ (w : Table) where
       }
 
   pub with_value_lem : (n : Node) (k : ℕ) (v : Value)
-      → ((p : Placed Parameter) → get_elem? (parameters w) k ≡ some p → ValueHeld p.it v)
+      → ((p : Placed Parameter) → slice_get (parameters w) k ≡ Some p → ValueHeld p.it v)
       → Sound w n → Sound w (with_value n k v)
   with_value_lem n k v h s =
       record {
         values =
-            put_all (λ j y. (p : Placed Parameter) → get_elem? (parameters w) j ≡ some p → ValueHeld p.it y) n.values k v h s.values;
+            put_all (λ j y. (p : Placed Parameter) → slice_get (parameters w) j ≡ Some p → ValueHeld p.it y) n.values k v h s.values;
         clients = s.clients;
         above = s.above;
         counts = s.counts;

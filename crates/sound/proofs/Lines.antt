@@ -1,8 +1,8 @@
 -- Lines as they come in: they stay within their limit, and their parts are words. Assumes nothing.
+use Rattle.std.specs.Prelude.{Option, Some, None}
 use Prim.Native.Nat.{ℕ, suc, ◌≤◌}
 use mathlib.Core.Bool.{Bool, true, false, cond, not, ◌&&◌}
 use mathlib.Core.List.{List, [], ◌∷◌}
-use mathlib.Core.Option.{Option, none, some}
 use mathlib.Core.Path.{◌≡◌, refl}
 use native.Mathlib.Omega.{arith}
 use lib.Dec.{ltb, eqb}
@@ -117,8 +117,8 @@ asked_scoped : (f : Option (List ℕ) → Request) → ((m : Option (List ℕ)) 
     → Asked (scoped f s)
 unfolding scoped
 asked_scoped f g s =
-    either Asked (eqb (length s) 0) (λ e. g none tt)
-    λ e. either Asked (is_name (module_part s)) (λ q. g (some (module_part s)) q) (λ q. tt)
+    either Asked (eqb (length s) 0) (λ e. g None tt)
+    λ e. either Asked (is_name (module_part s)) (λ q. g (Some (module_part s)) q) (λ q. tt)
 
 asked_named : (f : List ℕ → List ℕ → Request) → ((m a : List ℕ) → Asked (f m a)) → (s : List ℕ) → Asked (named f s)
 unfolding named

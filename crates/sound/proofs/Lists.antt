@@ -1,11 +1,11 @@
 -- What holds of each element of a list, and what tests that pass say of it. Assumes nothing.
+use Rattle.std.specs.Prelude.{Some, None, slice_get}
 use Prim.Native.Nat.{ℕ, zero, suc, ◌≤◌, ◌<◌}
 use mathlib.Core.Bool.{Bool, true, false, cond}
 use mathlib.Core.List.{List, [], ◌∷◌, ◌++◌, map}
-use mathlib.Core.Option.{none, some}
 use mathlib.Core.Path.{◌≡◌, refl, subst}
 use native.Mathlib.Omega.{arith}
-use lib.ListN.{length, get_elem?}
+use lib.ListN.{length}
 use Rattle.ascii.specs.Bytes.{all, take_while}
 use Rattle.ascii.proofs.Lists.{both}
 
@@ -19,18 +19,18 @@ module _ {A : Type 0} where
   Each P [] = Unit {0}
   Each P (x ∷ xs) = P x × Each P xs
 
-  pub each_at : (P : A → Type 0) (l : List A) → Each P l → (k : ℕ) (x : A) → get_elem? l k ≡ some x → P x
+  pub each_at : (P : A → Type 0) (l : List A) → Each P l → (k : ℕ) (x : A) → slice_get l k ≡ Some x → P x
   each_at P [] h k x e = let z : ◌≡◌ {A = ℕ} 0 1 = cc in absurd (omega arith)
   each_at P (y ∷ l) h zero x e = subst P (cc) h.0
   each_at P (y ∷ l) h (suc k) x e = each_at P l h.1 k x e
 
   -- an element that is there has a number below the length, and past the last there is none
-  pub there_low : (l : List A) (k : ℕ) (x : A) → get_elem? l k ≡ some x → k < length l
+  pub there_low : (l : List A) (k : ℕ) (x : A) → slice_get l k ≡ Some x → k < length l
   there_low [] k x e = let z : ◌≡◌ {A = ℕ} 0 1 = cc in absurd (omega arith)
   there_low (y ∷ l) zero x e = omega arith
   there_low (y ∷ l) (suc k) x e = let h = there_low l k x e in omega arith
 
-  pub past_none : (l : List A) (k : ℕ) → length l ≤ k → get_elem? l k ≡ none
+  pub past_none : (l : List A) (k : ℕ) → length l ≤ k → slice_get l k ≡ None
   past_none [] k h = refl
   past_none (x ∷ l) zero h = absurd (omega arith)
   past_none (x ∷ l) (suc k) h = past_none l k (omega arith)

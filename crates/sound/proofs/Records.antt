@@ -1,15 +1,15 @@
 -- Records that are well formed, and the bytes that they take. Assumes nothing.
+use Rattle.std.specs.Prelude.{Option, Some, None, slice_get}
 use Prim.Native.Nat.{ℕ, suc, ◌+◌, ◌*◌, ◌≤◌}
 use Rattle.counter.specs.declared.Counts.{Counts}
 use Rattle.counter.specs.Counts.{highest}
 use mathlib.Core.Bool.{Bool, true, false, cond, not, ◌&&◌}
 use mathlib.Core.List.{List, [], ◌∷◌, ◌++◌}
-use mathlib.Core.Option.{Option, none, some}
 use mathlib.Core.Path.{◌≡◌, refl, subst}
 use native.Mathlib.Nat.{add-zero}
 use native.Mathlib.Omega.{arith}
 use lib.Dec.{leb}
-use lib.ListN.{length, get_elem?, length-append}
+use lib.ListN.{length, length-append}
 use borrow.Author.Tests.{leb-true}
 use Rattle.ascii.specs.Text.{bytes}
 use Rattle.ascii.specs.Bytes.{all, head, is_digit}
@@ -108,8 +108,8 @@ within_more r j k e h = (h.0, omega (arith, h.1))
 -- the first edition's, or what a table gives
 pub identification_within : (e : Option (List ℕ)) → GoodEdition e → ReplyWithin (identification e) 16384
 unfolding reply_line identity begins bytes
-identification_within none h = (tt, omega arith)
-identification_within (some x) h = (h.begun, h.short)
+identification_within None h = (tt, omega arith)
+identification_within (Some x) h = (h.begun, h.short)
 
 pub describing_within : (xs : List ℕ) → length xs ≤ 32000 → ReplyWithin (describing xs) 32013
 unfolding reply_line bytes
@@ -121,8 +121,8 @@ pong_within xs t e h i = (e, simp length-append (omega (arith, data_short (bytes
 
 optionally_short : (w : List ℕ) (m : Option (List ℕ)) → Named m → length (optionally w m) ≤ length w + 64
 unfolding optionally bytes
-optionally_short w none e = omega arith
-optionally_short w (some m) e = simp length-append (omega (arith, name_short m e))
+optionally_short w None e = omega arith
+optionally_short w (Some m) e = simp length-append (omega (arith, name_short m e))
 
 pub active_within : (m : Option (List ℕ)) → Named m → ReplyWithin (active m) 70
 unfolding reply_line bytes
@@ -214,7 +214,7 @@ written_to f i r g [] = written_none
 written_to f i r g (c ∷ cs) = written_update (is_active (f c) i) c r g (updates_to f i r cs) (length cs) (written_to f i r g cs)
 
 pub written_of : (c : ℕ) (wanted : ℕ → Bool) (values : ℕ → Value) (k : ℕ) (ps : List (Placed Parameter))
-    → ((j : ℕ) (p : Placed Parameter) → get_elem? ps j ≡ some p → Fine (report_of p (values (k + j))))
+    → ((j : ℕ) (p : Placed Parameter) → slice_get ps j ≡ Some p → Fine (report_of p (values (k + j))))
     → Written (updates_of c wanted values k ps) (length ps * 420)
 unfolding updates_of
 written_of c wanted values k [] h = written_none

@@ -1,12 +1,12 @@
 -- One call: an accepted one leaves a sound node, and writes well-formed records of at most 32,019 bytes. Assumes nothing.
+use Rattle.std.specs.Prelude.{Option, Some, None, slice_get}
 use Prim.Native.Nat.{ℕ, zero, suc, ◌+◌, ◌*◌, ◌≤◌}
 use mathlib.Core.Bool.{Bool, true, false, cond, not}
 use mathlib.Core.List.{List, [], ◌∷◌, ◌++◌}
-use mathlib.Core.Option.{Option, none, some}
 use mathlib.Core.Path.{◌≡◌, refl, sym, subst}
 use native.Mathlib.Nat.{zero-add}
 use native.Mathlib.Omega.{arith}
-use lib.ListN.{length, get_elem?}
+use lib.ListN.{length}
 use borrow.Author.Tests.{not-false}
 use Rattle.ascii.specs.Text.{bytes}
 use Rattle.counter.specs.Counts.{no_counts, lines_counted}
@@ -77,8 +77,8 @@ unfolding shown_value
 shown_readable (valued v) = go (text v) refl
   where
     go : (o : Option Json) → text v ≡ o → ReadableShown o
-    go none e = tt
-    go (some x) e = readable_trees.of_texts v x e
+    go None e = tt
+    go (Some x) e = readable_trees.of_texts v x e
 shown_readable (failed f) = tt
 
 -- what is let in, as it is stored
@@ -92,7 +92,7 @@ let_in_stored w a values k v l =
 -- ## Lines, on an accepted table, at a sound node
 
 module _ (w : Table) (a : Accepted w) (n : Node) (s : Sound w n) where
-  pub fine : (k : ℕ) (p : Placed Parameter) → get_elem? (parameters w) k ≡ some p → (v : Value) → ValueHeld p.it v
+  pub fine : (k : ℕ) (p : Placed Parameter) → slice_get (parameters w) k ≡ Some p → (v : Value) → ValueHeld p.it v
       → Fine (report_of p v)
   fine k p e v h =
       record {
@@ -106,11 +106,11 @@ module _ (w : Table) (a : Accepted w) (n : Node) (s : Sound w n) where
       held_small (failed f) i = tt
 
   -- a parameter's datainfo is one of which the laws of stored forms speak
-  in_table : (k : ℕ) (p : Placed Parameter) → get_elem? (parameters w) k ≡ some p → ParameterIn p.it
+  in_table : (k : ℕ) (p : Placed Parameter) → slice_get (parameters w) k ≡ Some p → ParameterIn p.it
   in_table k p e = each_at (λ (q : Placed Parameter). ParameterIn q.it) (parameters w) a.parameters_in k p e
 
   -- a parameter holds what may be held of it from a time on
-  module _ (k : ℕ) (p : Placed Parameter) (e : get_elem? (parameters w) k ≡ some p) (x : Held) (f : HeldFits p.it x) (t : ℕ) (h : t ≤ latest) where
+  module _ (k : ℕ) (p : Placed Parameter) (e : slice_get (parameters w) k ≡ Some p) (x : Held) (f : HeldFits p.it x) (t : ℕ) (h : t ≤ latest) where
     abbrev new : Value
     new = holding x t
 
@@ -148,7 +148,7 @@ module _ (w : Table) (a : Accepted w) (n : Node) (s : Sound w n) where
     pub comes_activates : (wanted : ℕ → Bool) (m : Option (List ℕ)) → Named m → Comes w c (activates w n c t wanted m)
     unfolding activates
     comes_activates wanted m e =
-        let there : (j : ℕ) (p : Placed Parameter) → get_elem? (parameters w) j ≡ some p → Fine (report_of p (n.values (0 + j))) =
+        let there : (j : ℕ) (p : Placed Parameter) → slice_get (parameters w) j ≡ Some p → Fine (report_of p (n.values (0 + j))) =
         λ j p q. rw zero-add (fine j p q (n.values j) (s.values j p q)) in
         comes _ [] _ (active m) (length (parameters w) * 420) 70
         (with_client_lem w n c _ low (more_active w (n.clients c) wanted (s.clients c)) s)
@@ -186,8 +186,8 @@ module _ (w : Table) (a : Accepted w) (n : Node) (s : Sound w n) where
     busied : (p : Placed Parameter) (o : Option (ℕ × Placed Parameter)) → status_of w p ≡ o
         → Sound w (with_settings n (busy_settings o t)) × Written (busy_updates n.clients o t) 3360
     unfolding busy_settings busy_updates
-    busied p none e = (s, written_within 3360 (omega arith) written_none)
-    busied p (some x) e =
+    busied p None e = (s, written_within 3360 (omega arith) written_none)
+    busied p (Some x) e =
         let i = status_is w p x e in
         let f = busy_stored x.1.it.datainfo (in_table x.0 x.1 i.there).names i.admits in
         (new_node x.0 x.1 i.there (valued busy) f t h, new_updates x.0 x.1 i.there (valued busy) f t h)
@@ -216,8 +216,8 @@ module _ (w : Table) (a : Accepted w) (n : Node) (s : Sound w n) where
 
     argument_short : (d : Option Datainfo) (v : List ℕ) → is_fit (argument_verdict d v) ≡ true → length (argument_form d v) ≤ 256
     unfolding argument_verdict argument_form
-    argument_short none v e = omega arith
-    argument_short (some d) v e = stored_short d v e
+    argument_short None v e = omega arith
+    argument_short (Some d) v e = stored_short d v e
 
     comes_does : (k : ℕ × Placed Command) (v : List ℕ) → Allowed w k v → Comes w c (ordering n c t k v)
     unfolding body bytes
@@ -273,7 +273,7 @@ module _ (w : Table) (a : Accepted w) (n : Node) (s : Sound w n) where
       record { sound = with_counting w _ _ k.sound; written = k.written }
 
   -- what a driver tells is held
-  told_in : (k : ℕ) (p : Placed Parameter) → get_elem? (parameters w) k ≡ some p → (x : Held) → HeldFits p.it x → (t : ℕ) → t ≤ latest
+  told_in : (k : ℕ) (p : Placed Parameter) → slice_get (parameters w) k ≡ Some p → (x : Held) → HeldFits p.it x → (t : ℕ) → t ≤ latest
       → StillSound w (driver_effect n k p x t).next (driver_effect n k p x t).records
   unfolding driver_effect
   told_in k p e x f t h =
@@ -282,19 +282,19 @@ module _ (w : Table) (a : Accepted w) (n : Node) (s : Sound w n) where
         written = written_within 32019 (omega arith) (new_updates w a n s k p e x f t h);
       }
 
-  read_in : (k : ℕ) (o : Option (Placed Parameter)) → get_elem? (parameters w) k ≡ o
+  read_in : (k : ℕ) (o : Option (Placed Parameter)) → slice_get (parameters w) k ≡ o
       → (bs : List ℕ) (t : ℕ) → t ≤ latest → is_fit (reading_verdict o bs) ≡ true
       → StillSound w (reading_effect n k o bs t).next (reading_effect n k o bs t).records
   unfolding reading_effect reading_verdict
-  read_in k none e bs t h f = quiet
-  read_in k (some p) e bs t h f = told_in k p e (valued (stored_form p.it.datainfo bs)) (stored p.it.datainfo bs (in_table w a n s k p e) f) t h
+  read_in k None e bs t h f = quiet
+  read_in k (Some p) e bs t h f = told_in k p e (valued (stored_form p.it.datainfo bs)) (stored p.it.datainfo bs (in_table w a n s k p e) f) t h
 
-  unread_in : (k : ℕ) (o : Option (Placed Parameter)) → get_elem? (parameters w) k ≡ o → (x : Option Fault) (t : ℕ) → t ≤ latest
+  unread_in : (k : ℕ) (o : Option (Placed Parameter)) → slice_get (parameters w) k ≡ o → (x : Option Fault) (t : ℕ) → t ≤ latest
       → StillSound w (unreadable_effect n k o x t).next (unreadable_effect n k o x t).records
   unfolding unreadable_effect
-  unread_in k none e x t h = quiet
-  unread_in k (some p) e none t h = quiet
-  unread_in k (some p) e (some f) t h = told_in k p e (failed f) tt t h
+  unread_in k None e x t h = quiet
+  unread_in k (Some p) e None t h = quiet
+  unread_in k (Some p) e (Some f) t h = told_in k p e (failed f) tt t h
 
 module _ (table : List ℕ) (a : Accepted (table_of table)) where
   abbrev w : Table
@@ -316,10 +316,10 @@ module _ (table : List ℕ) (a : Accepted (table_of table)) where
         let h = received w (n.clients c) (before_feed bs) (before_feed_lem bs) (s.clients c) in
         answered w a (with_client n c x) (with_client_lem w n c x low h s) c t low (time_low t (first_fault_none _ z 0)) (has_feed bs)
     effected (Reading k bs t) z =
-        let x = get_elem? (parameters w) k in
+        let x = slice_get (parameters w) k in
         let f = is_fit (reading_verdict x bs) in
         read_in w a n s k x refl bs t (time_low t (first_fault_none _ z 0)) (not-false f (no_fault 14 (not f) (first_fault_none _ z 2)))
-    effected (Unreadable k x t) z = unread_in w a n s k (get_elem? (parameters w) k) refl (fault_of x) t (time_low t (first_fault_none _ z 0))
+    effected (Unreadable k x t) z = unread_in w a n s k (slice_get (parameters w) k) refl (fault_of x) t (time_low t (first_fault_none _ z 0))
 
     pub stepped : (e : Call) → StillSound w (step table n e).0 (step table n e).1.records
     unfolding step step_if settle

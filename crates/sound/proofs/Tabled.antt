@@ -1,9 +1,9 @@
 -- Every datainfo of a table that can be read, and whose names are good, is one of which the theorems of stored forms speak; and the text of its
 -- edition is no longer than the table. Assumes nothing.
+use Rattle.std.specs.Prelude.{Option, Some, None}
 use Prim.Native.Nat.{ℕ, zero, suc, ◌≤◌}
 use mathlib.Core.Bool.{Bool, true, false, ◌&&◌, ◌||◌}
 use mathlib.Core.List.{List, [], ◌∷◌, map}
-use mathlib.Core.Option.{Option, none, some}
 use mathlib.Core.Path.{◌≡◌, refl, subst}
 use native.Mathlib.Omega.{arith}
 use lib.Dec.{leb, eqb}
@@ -33,11 +33,11 @@ use Rattle.sound.proofs.Lists.{Each, each_append, each_map}
 pub record Lies (d : Datainfo) : Type 0 where
   pub bytes : List ℕ
   pub left : List ℕ
-  pub read : datainfo_in 4 bytes ≡ some (d, left)
+  pub read : datainfo_in 4 bytes ≡ Some (d, left)
 
 abbrev AllLie : Accessible → Type 0
 AllLie (parameter p) = Lies p.datainfo
-AllLie (command c) = (d : Datainfo) → c.argument ≡ some d → Lies d
+AllLie (command c) = (d : Datainfo) → c.argument ≡ Some d → Lies d
 
 abbrev pub ModuleLies : Module → Type 0
 ModuleLies m = Each AllLie m.accessibles
@@ -46,13 +46,13 @@ datainfo_lies : (xs : List ℕ) → Of (λ p. Lies p.0) (datainfo_at xs)
 datainfo_lies xs = go (datainfo_in 4 xs) refl
   where
     go : (o : Option (Datainfo × List ℕ)) → datainfo_in 4 xs ≡ o → Of (λ p. Lies p.0) o
-    go none e = failed
-    go (some p) e = gave (record { bytes = xs; left = p.1; read = e })
+    go None e = failed
+    go (Some p) e = gave (record { bytes = xs; left = p.1; read = e })
 
-no_argument : (d : Datainfo) → ◌≡◌ {A = Option Datainfo} none (some d) → Lies d
+no_argument : (d : Datainfo) → ◌≡◌ {A = Option Datainfo} None (Some d) → Lies d
 no_argument d e = let z : ◌≡◌ {A = ℕ} 0 1 = cc in absurd (omega arith)
 
-one_argument : (i : Datainfo) → Lies i → (d : Datainfo) → some i ≡ some d → Lies d
+one_argument : (i : Datainfo) → Lies i → (d : Datainfo) → Some i ≡ Some d → Lies d
 one_argument i h d e = let z : i ≡ d = cc in subst Lies z h
 
 parameter_lies : (n : ℕ) (xs : List ℕ) → Of (λ p. AllLie p.0) (parameter_at n xs)
@@ -62,7 +62,7 @@ parameter_lies n xs =
     of_bind (anything (flag c.1)) λ d _. of_bind (datainfo_lies d.1) λ e h. of_bind (anything (unsigned 2 e.1)) λ f _.
     of_bind (anything (part f.0 f.1)) λ g _. gave h
 
-argument_lies : (b : Bool) (xs : List ℕ) → Of (λ p. (d : Datainfo) → p.0 ≡ some d → Lies d) (argument_at b xs)
+argument_lies : (b : Bool) (xs : List ℕ) → Of (λ p. (d : Datainfo) → p.0 ≡ Some d → Lies d) (argument_at b xs)
 unfolding argument_at
 argument_lies false xs = gave no_argument
 argument_lies true xs = of_bind (datainfo_lies xs) λ p h. gave (one_argument p.0 h)
@@ -100,7 +100,7 @@ whole_lies xs =
     of_bind (anything (head_at xs)) λ a _. of_bind (modules_lie (length xs) (length a.1) a.1) λ b h.
     of_bind (anything (after (bytes "EN") b.1)) λ c _. of_cond (eqb (length c) 0) (gave h) failed
 
-pub table_lies : (xs : List ℕ) (w : Table) → read_table xs ≡ some w → Each ModuleLies w.modules
+pub table_lies : (xs : List ℕ) (w : Table) → read_table xs ≡ Some w → Each ModuleLies w.modules
 unfolding read_table
 table_lies xs w e = of_some (rw e at (of_cond {P = λ (w : Table). Each ModuleLies w.modules} (leb (length xs) 16384) (whole_lies xs) failed))
 
@@ -111,8 +111,8 @@ abbrev Left : {A : Type 0} → ℕ → A × List ℕ → Type 0
 Left n p = length p.1 ≤ n
 
 abbrev pub Within : ℕ → Option (List ℕ) → Type 0
-Within n none = Unit {0}
-Within n (some x) = length x ≤ n
+Within n None = Unit {0}
+Within n (Some x) = length x ≤ n
 
 module _ (n : ℕ) where
   after_left : (m xs : List ℕ) → length xs ≤ n → Of (λ r. length r ≤ n) (after m xs)
@@ -150,7 +150,7 @@ module _ (n : ℕ) where
       of_bind (head_left xs h) λ a i. of_bind (anything (modules_at (length xs) (length a.1) a.1)) λ b _.
       of_bind (anything (after (bytes "EN") b.1)) λ c _. of_cond (eqb (length c) 0) (gave i) failed
 
-pub edition_within : (xs : List ℕ) (w : Table) → read_table xs ≡ some w → Within 16384 w.edition
+pub edition_within : (xs : List ℕ) (w : Table) → read_table xs ≡ Some w → Within 16384 w.edition
 unfolding read_table
 edition_within xs w e =
     of_some (rw e at (of_case {P = λ (w : Table). Within 16384 w.edition} (leb (length xs) 16384)
@@ -160,7 +160,7 @@ edition_within xs w e =
 
 abbrev InTableOf : Accessible → Type 0
 InTableOf (parameter p) = InTable p.datainfo
-InTableOf (command c) = (d : Datainfo) → c.argument ≡ some d → InTable d
+InTableOf (command c) = (d : Datainfo) → c.argument ≡ Some d → InTable d
 
 in_table : (d : Datainfo) → Lies d → Datainfo.names_good d ≡ true → InTable d
 in_table d l e = record { levels = 4; bytes = l.bytes; left = l.left; read = l.read; names = e }
@@ -206,7 +206,7 @@ abbrev pub ParameterIn : Parameter → Type 0
 ParameterIn p = InTable p.datainfo
 
 abbrev pub CommandIn : Command → Type 0
-CommandIn c = (d : Datainfo) → c.argument ≡ some d → InTable d
+CommandIn c = (d : Datainfo) → c.argument ≡ Some d → InTable d
 
 parameters_each : (l : List Accessible) → Each InTableOf l → Each ParameterIn (parameters_of l)
 unfolding parameters_of

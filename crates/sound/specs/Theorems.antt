@@ -1,7 +1,5 @@
 -- What the plain node holds and writes, in every history after an accepted start. Assumes nothing.
-use Rattle.std.specs.Prelude.{ℕ, ◌≤◌, ◌<◌, true, false, not, List, [], ◌∷◌, ◌≡◌, eqb, length}
-use Rattle.std.proofs.Math.Option.{some}
-use Rattle.std.proofs.Math.ListN.{get_elem?}
+use Rattle.std.specs.Prelude.{ℕ, ◌≤◌, ◌<◌, true, false, not, List, [], ◌∷◌, ◌≡◌, eqb, length, Some, slice_get}
 use Rattle.ascii.specs.Bytes.{all}
 use Rattle.ascii.specs.Numbers.{latest}
 use Rattle.counter.specs.declared.Counts.{Counts}
@@ -46,7 +44,7 @@ CountsHeld x = (x.lines ≤ highest) × ((x.errors ≤ highest) × (x.updates �
 
 -- the contrary of document 01's "State is unfit if", of what a plain node holds; and its counts
 pub record Sound (w : Table) (n : Node) : Type 0 where
-  pub values : (k : ℕ) (p : Placed Parameter) → get_elem? (parameters w) k ≡ some p → ValueHeld p.it (n.values k)
+  pub values : (k : ℕ) (p : Placed Parameter) → slice_get (parameters w) k ≡ Some p → ValueHeld p.it (n.values k)
   pub clients : (c : ℕ) → ClientHeld w (n.clients c)
   pub above : (c : ℕ) → 7 < c → n.clients c ≡ closed
   pub counts : (c : ℕ) → CountsHeld (n.counts c)
@@ -54,10 +52,10 @@ pub record Sound (w : Table) (n : Node) : Type 0 where
 -- Every datainfo of an accepted table, of a parameter or of an argument, is one of which the theorems of stored forms speak
 -- (`form::stored_forms`): read from the table's bytes, with good names.
 pub record DatainfosInTable : Type 0 where
-  pub of_parameters : (table : List ℕ) → table_number table ≡ 0 → (k : ℕ) (p : Placed Parameter) → get_elem? (parameters (table_of table)) k ≡ some p
+  pub of_parameters : (table : List ℕ) → table_number table ≡ 0 → (k : ℕ) (p : Placed Parameter) → slice_get (parameters (table_of table)) k ≡ Some p
       → InTable p.it.datainfo
-  pub of_arguments : (table : List ℕ) → table_number table ≡ 0 → (k : ℕ) (c : Placed Command) → get_elem? (commands (table_of table)) k ≡ some c
-      → (d : Datainfo) → c.it.argument ≡ some d → InTable d
+  pub of_arguments : (table : List ℕ) → table_number table ≡ 0 → (k : ℕ) (c : Placed Command) → slice_get (commands (table_of table)) k ≡ Some c
+      → (d : Datainfo) → c.it.argument ≡ Some d → InTable d
 
 -- The plain node only ever holds values in stored form that fit their datainfo, or errors, with times within the limit; and so on for the rest.
 abbrev pub AlwaysSound : Type 0

@@ -1,11 +1,11 @@
 -- Settings, one after another: what the state and the values area stand for is set so too, and stays fit. Assumes nothing.
+use Rattle.std.specs.Prelude.{Some, slice_get}
 use Prim.Native.Nat.{ℕ, ◌≤◌, ◌<◌}
 use native.Mathlib.Omega.{arith}
 use mathlib.Core.Bool.{false}
 use mathlib.Core.List.{List, [], ◌∷◌}
-use mathlib.Core.Option.{some}
 use mathlib.Core.Path.{◌≡◌, refl, ap, ◌∙◌}
-use lib.ListN.{length, get_elem?, length-set}
+use lib.ListN.{length, length-set}
 use lib.Seq.{length-sets}
 use Rattle.ascii.specs.Numbers.{latest}
 use Rattle.form.proofs.Stored.{short_stored, some_stored}
@@ -26,7 +26,7 @@ use Rattle.state.proofs.Views.{value_view, fault_view}
 -- a setting of a parameter that is there, to a stored form that fits it or to an error, at a time within the limit
 pub record Settable (w : Table) (x : Setting) : Type 0 where
   pub it : Placed Parameter
-  pub there : get_elem? (parameters w) x.parameter ≡ some it
+  pub there : slice_get (parameters w) x.parameter ≡ Some it
   pub fits : HeldFits it.it x.held
   pub in_time : x.time ≤ latest
 
@@ -51,7 +51,7 @@ module _ (table : List ℕ) (few : length (parameters (table_of table)) ≤ 64) 
   ps = parameters (table_of table)
 
   one_set : (s : State) (values : List ℕ) → Sized s.settings → 16384 ≤ length values → settings_unfit s.settings values 0 ps ≡ false
-      → (k t : ℕ) (p : Placed Parameter) → get_elem? ps k ≡ some p → t ≤ latest → (h : Held) → HeldFits p.it h → OneSet table s values k h t
+      → (k t : ℕ) (p : Placed Parameter) → slice_get ps k ≡ Some p → t ≤ latest → (h : Held) → HeldFits p.it h → OneSet table s values k h t
   unfolding with_setting with_held with_stored
   one_set s values z room fit k t p there tm (valued v) i =
       let low : k < 64 = omega (arith, there_low ps k p there) in

@@ -1,14 +1,14 @@
 -- Laws of stored values: what is shown, and that a value that is stored, or an error, is shown from then on and no other is changed. Assumes
 -- nothing.
+use Rattle.std.specs.Prelude.{Option, Some, None, slice_get}
 use Prim.Native.Nat.{ℕ, zero, suc, ◌+◌, ◌*◌, ◌-◌, ◌≤◌, ◌<◌}
 use native.Mathlib.Nat.{add-zero, add-suc, suc-add, zero-add}
 use native.Mathlib.Omega.{arith}
 use mathlib.Core.Path.{◌≡◌, refl, sym, ap, subst, ◌∙◌}
 use mathlib.Core.Bool.{Bool, true, false, cond, not, ◌&&◌, ◌||◌}
 use mathlib.Core.List.{List, [], ◌∷◌}
-use mathlib.Core.Option.{Option, none, some}
 use lib.Dec.{eqb, ltb}
-use lib.ListN.{length, get_or, set, take, drop, get_elem?}
+use lib.ListN.{length, get_or, set, take, drop}
 use borrow.Author.Tests.{eqb-true, eqb-false, ne_eqb, ltb-false, le-ltb}
 use denote.Shadow.{shadow}
 use mir.Val.{Val}
@@ -52,14 +52,14 @@ module _ (s : Settings) (values : List ℕ) where
   abbrev pub FitAt : ℕ → Placed Parameter → Type 0
   FitAt p x = setting_unfit s values p x.it ≡ false
 
-  from_fit : (ps : List (Placed Parameter)) (q : ℕ) → settings_unfit s values q ps ≡ false → (p : ℕ) (x : Placed Parameter) → get_elem? ps p ≡ some x → FitAt (q + p) x
+  from_fit : (ps : List (Placed Parameter)) (q : ℕ) → settings_unfit s values q ps ≡ false → (p : ℕ) (x : Placed Parameter) → slice_get ps p ≡ Some x → FitAt (q + p) x
   unfolding settings_unfit
   from_fit [] q h p x e = let z : ◌≡◌ {A = ℕ} 0 1 = cc in absurd (omega arith)
   from_fit (y ∷ ys) q h zero x e = rw add-zero (subst (FitAt q) (in_some e) (neither (setting_unfit s values q y.it) _ h).0)
   from_fit (y ∷ ys) q h (suc p) x e =
       subst (λ (k : ℕ). FitAt k x) (suc-add q p ∙ sym (add-suc q p)) (from_fit ys (suc q) (neither (setting_unfit s values q y.it) _ h).1 p x e)
 
-  to_fit : (ps : List (Placed Parameter)) (q : ℕ) → ((p : ℕ) (x : Placed Parameter) → get_elem? ps p ≡ some x → FitAt (q + p) x) → settings_unfit s values q ps ≡ false
+  to_fit : (ps : List (Placed Parameter)) (q : ℕ) → ((p : ℕ) (x : Placed Parameter) → slice_get ps p ≡ Some x → FitAt (q + p) x) → settings_unfit s values q ps ≡ false
   unfolding settings_unfit
   to_fit [] q h = refl
   to_fit (y ∷ ys) q h =
@@ -67,10 +67,10 @@ module _ (s : Settings) (values : List ℕ) where
       (to_fit ys (suc q) (λ p x e. subst (λ (k : ℕ). FitAt k x) (add-suc q p ∙ sym (suc-add q p)) (h (suc p) x e)))
 
   module _ (ps : List (Placed Parameter)) where
-    pub each_fit : settings_unfit s values 0 ps ≡ false → (p : ℕ) (x : Placed Parameter) → get_elem? ps p ≡ some x → FitAt p x
+    pub each_fit : settings_unfit s values 0 ps ≡ false → (p : ℕ) (x : Placed Parameter) → slice_get ps p ≡ Some x → FitAt p x
     each_fit h p x e = subst (λ (k : ℕ). FitAt k x) (zero-add p) (from_fit ps 0 h p x e)
 
-    pub all_fit : ((p : ℕ) (x : Placed Parameter) → get_elem? ps p ≡ some x → FitAt p x) → settings_unfit s values 0 ps ≡ false
+    pub all_fit : ((p : ℕ) (x : Placed Parameter) → slice_get ps p ≡ Some x → FitAt p x) → settings_unfit s values 0 ps ≡ false
     all_fit h = to_fit ps 0 (λ p x e. subst (λ (k : ℕ). FitAt k x) (sym (zero-add p)) (h p x e))
 
 -- the parts of a fit setting
@@ -116,29 +116,29 @@ settings_sized s g =
     }
 
 -- with parameter k, which is x, holding v, and nothing else altered for the plain node
-module _ (table : List ℕ) (s r : Settings) (values stored : List ℕ) (ps : List (Placed Parameter)) (k : ℕ) (x : Placed Parameter) (at : get_elem? ps k ≡ some x) where
-  pub one_view : (v : Value) → value_at table r stored k (some x) ≡ v
-      → ((p : ℕ) (y : Placed Parameter) → get_elem? ps p ≡ some y → (p ≡ k → ⊥) → value_at table r stored p (some y) ≡ value_at table s values p (some y))
-      → (p : ℕ) → value_at table r stored p (get_elem? ps p) ≡ put (λ q. value_at table s values q (get_elem? ps q)) k v p
+module _ (table : List ℕ) (s r : Settings) (values stored : List ℕ) (ps : List (Placed Parameter)) (k : ℕ) (x : Placed Parameter) (at : slice_get ps k ≡ Some x) where
+  pub one_view : (v : Value) → value_at table r stored k (Some x) ≡ v
+      → ((p : ℕ) (y : Placed Parameter) → slice_get ps p ≡ Some y → (p ≡ k → ⊥) → value_at table r stored p (Some y) ≡ value_at table s values p (Some y))
+      → (p : ℕ) → value_at table r stored p (slice_get ps p) ≡ put (λ q. value_at table s values q (slice_get ps q)) k v p
   unfolding put value_at
   one_view v own others p = go (eqb p k) (eqb-true p k) (eqb-false p k)
     where
-      other : (p ≡ k → ⊥) → (o : Option (Placed Parameter)) → get_elem? ps p ≡ o → value_at table r stored p o ≡ value_at table s values p o
-      other n none e = refl
-      other n (some y) e = others p y e n
+      other : (p ≡ k → ⊥) → (o : Option (Placed Parameter)) → slice_get ps p ≡ o → value_at table r stored p o ≡ value_at table s values p o
+      other n None e = refl
+      other n (Some y) e = others p y e n
 
       go : (t : Bool) → (t ≡ true → p ≡ k) → (t ≡ false → p ≡ k → ⊥)
-          → value_at table r stored p (get_elem? ps p) ≡ cond t v (value_at table s values p (get_elem? ps p))
+          → value_at table r stored p (slice_get ps p) ≡ cond t v (value_at table s values p (slice_get ps p))
       go true a b = rw (a refl, at) own
-      go false a b = other (b refl) (get_elem? ps p) refl
+      go false a b = other (b refl) (slice_get ps p) refl
 
   pub one_fit : FitAt r stored k x
-      → ((p : ℕ) (y : Placed Parameter) → get_elem? ps p ≡ some y → (p ≡ k → ⊥) → FitAt r stored p y) → settings_unfit r stored 0 ps ≡ false
+      → ((p : ℕ) (y : Placed Parameter) → slice_get ps p ≡ Some y → (p ≡ k → ⊥) → FitAt r stored p y) → settings_unfit r stored 0 ps ≡ false
   one_fit own others = all_fit r stored ps (λ p y e. go p y e (eqb p k) (eqb-true p k) (eqb-false p k))
     where
-      go : (p : ℕ) (y : Placed Parameter) → get_elem? ps p ≡ some y → (t : Bool) → (t ≡ true → p ≡ k) → (t ≡ false → p ≡ k → ⊥) → FitAt r stored p y
+      go : (p : ℕ) (y : Placed Parameter) → slice_get ps p ≡ Some y → (t : Bool) → (t ≡ true → p ≡ k) → (t ≡ false → p ≡ k → ⊥) → FitAt r stored p y
       go p y e true a b =
-          let same : x ≡ y = in_some (sym at ∙ ap (get_elem? ps) (sym (a refl)) ∙ e) in
+          let same : x ≡ y = in_some (sym at ∙ ap (slice_get ps) (sym (a refl)) ∙ e) in
           subst (λ (q : ℕ). FitAt r stored q y) (sym (a refl)) (subst (FitAt r stored k) same own)
       go p y e false a b = others p y e (b refl)
 
@@ -167,22 +167,22 @@ module _ (s : Settings) (z : Sized s) (values : List ℕ) (room : 16384 ≤ leng
       rw (lengths.others p n) (rw add-zero at e)
 
   -- the value that is shown, and the others
-  own_value_lem : (table : List ℕ) (x : Placed Parameter) → value_at table (with_length s k (length text) time) (with_stored values k text) k (some x) ≡ showing text time
+  own_value_lem : (table : List ℕ) (x : Placed Parameter) → value_at table (with_length s k (length text) time) (with_stored values k text) k (Some x) ≡ showing text time
   unfolding value_at shown fault_of
   own_value_lem table x = rw (errors.own, lengths.own, ne_eqb (length text) 0 (λ e. omega arith), own_text_lem, times.own)
 
-  other_value_at : (table : List ℕ) (p : ℕ) (x : Placed Parameter) → (p ≡ k → ⊥) → get_or s.length p 0 ≤ 256 → value_at table (with_length s k (length text) time) (with_stored values k text) p (some x) ≡ value_at table s values p (some x)
+  other_value_at : (table : List ℕ) (p : ℕ) (x : Placed Parameter) → (p ≡ k → ⊥) → get_or s.length p 0 ≤ 256 → value_at table (with_length s k (length text) time) (with_stored values k text) p (Some x) ≡ value_at table s values p (Some x)
   unfolding value_at shown
   other_value_at table p x n l = rw (errors.others p n, lengths.others p n, other_text p n l, times.others p n)
 
-  module _ (ps : List (Placed Parameter)) (fit : settings_unfit s values 0 ps ≡ false) (x : Placed Parameter) (at : get_elem? ps k ≡ some x) where
-    short_at : (p : ℕ) (y : Placed Parameter) → get_elem? ps p ≡ some y → get_or s.length p 0 ≤ 256
+  module _ (ps : List (Placed Parameter)) (fit : settings_unfit s values 0 ps ≡ false) (x : Placed Parameter) (at : slice_get ps k ≡ Some x) where
+    short_at : (p : ℕ) (y : Placed Parameter) → slice_get ps p ≡ Some y → get_or s.length p 0 ≤ 256
     short_at p y e = (fit_parts s values p y (each_fit s values ps fit p y e)).short
 
     -- the values of the plain node that the state stands for
     pub stored_view : (table : List ℕ) (p : ℕ)
-        → value_at table (with_length s k (length text) time) (with_stored values k text) p (get_elem? ps p)
-        ≡ put (λ q. value_at table s values q (get_elem? ps q)) k (showing text time) p
+        → value_at table (with_length s k (length text) time) (with_stored values k text) p (slice_get ps p)
+        ≡ put (λ q. value_at table s values q (slice_get ps q)) k (showing text time) p
     stored_view table =
         one_view table s (with_length s k (length text) time) values (with_stored values k text) ps k x at (showing text time) (own_value_lem table x)
         (λ p y e n. other_value_at table p y n (short_at p y e))
@@ -197,7 +197,7 @@ module _ (s : Settings) (z : Sized s) (values : List ℕ) (room : 16384 ≤ leng
 -- ## A parameter is reported unreadable
 
 -- the number of a class is its number
-pub numbered : (f : Fault) → fault_of (fault_number f) ≡ some f
+pub numbered : (f : Fault) → fault_of (fault_number f) ≡ Some f
 unfolding fault_of fault_number
 numbered HardwareError = refl
 numbered CommunicationFailed = refl
@@ -218,9 +218,9 @@ module _ (s : Settings) (z : Sized s) (values : List ℕ) (k : ℕ) (h : k < 64)
   since : Changed s.time (set s.time k time) k time
   since = changed s.time k time (rw z.time h)
 
-  module _ (ps : List (Placed Parameter)) (fit : settings_unfit s values 0 ps ≡ false) (x : Placed Parameter) (at : get_elem? ps k ≡ some x) where
+  module _ (ps : List (Placed Parameter)) (fit : settings_unfit s values 0 ps ≡ false) (x : Placed Parameter) (at : slice_get ps k ≡ Some x) where
     pub failed_view : (table : List ℕ) (p : ℕ)
-        → value_at table (with_error s k (fault_number f) time) values p (get_elem? ps p) ≡ put (λ q. value_at table s values q (get_elem? ps q)) k (holding (failed f) time) p
+        → value_at table (with_error s k (fault_number f) time) values p (slice_get ps p) ≡ put (λ q. value_at table s values q (slice_get ps q)) k (holding (failed f) time) p
     unfolding value_at shown stored_text
     failed_view table =
         one_view table s (with_error s k (fault_number f) time) values values ps k x at (holding (failed f) time)

@@ -1,12 +1,12 @@
 -- A state that is fit for an accepted table stands for a sound node. Assumes nothing.
+use Rattle.std.specs.Prelude.{Option, Some, None, slice_get}
 use Prim.Native.Nat.{ℕ, ◌≤◌, ◌<◌}
 use native.Mathlib.Omega.{arith}
 use mathlib.Core.Path.{◌≡◌, refl, sym, subst}
 use mathlib.Core.Bool.{Bool, true, false, cond, not, ◌&&◌}
 use mathlib.Core.List.{List, [], ◌∷◌}
-use mathlib.Core.Option.{Option, none, some}
 use lib.Dec.{eqb, ltb}
-use lib.ListN.{length, get_or, take, drop, get_elem?, length-take, get_or-eq_default}
+use lib.ListN.{length, get_or, take, drop, length-take, get_or-eq_default}
 use borrow.Author.Tests.{ltb-true, ltb-false, not-false}
 use Rattle.ascii.specs.Bytes.{all, any}
 use Rattle.fit.specs.Fit.{is_stored}
@@ -33,13 +33,13 @@ use Rattle.state.proofs.Cells as Cells
 use Rattle.state.proofs.Settled as Settled
 use Rattle.state.proofs.Kept.{each_fit}
 
-pub was_read : (table : List ℕ) → table_number table ≡ 0 → read_table table ≡ some (table_of table)
+pub was_read : (table : List ℕ) → table_number table ≡ 0 → read_table table ≡ Some (table_of table)
 unfolding table_number table_of number_of or_empty
 was_read table e = go (read_table table) e
   where
-    go : (o : Option Table) → number_of o ≡ 0 → o ≡ some (or_empty o)
-    go none e = absurd (omega arith)
-    go (some w) e = refl
+    go : (o : Option Table) → number_of o ≡ 0 → o ≡ Some (or_empty o)
+    go None e = absurd (omega arith)
+    go (Some w) e = refl
 
 -- ## Clients
 
@@ -83,14 +83,14 @@ module _ (w : Table) (s : Clients) (z : Sized s) (fit : any (client_unfit (lengt
 -- ## Values
 
 module _ (table : List ℕ) (e : table_number table ≡ 0) (s : State) (values : List ℕ) (fit : settings_unfit s.settings values 0 (parameters (table_of table)) ≡ false) where
-  pub value_held : (k : ℕ) (p : Placed Parameter) → get_elem? (parameters (table_of table)) k ≡ some p → ValueHeld p.it (value_at table s.settings values k (get_elem? (parameters (table_of table)) k))
+  pub value_held : (k : ℕ) (p : Placed Parameter) → slice_get (parameters (table_of table)) k ≡ Some p → ValueHeld p.it (value_at table s.settings values k (slice_get (parameters (table_of table)) k))
   unfolding value_at shown
   value_held k p h =
       rw h (either (fault_of (get_or s.settings.error k 0)) _ (go (eqb (get_or s.settings.length k 0) 0) f.form), f.in_time)
     where
       either : (o : Option Fault) (v : List ℕ) → is_stored p.it.datainfo v ≡ true → HeldFits p.it (held_as o v)
-      either none v i = i
-      either (some x) v i = tt
+      either None v i = i
+      either (Some x) v i = tt
 
       f : Settled.Fit (get_or s.settings.length k 0) (stored_text s.settings values k) (get_or s.settings.time k 0) (get_or s.settings.error k 0) p
       f = Settled.fit_parts s.settings values k p (Settled.each_fit s.settings values (parameters (table_of table)) fit k p h)

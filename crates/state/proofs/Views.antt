@@ -1,10 +1,10 @@
 -- Laws of the plain node that a state stands for: a change of the state is the plain node's own small change. Assumes nothing.
+use Rattle.std.specs.Prelude.{Option, Some, None, slice_get}
 use Prim.Native.Nat.{ℕ, ◌≤◌, ◌<◌}
 use mathlib.Core.Path.{◌≡◌, refl, ap, ap₂, fun_ext, ◌∙◌}
 use mathlib.Core.Bool.{false}
 use mathlib.Core.List.{List}
-use mathlib.Core.Option.{Option, none, some}
-use lib.ListN.{length, get_or, get_elem?}
+use lib.ListN.{length, get_or}
 use Rattle.table.specs.Table.{Parameter, Table}
 use Rattle.table.specs.Layout.{read_table, or_empty, table_of}
 use Rattle.table.specs.Search.{Placed, parameters}
@@ -30,7 +30,7 @@ client_view table s values b = ap (λ (f : ℕ → Client). with_clients (view t
 
 -- a value is stored
 module _ (table : List ℕ) (s : State) (z : Sized s.settings) (values : List ℕ) (room : 16384 ≤ length values) (k : ℕ) (h : k < 64) (text : List ℕ) (some_bytes : 0 < length text) (short : length text ≤ 256) (time : ℕ) where
-  pub value_view : settings_unfit s.settings values 0 (parameters (table_of table)) ≡ false → (x : Placed Parameter) → get_elem? (parameters (table_of table)) k ≡ some x
+  pub value_view : settings_unfit s.settings values 0 (parameters (table_of table)) ≡ false → (x : Placed Parameter) → slice_get (parameters (table_of table)) k ≡ Some x
       → view table (next_settings s (with_length s.settings k (length text) time)) (with_stored values k text)
       ≡ with_value (view table s values) k (showing text time)
   unfolding view
@@ -41,15 +41,15 @@ module _ (table : List ℕ) (s : State) (z : Sized s.settings) (values : List �
 -- a parameter can't be read
 pub fault_view :
     (table : List ℕ) (s : State) → Sized s.settings → (values : List ℕ) (k : ℕ) → k < 64 → (f : Fault) (time : ℕ)
-    → settings_unfit s.settings values 0 (parameters (table_of table)) ≡ false → (x : Placed Parameter) → get_elem? (parameters (table_of table)) k ≡ some x
+    → settings_unfit s.settings values 0 (parameters (table_of table)) ≡ false → (x : Placed Parameter) → slice_get (parameters (table_of table)) k ≡ Some x
     → view table (next_settings s (with_error s.settings k (fault_number f) time)) values ≡ with_value (view table s values) k (holding (failed f) time)
 unfolding view
 fault_view table s z values k h f time fit x at =
     ap (with_values (view table s values)) (fun_ext (failed_view s.settings z values k h f time (parameters (table_of table)) fit x at table))
 
 -- a parameter that was never set shows its initial value
-module _ (table : List ℕ) (w : Table) (read : read_table table ≡ some w) (s : Settings) (values : List ℕ) where
-  pub never_set : (p : ℕ) (x : Placed Parameter) → get_elem? (parameters w) p ≡ some x → get_or s.length p 0 ≡ 0 → shown table s values p x.it ≡ x.it.initial
+module _ (table : List ℕ) (w : Table) (read : read_table table ≡ Some w) (s : Settings) (values : List ℕ) where
+  pub never_set : (p : ℕ) (x : Placed Parameter) → slice_get (parameters w) p ≡ Some x → get_or s.length p 0 ≡ 0 → shown table s values p x.it ≡ x.it.initial
   unfolding shown
   never_set p x e h = rw h (initial_lies table w read p x e)
 
@@ -57,18 +57,18 @@ module _ (table : List ℕ) (w : Table) (read : read_table table ≡ some w) (s 
   started :
       (t : ℕ) → ((p : ℕ) → p < length (parameters w) → get_or s.length p 0 ≡ 0) → ((p : ℕ) → p < length (parameters w) → get_or s.error p 0 ≡ 0)
       → ((p : ℕ) → p < length (parameters w) → get_or s.time p 0 ≡ t) → (p : ℕ)
-      → value_at table s values p (get_elem? (parameters w) p) ≡ initially (get_elem? (parameters w) p) t
+      → value_at table s values p (slice_get (parameters w) p) ≡ initially (slice_get (parameters w) p) t
   unfolding value_at initially fault_of
-  started t n k m p = go (get_elem? (parameters w) p) refl
+  started t n k m p = go (slice_get (parameters w) p) refl
     where
-      go : (o : Option (Placed Parameter)) → get_elem? (parameters w) p ≡ o → value_at table s values p o ≡ initially o t
-      go none e = refl
-      go (some x) e =
+      go : (o : Option (Placed Parameter)) → slice_get (parameters w) p ≡ o → value_at table s values p o ≡ initially o t
+      go None e = refl
+      go (Some x) e =
           let low = there_low (parameters w) p x e in
           rw (k p low, never_set p x e (n p low), m p low)
 
 -- the node after an accepted start: no client is open, nothing is set, no parameter is in error, and all times are the start's
-pub begun_view : (table : List ℕ) (w : Table) → read_table table ≡ some w → (s : State) (values : List ℕ) (t : ℕ) → ((c : ℕ) → client_at s.clients c ≡ closed)
+pub begun_view : (table : List ℕ) (w : Table) → read_table table ≡ Some w → (s : State) (values : List ℕ) (t : ℕ) → ((c : ℕ) → client_at s.clients c ≡ closed)
     → ((p : ℕ) → p < length (parameters w) → get_or s.settings.length p 0 ≡ 0) → ((p : ℕ) → p < length (parameters w) → get_or s.settings.error p 0 ≡ 0)
     → ((p : ℕ) → p < length (parameters w) → get_or s.settings.time p 0 ≡ t) → ((c : ℕ) → counts_at s.counts c ≡ no_counts)
     → view table s values ≡ begin w t

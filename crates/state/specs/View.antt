@@ -1,8 +1,6 @@
 -- The plain node that a state stands for, with the table and the values area that it is handed in with (document 01, "Numbers a call
 -- answers with"; M-102, M-108). Assumes nothing.
-use Rattle.std.specs.Prelude.{ℕ, ◌*◌, ◌/◌, ◌%◌, ◌^◌, Bool, cond, not, List, [], ◌∷◌, eqb, length, get_or, set, take, drop}
-use Rattle.std.proofs.Math.Option.{Option, none, some}
-use Rattle.std.proofs.Math.ListN.{get_elem?}
+use Rattle.std.specs.Prelude.{ℕ, ◌*◌, ◌/◌, ◌%◌, ◌^◌, Bool, cond, not, List, [], ◌∷◌, eqb, length, get_or, set, take, drop, Option, Some, None, slice_get}
 use Rattle.std.proofs.lemmas.List.Edits.{sets}
 use Rattle.counter.specs.declared.Counts.{Counts}
 use Rattle.counter.specs.Counts.{no_counts, all_counted}
@@ -61,8 +59,8 @@ shown_bytes table s values p initial = cond (eqb (get_or s.length p 0) 0) (bytes
 -- "holds either a value or such an error, with its time" (M-102): while there is one, the value is not shown. Past the last parameter nothing is
 -- looked at [L-28, C-19, H-1]
 unfoldable pub value_at : List ℕ → Settings → List ℕ → ℕ → Option (Placed Parameter) → Value
-value_at table s values p none = showing [] 0
-value_at table s values p (some x) =
+value_at table s values p None = showing [] 0
+value_at table s values p (Some x) =
     holding (held_as (fault_of (get_or s.error p 0)) (shown table s values p x.it)) (get_or s.time p 0)
 
 -- ## Counts
@@ -88,7 +86,7 @@ unfoldable pub view : List ℕ → State → List ℕ → Node
 view table s values =
     record {
       clients = client_at s.clients;
-      values = λ p. value_at table s.settings values p (get_elem? (parameters (table_of table)) p);
+      values = λ p. value_at table s.settings values p (slice_get (parameters (table_of table)) p);
       counts = counts_at s.counts;
     }
 

@@ -1,9 +1,9 @@
 -- What an index alters over the calls. Assumes nothing.
+use Rattle.std.specs.Prelude.{Option, Some, None}
 use Prim.Native.Nat.{ℕ, zero, suc, ◌≤◌}
 use native.Mathlib.Omega.{arith}
 use mathlib.Core.Bool.{Bool, true, false, cond, not}
 use mathlib.Core.List.{List, ◌++◌}
-use mathlib.Core.Option.{Option, none, some}
 use mathlib.Core.Path.{◌≡◌, refl, ap, ◌∙◌}
 use borrow.Author.Tests.{not-false}
 use Rattle.ascii.specs.Bytes.{is_some}
@@ -66,8 +66,8 @@ unfolding table_number table_of number_of or_empty
 table_good s e = go (read_table s) e
   where
     go : (o : Option Table) → number_of o ≡ 0 → (counts_good (or_empty o) ≡ true) × (names_good (or_empty o) ≡ true)
-    go none e = absurd (omega arith)
-    go (some t) e = tree_good t e
+    go None e = absurd (omega arith)
+    go (Some t) e = tree_good t e
 
 -- what holds of 0 steps, and of those of a call on a table that is accepted
 module _ (table : List ℕ) (unfit : Bool) (n : Node) (e : Call) (P : ℕ → Type 0) where
@@ -94,8 +94,8 @@ module _ (table : List ℕ) (unfit : Bool) (n : Node) (e : Call) (P : ℕ → Ty
 module _ (w : Table) (index : List ℕ) where
   -- by the names that are sought
   abbrev steps_of : Option (List ℕ × List ℕ) → ℕ
-  steps_of none = 0
-  steps_of (some x) = seek_steps w index x.0 x.1
+  steps_of None = 0
+  steps_of (Some x) = seek_steps w index x.0 x.1
 
   request_steps_lem : (r : Request) → request_steps w index r ≡ steps_of (names_sought w r)
   unfolding request_steps names_sought
@@ -109,7 +109,7 @@ module _ (w : Table) (index : List ℕ) where
   request_steps_lem (execute m a v) = refl
   request_steps_lem (check m a v) = go (is_some w.edition)
     where
-      go : (b : Bool) → cond b (seek_steps w index m a) 0 ≡ steps_of (cond b (some (m, a)) none)
+      go : (b : Bool) → cond b (seek_steps w index m a) 0 ≡ steps_of (cond b (Some (m, a)) None)
       go true = refl
       go false = refl
   request_steps_lem count = refl
@@ -129,15 +129,15 @@ module _ (w : Table) (index : List ℕ) where
   event_steps_lem n (Piece c bs t) = go (has_feed bs)
     where
       go : (b : Bool) → ended_steps w index (with_client n c (receive (n.clients c) (before_feed bs))) c b
-          ≡ steps_of (cond b (names_sought w (request_of n c bs)) none)
+          ≡ steps_of (cond b (names_sought w (request_of n c bs)) None)
       go true = line_steps_lem n c bs
       go false = refl
   event_steps_lem n (Reading p bs t) = refl
   event_steps_lem n (Unreadable p k t) = refl
 
   steps_low : counts_good w ≡ true → (o : Option (List ℕ × List ℕ)) → steps_of o ≤ 192
-  steps_low h none = omega arith
-  steps_low h (some x) = steps_are_few w index x.0 x.1 h
+  steps_low h None = omega arith
+  steps_low h (Some x) = steps_are_few w index x.0 x.1 h
 
 -- ## Steps of a call
 
@@ -155,7 +155,7 @@ seek_steps_lem : (w : Table) (index m a : List ℕ) → is_some (find_module w m
 unfolding seek_steps
 seek_steps_lem w index m a h = rw h
 
-no_steps : (w : Table) (index m a : List ℕ) → find_module w m ≡ none → seek_steps w index m a ≡ 0
+no_steps : (w : Table) (index m a : List ℕ) → find_module w m ≡ None → seek_steps w index m a ≡ 0
 unfolding seek_steps
 no_steps w index m a h = rw h
 

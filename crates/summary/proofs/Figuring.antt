@@ -1,12 +1,12 @@
 -- Laws of the figures' lines: all of them in table order, and their lengths. Assumes nothing.
+use Rattle.std.specs.Prelude.{Option, Some, None, slice_get}
 use Prim.Native.Nat.{ℕ, suc, ◌+◌, ◌*◌, ◌≤◌, ◌<◌}
 use native.Mathlib.Numerals.{add-one}
 use native.Mathlib.Omega.{arith}
 use mathlib.Core.Bool.{Bool}
 use mathlib.Core.List.{List, [], ◌∷◌, ◌++◌, append_assoc, append-nil}
-use mathlib.Core.Option.{some}
 use mathlib.Core.Path.{◌≡◌, refl, sym, ap, ap₂, ◌∙◌}
-use lib.ListN.{length, drop, get_elem?, length-append}
+use lib.ListN.{length, drop, length-append}
 use Rattle.ascii.specs.Clauses.Writer.{Puts}
 use Rattle.emit.specs.Clauses.Emitted.{Emits}
 use Rattle.emit.proofs.Pieces.{both, nothing}
@@ -16,7 +16,6 @@ use Rattle.table.specs.Search.{Placed, parameters_of, parameters}
 use Rattle.table.specs.Clauses.At.{bytes_of, parameter_of}
 use Rattle.table.specs.declared.layout.ParameterAt.{ParameterAt}
 use Rattle.search.specs.declared.cursor.Cursor.{Cursor}
-use Rattle.search.specs.declared.cursor.NextParameter as P
 use Rattle.search.specs.Clauses.Left.{placed, OnWay, FirstCursor, NextParameterIs, ParameterIn}
 use Rattle.search.specs.Clauses.Found.{ParameterNumbered}
 use Rattle.search.proofs.Finds.{Counted, counted_parameters, number_end, number_is_lem, number_on}
@@ -77,11 +76,11 @@ module _ (table : List ℕ) (f : Figures) where
       pub telling_all : 64 ≤ k → length (figures_of table f) ≤ 32768 → Puts d 0 (figures_of table f) e p × (p ≤ 32768)
       telling_all l s = all_put (none_left (past_64 table t.accepted k l)) s
 
-      module _ (r : P.NextParameter) (hr : NextParameterIs table i r) where
-        pub telling_end : r ≡ P.TheVariants.End → length (figures_of table f) ≤ 32768 → Puts d 0 (figures_of table f) e p × (p ≤ 32768)
+      module _ (r : Option (ParameterAt × Cursor)) (hr : NextParameterIs table i r) where
+        pub telling_end : r ≡ None → length (figures_of table f) ≤ 32768 → Puts d 0 (figures_of table f) e p × (p ≤ 32768)
         telling_end z s = all_put (none_left (number_end table k k i h.counted r hr z)) s
 
-        module _ (q : ParameterAt) (n : Cursor) (z : r ≡ P.TheVariants.At q n) where
+        module _ (q : ParameterAt) (n : Cursor) (z : r ≡ Some (q, n)) where
           number : ParameterNumbered table k q n
           number = number_is_lem table k k i h.counted r hr q n z refl
 
@@ -130,7 +129,7 @@ figures_short table f d t =
 -- ## What is kept tells what was set
 
 same_lines_lem : (f : Figures) (sets : ℕ → List (List ℕ)) (k : ℕ) (ps : List (Placed Parameter))
-    → ((j : ℕ) (p : Placed Parameter) → get_elem? ps j ≡ some p → Tallies p.it.datainfo (sets (k + j)) (tally_at f (k + j)))
+    → ((j : ℕ) (p : Placed Parameter) → slice_get ps j ≡ Some p → Tallies p.it.datainfo (sets (k + j)) (tally_at f (k + j)))
     → tally_lines f k ps ≡ figure_lines sets k ps
 unfolding tally_lines figure_lines
 same_lines_lem f sets k [] h = refl
@@ -143,7 +142,7 @@ same_lines_lem f sets k (p ∷ ps) h =
     rw one_more_lem at (h (suc j) q e))
 
 pub figures_told : (table : List ℕ) (f : Figures) (sets : ℕ → List (List ℕ))
-    → ((j : ℕ) (p : Placed Parameter) → get_elem? (parameters (table_of table)) j ≡ some p → Tallies p.it.datainfo (sets j) (tally_at f j))
+    → ((j : ℕ) (p : Placed Parameter) → slice_get (parameters (table_of table)) j ≡ Some p → Tallies p.it.datainfo (sets j) (tally_at f j))
     → figures_of table f ≡ figure_lines sets 0 (parameters (table_of table))
 figures_told table f sets h =
     same_lines_lem f sets 0 (parameters (table_of table)) λ j p e.

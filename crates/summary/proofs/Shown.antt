@@ -1,14 +1,14 @@
 -- Laws of the parameters' lines: one by its positions, and all of them in table order. Assumes nothing.
+use Rattle.std.specs.Prelude.{Option, Some, None, slice_get}
 use Prim.Native.Nat.{ℕ, suc, ◌+◌, ◌*◌, ◌≤◌, ◌<◌}
 use native.Mathlib.Nat.{zero-add, add-zero}
 use native.Mathlib.Numerals.{add-one}
 use native.Mathlib.Omega.{arith}
 use mathlib.Core.Bool.{cond, false}
 use mathlib.Core.List.{List, [], ◌∷◌, ◌++◌}
-use mathlib.Core.Option.{Option, some}
 use mathlib.Core.Path.{◌≡◌, refl, sym, ap, subst, ◌∙◌}
 use lib.Dec.{eqb}
-use lib.ListN.{length, get_or, drop, get_elem?, length-append}
+use lib.ListN.{length, get_or, drop, length-append}
 use Rattle.ascii.specs.Text.{bytes}
 use Rattle.ascii.specs.Clauses.Writer.{Puts}
 use Rattle.message.specs.Error.{Fault, HardwareError, CommunicationFailed, ReadFailed, OutOfRange, fault_name, fault_of}
@@ -20,7 +20,6 @@ use Rattle.table.specs.Clauses.At.{bytes_of, parameter_of}
 use Rattle.table.specs.declared.layout.ParameterAt.{ParameterAt}
 use Rattle.table.proofs.Places.{initial_lies}
 use Rattle.search.specs.declared.cursor.Cursor.{Cursor}
-use Rattle.search.specs.declared.cursor.NextParameter as P
 use Rattle.search.specs.Clauses.Left.{placed, OnWay, FirstCursor, NextParameterIs}
 use Rattle.search.specs.Clauses.Found.{ParameterNumbered}
 use Rattle.search.proofs.Finds.{Counted, counted_parameters, number_end, number_is_lem, number_on}
@@ -79,7 +78,7 @@ line_short p v f =
     omega arith
 
 lines_short : (values : ℕ → Value) (k : ℕ) (ps : List (Placed Parameter))
-    → ((j : ℕ) (p : Placed Parameter) → get_elem? ps j ≡ some p → Fine (Node.report_of p (values (k + j)))) → length (value_lines values k ps) ≤ length ps * 385
+    → ((j : ℕ) (p : Placed Parameter) → slice_get ps j ≡ Some p → Fine (Node.report_of p (values (k + j)))) → length (value_lines values k ps) ≤ length ps * 385
 unfolding value_lines
 lines_short values k [] h = omega arith
 lines_short values k (p ∷ ps) h =
@@ -93,7 +92,7 @@ lines_short values k (p ∷ ps) h =
 module _ (table : List ℕ) (s : Settings) (values : List ℕ) where
   -- the values that are shown
   abbrev shown_at : ℕ → Value
-  shown_at k = value_at table s values k (get_elem? (parameters (table_of table)) k)
+  shown_at k = value_at table s values k (slice_get (parameters (table_of table)) k)
 
   abbrev pub every : List ℕ
   every = value_lines shown_at 0 (parameters (table_of table))
@@ -124,18 +123,18 @@ module _ (table : List ℕ) (s : Settings) (values : List ℕ) where
     pub sent_all : table_number table ≡ 0 → 64 ≤ k → Puts d 0 every e p
     sent_all a l = none_left (past_64 table a k l)
 
-    module _ (r : P.NextParameter) (hr : NextParameterIs table i r) where
-      pub sent_end : r ≡ P.TheVariants.End → Puts d 0 every e p
+    module _ (r : Option (ParameterAt × Cursor)) (hr : NextParameterIs table i r) where
+      pub sent_end : r ≡ None → Puts d 0 every e p
       sent_end z = none_left (number_end table k k i h.counted r hr z)
 
-      module _ (q : ParameterAt) (n : Cursor) (z : r ≡ P.TheVariants.At q n) (a : table_number table ≡ 0) where
+      module _ (q : ParameterAt) (n : Cursor) (z : r ≡ Some (q, n)) (a : table_number table ≡ 0) where
         number : ParameterNumbered table k q n
         number = number_is_lem table k k i h.counted r hr q n z refl
 
         abbrev it : Placed Parameter
         it = placed table n (parameter_of table q number.held.datainfo)
 
-        there : get_elem? (parameters (table_of table)) k ≡ some it
+        there : slice_get (parameters (table_of table)) k ≡ Some it
         there = number.is
 
         held_is : (shown_at k).held
@@ -196,7 +195,7 @@ module _ (table : List ℕ) (s : State) (values : List ℕ) (d : List ℕ) (g : 
         counts = λ i. (omega arith, (omega arith, omega arith));
       }
 
-  fine_at : (j : ℕ) (x : Placed Parameter) → get_elem? (parameters (table_of table)) j ≡ some x → Fine (Node.report_of x (shown_at table s.settings values j))
+  fine_at : (j : ℕ) (x : Placed Parameter) → slice_get (parameters (table_of table)) j ≡ Some x → Fine (Node.report_of x (shown_at table s.settings values j))
   fine_at j x y = fine (table_of table) (accepted table g.accepted) node sound j x y (node.values j) (sound.values j x y)
 
   pub every_short : length (every table s.settings values) ≤ 24640
@@ -205,8 +204,8 @@ module _ (table : List ℕ) (s : State) (values : List ℕ) (d : List ℕ) (g : 
       let f = (accepted table g.accepted).few in
       omega arith
 
-  pub next_shows : (k : ℕ) (i : Cursor) (e : List ℕ) (p : ℕ) → Sent table s.settings values d k i e p → (r : P.NextParameter) → NextParameterIs table i r
-      → (q : ParameterAt) (n : Cursor) → r ≡ P.TheVariants.At q n → k < 64 → Writable table s.settings values e p k q n
+  pub next_shows : (k : ℕ) (i : Cursor) (e : List ℕ) (p : ℕ) → Sent table s.settings values d k i e p → (r : Option (ParameterAt × Cursor)) → NextParameterIs table i r
+      → (q : ParameterAt) (n : Cursor) → r ≡ Some (q, n) → k < 64 → Writable table s.settings values e p k q n
   next_shows k i e p h r hr q n z y =
       let l = every_short in
       let w = g.room in

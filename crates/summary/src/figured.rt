@@ -5,7 +5,7 @@ ghost use Rattle.summary.specs.Clauses.Figured.{Placing, Tells, Tellable, figure
 
 use figures::{Figures, emit_line, is_summed, tally_at};
 use limits::ACCESSIBLES;
-use search::cursor::{Cursor, NextParameter, first_cursor, next_parameter};
+use search::cursor::{Cursor, first_cursor, next_parameter};
 use table::layout::ParameterAt;
 use update::bytes_of;
 
@@ -41,7 +41,7 @@ pub fn put_figures(table: &[u8], out: &mut [u8], figures: Figures) -> usize
     let mut k = 0;
     let mut cursor = first_cursor(table);
     while k < ACCESSIBLES {
-        let NextParameter::At(p, next) = next_parameter(table, cursor) else {
+        let Some((p, next)) = next_parameter(table, cursor) else {
             return end;
         };
         end = emit_figure(table, out, end, figures, k, p, next);

@@ -18,7 +18,7 @@ use ascii::write::{put, put_byte, put_decimal};
 use limits::ACCESSIBLES;
 use message::say::{Fault, Sensor};
 use replay::Replay;
-use search::cursor::{Cursor, NextParameter, first_cursor, next_parameter};
+use search::cursor::{Cursor, first_cursor, next_parameter};
 use state::setting::{sensor_at, shown};
 use state::{Settings, State};
 use table::layout::ParameterAt;
@@ -102,7 +102,7 @@ fn put_values<'a>(table: &'a [u8], values: &'a [u8], out: &mut [u8], state: Stat
     let mut k = 0;
     let mut cursor = first_cursor(table);
     while k < ACCESSIBLES {
-        let NextParameter::At(p, next) = next_parameter(table, cursor) else {
+        let Some((p, next)) = next_parameter(table, cursor) else {
             return end;
         };
         end = put_shown(table, values, out, end, settings, k, p, next);

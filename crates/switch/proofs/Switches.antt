@@ -1,10 +1,10 @@
 -- Laws of requests that alter a client's active modules: the bits of masks, and the records. Assumes nothing.
+use Rattle.std.specs.Prelude.{Option, Some, None}
 use Prim.Native.Nat.{ℕ, ◌≤◌, ◌<◌}
 use native.Mathlib.Omega.{arith}
 use mathlib.Core.Path.{◌≡◌, refl, sym, ap, fun_ext, ◌∙◌}
 use mathlib.Core.Bool.{Bool, true, false, not, ◌&&◌, ◌||◌}
 use mathlib.Core.List.{List, [], ◌∷◌, ◌++◌}
-use mathlib.Core.Option.{Option, none, some}
 use lib.Dec.{eqb, ltb}
 use lib.ListN.{length, get_or}
 use borrow.Author.Tests.{eqb-true, lt-ltb, le-ltb}
@@ -96,26 +96,26 @@ module _ (w : Table) (n : Node) (c t : ℕ) (before after values : List ℕ) whe
       }
 
   pub all_inactive :
-      (written : ℕ) → Puts before 0 (encode (final c (inactive none))) after written
-      → Activates w n c t before after values values (outcome w n c t (deactivate none)) 0 written
+      (written : ℕ) → Puts before 0 (encode (final c (inactive None))) after written
+      → Activates w n c t before after values values (outcome w n c t (deactivate None)) 0 written
   unfolding outcome in_scope deactivates
   all_inactive written p =
-      switched (λ i. is_active (n.clients c) i && not true) [] (inactive none) 0 written
+      switched (λ i. is_active (n.clients c) i && not true) [] (inactive None) 0 written
       (λ i. no_bit i ∙ sym (and_none (is_active (n.clients c) i)))
       (λ i l. and_none (is_active (n.clients c) i))
-      (puts_after [] (final c (inactive none)) before before 0 (puts_none before) after written p)
+      (puts_after [] (final c (inactive None)) before before 0 (puts_none before) after written p)
 
   pub one_inactive :
       (name : List ℕ) (i mask : ℕ) → past_last mask (length w.modules) ≡ false → ((j : ℕ) → is_active (n.clients c) j ≡ bit mask j)
       → (next : ℕ) → ((j : ℕ) → bit next j ≡ bit mask j && not (eqb j i))
-      → (written : ℕ) → Puts before 0 (encode (final c (inactive (some name)))) after written
-      → Activates w n c t before after values values (deactivates w n c t (λ j. eqb j i) (some name)) next written
+      → (written : ℕ) → Puts before 0 (encode (final c (inactive (Some name)))) after written
+      → Activates w n c t before after values values (deactivates w n c t (λ j. eqb j i) (Some name)) next written
   unfolding deactivates
   one_inactive name i mask low h next k written p =
-      switched (λ j. is_active (n.clients c) j && not (eqb j i)) [] (inactive (some name)) next written
+      switched (λ j. is_active (n.clients c) j && not (eqb j i)) [] (inactive (Some name)) next written
       (λ j. k j ∙ ap (λ (b : Bool). b && not (eqb j i)) (sym (h j)))
       (λ j l. ap (λ (b : Bool). b && not (eqb j i)) (h j ∙ not_past mask (length w.modules) low j l))
-      (puts_after [] (final c (inactive (some name))) before before 0 (puts_none before) after written p)
+      (puts_after [] (final c (inactive (Some name))) before before 0 (puts_none before) after written p)
 
   -- the modules of a scope too
   module _ (s : Sound w n) (mask : ℕ) (h : (j : ℕ) → is_active (n.clients c) j ≡ bit mask j) (mid : List ℕ) (p written : ℕ) where
@@ -136,20 +136,20 @@ module _ (w : Table) (n : Node) (c t : ℕ) (before after values : List ℕ) whe
     all_active :
         (next : ℕ) → ((j : ℕ) → bit next j ≡ bit mask j || ltb j (length w.modules))
         → Puts before 0 (encode_all (updates_of c (λ i. true) n.values 0 (parameters w))) mid p
-        → Puts mid p (encode (final c (active none))) after written
-        → Activates w n c t before after values values (outcome w n c t (activate none)) next written
+        → Puts mid p (encode (final c (active None))) after written
+        → Activates w n c t before after values values (outcome w n c t (activate None)) next written
     unfolding outcome in_scope
     all_active next k x y =
-        more_active (λ i. true) none next (λ j. k j ∙ ap (λ (b : Bool). bit mask j || b) (sym (and-true (ltb j (length w.modules))))) x y
+        more_active (λ i. true) None next (λ j. k j ∙ ap (λ (b : Bool). bit mask j || b) (sym (and-true (ltb j (length w.modules))))) x y
 
     one_active :
         (name : List ℕ) (i : ℕ) → i < length w.modules
         → (next : ℕ) → ((j : ℕ) → bit next j ≡ bit mask j || eqb j i)
         → Puts before 0 (encode_all (updates_of c (λ j. eqb j i) n.values 0 (parameters w))) mid p
-        → Puts mid p (encode (final c (active (some name)))) after written
-        → Activates w n c t before after values values (activates w n c t (λ j. eqb j i) (some name)) next written
+        → Puts mid p (encode (final c (active (Some name)))) after written
+        → Activates w n c t before after values values (activates w n c t (λ j. eqb j i) (Some name)) next written
     one_active name i low next k x y =
-        more_active (λ j. eqb j i) (some name) next (λ j. k j ∙ ap (λ (b : Bool). bit mask j || b) (sym (low_only j i (length w.modules) low))) x y
+        more_active (λ j. eqb j i) (Some name) next (λ j. k j ∙ ap (λ (b : Bool). bit mask j || b) (sym (low_only j i (length w.modules) low))) x y
 
 -- ## An activate, at a state that is fit
 
@@ -178,8 +178,8 @@ module _ (table : List ℕ) (s : State) (z : Sized s.clients) (values out : List
         (k : ℕ) → k ≡ length w.modules
         → ((j : ℕ) → bit next j ≡ bit (get_or s.clients.active c 0) j || ltb j k)
         → Puts out 0 (encode_all (updates_of c (λ i. true) n.values 0 (parameters w))) mid p
-        → Puts mid p (encode (final c (active none))) after written
-        → Activates w n c t out after values values (outcome w n c t (activate none)) next written
+        → Puts mid p (encode (final c (active None))) after written
+        → Activates w n c t out after values values (outcome w n c t (activate None)) next written
     activated_all k f h =
         all_active w n c t out after values sound (get_or s.clients.active c 0) (open_bits table s values c r.is_open) mid p written next
         (λ j. h j ∙ ap (λ (m : ℕ). bit (get_or s.clients.active c 0) j || ltb j m) f)
@@ -188,7 +188,7 @@ module _ (table : List ℕ) (s : State) (z : Sized s.clients) (values out : List
         (name : List ℕ) (i : ℕ) → i < length w.modules
         → ((j : ℕ) → bit next j ≡ bit (get_or s.clients.active c 0) j || eqb j i)
         → Puts out 0 (encode_all (updates_of c (λ j. eqb j i) n.values 0 (parameters w))) mid p
-        → Puts mid p (encode (final c (active (some name)))) after written
-        → Activates w n c t out after values values (activates w n c t (λ j. eqb j i) (some name)) next written
+        → Puts mid p (encode (final c (active (Some name)))) after written
+        → Activates w n c t out after values values (activates w n c t (λ j. eqb j i) (Some name)) next written
     activated_one name i low h =
         one_active w n c t out after values sound (get_or s.clients.active c 0) (open_bits table s values c r.is_open) mid p written name i low next h

@@ -1,8 +1,7 @@
 // `activate` and `deactivate`: "no or empty specifier means all modules".
 #![tactic(auto)]
 
-ghost use Rattle.std.specs.Prelude.{◌≡◌, false, List, ℕ, ◌≤◌, eqb, length};
-ghost use Rattle.std.proofs.Math.Option.{none, some};
+ghost use Rattle.std.specs.Prelude.{◌≡◌, false, List, ℕ, ◌≤◌, eqb, length, Some, None};
 ghost use Rattle.table.specs.Table.{Table};
 ghost use Rattle.table.specs.Layout.{table_of};
 ghost use Rattle.message.specs.Request as Request;
@@ -32,7 +31,7 @@ pub fn activate_all<'a>(
 ) -> Outcome
     requires { Ready table.now (unlined state) values.now out.old client }
     ensures { (t : ℕ) → Comes table.now (unlined state) values.now out.old client t result values.now
-        out.new (Request.activate none) }
+        out.new (Request.activate None) }
 {
     let clients = state.clients;
     let active = clients.active;
@@ -55,7 +54,7 @@ pub fn activate<'a>(
 ) -> Outcome
     requires { Ready table.now (unlined state) values.now out.old client × Scoped (length (table_of table.now).modules) i «module».now }
     ensures { (t : ℕ) → ComesTo table.now (unlined state) values.now out.old client t result values.now
-        out.new (λ w n c t. activates w n c t (λ j. eqb j i) (some «module».now)) }
+        out.new (λ w n c t. activates w n c t (λ j. eqb j i) (Some «module».now)) }
 {
     let clients = state.clients;
     let active = clients.active;
@@ -69,7 +68,7 @@ pub fn activate<'a>(
 // "`deactivate` gives `inactive` or `inactive M`": no module is active then.
 pub fn deactivate_all(out: &mut [u8], client: u8) -> Outcome
     requires { 32768 ≤ length out.old }
-    ensures { (table : List ℕ) (t : ℕ) → ComesAtAny table out.old client t result out.new (Request.deactivate none) }
+    ensures { (table : List ℕ) (t : ℕ) → ComesAtAny table out.old client t result out.new (Request.deactivate None) }
 {
     let end = put_final_switched(out, 0, client, Switched::Inactive);
     Outcome::Active(0, end)
@@ -80,7 +79,7 @@ pub fn deactivate(out: &mut [u8], client: u8, mask: u16, i: usize, module: &[u8]
     requires { (32768 ≤ length out.old) × Scoped 16 i «module».now }
     ensures { (w : Table) (n : Node) (t : ℕ) (values : List ℕ) → past_last mask (length w.modules) ≡ false
         → ((j : ℕ) → is_active (n.clients client) j ≡ bit mask j) → OutcomeIs w n client t out.old out.new values values result
-        (deactivates w n client t (λ j. eqb j i) (some «module».now)) }
+        (deactivates w n client t (λ j. eqb j i) (Some «module».now)) }
 {
     let fewer = without_bit(mask, i);
     let end = put_final_switched_name(out, 0, client, Switched::Inactive, module);

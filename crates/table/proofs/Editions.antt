@@ -1,10 +1,10 @@
 -- Laws of a table's edition: how its text begins, and where it stands. Assumes nothing.
+use Rattle.std.specs.Prelude.{Option, Some, None}
 use Prim.Native.Nat.{ℕ, ◌≤◌, ◌<◌}
 use native.Mathlib.Omega.{arith}
 use mathlib.Core.Path.{◌≡◌, refl, sym, ◌∙◌}
 use mathlib.Core.Bool.{Bool, true, false, cond, not, ◌&&◌}
 use mathlib.Core.List.{List, [], ◌∷◌}
-use mathlib.Core.Option.{none, some}
 use lib.ListN.{length, take}
 use lib.Seq.{length-take-le}
 use lib.Dec.{eqb}
@@ -17,7 +17,6 @@ use Rattle.table.specs.Rules.{edition_good}
 use Rattle.table.specs.Clauses.At.{bytes_of, text_if, HeadRead, Given}
 use Rattle.table.specs.declared.layout.Part.{Part}
 use Rattle.table.specs.declared.layout.HeadAt.{HeadAt}
-use Rattle.table.specs.declared.layout.Head as Head
 use Rattle.table.proofs.Whole.{readable_whole, unread, opened}
 
 -- ## How a text begins
@@ -28,7 +27,7 @@ begins_short [] xs h = absurd (omega arith)
 begins_short (w ∷ ws) [] h = refl
 begins_short (w ∷ ws) (x ∷ xs) h = go (eqb x w) (begins_short ws xs (omega arith))
   where
-    go : (b : Bool) → is_some (after ws xs) ≡ false → is_some (cond b (after ws xs) none) ≡ false
+    go : (b : Bool) → is_some (after ws xs) ≡ false → is_some (cond b (after ws xs) None) ≡ false
     go true e = e
     go false e = refl
 
@@ -38,7 +37,7 @@ begins_same [] xs h = refl
 begins_same (w ∷ ws) [] h = absurd (omega arith)
 begins_same (w ∷ ws) (x ∷ xs) h = go (eqb x w) (begins_same ws xs (omega arith))
   where
-    go : (b : Bool) → is_some (after ws xs) ≡ same (take (length ws) xs) ws → is_some (cond b (after ws xs) none) ≡ (b && same (take (length ws) xs) ws)
+    go : (b : Bool) → is_some (after ws xs) ≡ same (take (length ws) xs) ws → is_some (cond b (after ws xs) None) ≡ (b && same (take (length ws) xs) ws)
     go true e = e
     go false e = refl
 
@@ -56,11 +55,11 @@ begins_so xs r h e = e ∙ sym (begins_same (bytes "ISSE,SECoP,") xs h)
 -- ## Whether an edition is good
 
 module _ (xs : List ℕ) (t : Bool) (ht : t ≡ is_text xs) where
-  pub text_begins : (r : Bool) → t ≡ true → r ≡ begins (bytes "ISSE,SECoP,") xs → r ≡ edition_good (some xs)
+  pub text_begins : (r : Bool) → t ≡ true → r ≡ begins (bytes "ISSE,SECoP,") xs → r ≡ edition_good (Some xs)
   unfolding edition_good
   text_begins r e h = rw (← ht, e) h
 
-  pub text_not : t ≡ false → false ≡ edition_good (some xs)
+  pub text_not : t ≡ false → false ≡ edition_good (Some xs)
   unfolding edition_good
   text_not e = rw (← ht, e)
 
@@ -69,21 +68,21 @@ module _ (s : List ℕ) (edited : Bool) (p : Part) where
   unfolding edition_good
   unedited_good e = rw (not-true edited e)
 
-  pub edited_good : (r : Bool) → not edited ≡ false → r ≡ edition_good (some (bytes_of s p)) → r ≡ edition_good (text_if s edited p)
+  pub edited_good : (r : Bool) → not edited ≡ false → r ≡ edition_good (Some (bytes_of s p)) → r ≡ edition_good (text_if s edited p)
   edited_good r e h = rw (not-false edited e) h
 
 -- ## Where it stands
 
-module _ (s : List ℕ) (r : Head.Head) (h : HeadRead s r) (e : Readable s) where
-  pub edition_unread : r ≡ Head.TheVariants.Bad → (table_of s).edition ≡ none
+module _ (s : List ℕ) (r : Option HeadAt) (h : HeadRead s r) (e : Readable s) where
+  pub edition_unread : r ≡ None → (table_of s).edition ≡ None
   edition_unread z = absurd (unread s r h (table_of s) (readable_whole s e) z)
 
-  module _ (q : HeadAt) (z : r ≡ Head.TheVariants.Read q) where
+  module _ (q : HeadAt) (z : r ≡ Some q) where
     is : (table_of s).edition ≡ text_if s q.edited q.edition
     is = (opened s r h (table_of s) (readable_whole s e) q z).edition
 
     pub edition_given : q.edited ≡ true → Given s q.edition
     edition_given b = record { is = is ∙ rw b; inside = (rw z at h).edition }
 
-    pub edition_first : q.edited ≡ false → (table_of s).edition ≡ none
+    pub edition_first : q.edited ≡ false → (table_of s).edition ≡ None
     edition_first b = is ∙ rw b

@@ -1,11 +1,11 @@
 -- The counts of `accessibles_at` and `modules_at` never cut a table short: with any count that is at least the number of bytes they read
 -- the same. The reason: no reader leaves more than it was given, and each record takes a byte at least. Assumes nothing.
+use Rattle.std.specs.Prelude.{Option, Some}
 use Prim.Native.Nat.{ℕ, zero, suc, ◌≤◌, ◌<◌}
 use native.Mathlib.Omega.{arith}
 use mathlib.Core.Path.{◌≡◌, refl, sym, ◌∙◌}
 use mathlib.Core.Bool.{Bool, true, false, cond, false≢true}
 use mathlib.Core.List.{List, [], ◌∷◌}
-use mathlib.Core.Option.{Option, some}
 use lib.ListN.{length, drop, length-drop}
 use lib.Dec.{eqb}
 use Rattle.ascii.specs.Text.{bytes}
@@ -54,7 +54,7 @@ nil : {xs : List ℕ} → Short 0 xs → xs ≡ []
 nil {xs = []} h = refl
 nil {xs = x ∷ xs} h = absurd (omega arith)
 
-out : {A : Type 0} {n : ℕ} {p : A × List ℕ} → Within (Short n) (some p) → Short n p.1
+out : {A : Type 0} {n : ℕ} {p : A × List ℕ} → Within (Short n) (Some p) → Short n p.1
 out (left h) = h
 
 all_of_it : (xs : List ℕ) → Short (length xs) xs
@@ -62,12 +62,12 @@ all_of_it xs = record { short = omega arith }
 
 -- an element before what else was read
 abbrev pub before : {A : Type 0} → A → Option (List A × List ℕ) → Option (List A × List ℕ)
-before a o = o >>= λ q. some (a ∷ q.0, q.1)
+before a o = o >>= λ q. Some (a ∷ q.0, q.1)
 
 -- at most k records, each where the test passes
 unfoldable pub many : {A : Type 0} → (List ℕ → Bool) → (List ℕ → Option (A × List ℕ)) → ℕ → List ℕ → Option (List A × List ℕ)
-many test read zero xs = some ([], xs)
-many test read (suc k) xs = cond (test xs) (read xs >>= λ p. before p.0 (many test read k p.1)) (some ([], xs))
+many test read zero xs = Some ([], xs)
+many test read (suc k) xs = cond (test xs) (read xs >>= λ p. before p.0 (many test read k p.1)) (Some ([], xs))
 
 -- records of which none begins in no bytes, and each takes a byte
 module _ {A : Type 0} (test : List ℕ → Bool) (read : List ℕ → Option (A × List ℕ)) (empty : test [] ≡ false) (takes : (n : ℕ) (xs : List ℕ) → Short (suc n) xs → Within (Short n) (read xs)) where
@@ -77,7 +77,7 @@ module _ {A : Type 0} (test : List ℕ → Bool) (read : List ℕ → Option (A 
   w_many (suc k) {n} {xs} h =
       w_cond (test xs) (w_then (takes n xs (record { short = omega arith })) (λ p g. w_then (w_many k g) (λ q l. left l))) (left h)
 
-  many_nil : (k : ℕ) → many test read k [] ≡ some ([], [])
+  many_nil : (k : ℕ) → many test read k [] ≡ Some ([], [])
   unfolding many
   many_nil zero = refl
   many_nil (suc k) = rw empty
@@ -90,7 +90,7 @@ module _ {A : Type 0} (test : List ℕ → Bool) (read : List ℕ → Option (A 
       rw (then_same (read xs) (λ p. before p.0 (many test read a p.1)) (λ p. before p.0 (many test read b p.1))
       (λ p e. rw (many_same a b p.1 (out (rw e at (takes a xs h))) (out (rw e at (takes b xs g))))))
 
-  pub many_stop : (xs : List ℕ) → test xs ≡ false → many test read (length xs) xs ≡ some ([], xs)
+  pub many_stop : (xs : List ℕ) → test xs ≡ false → many test read (length xs) xs ≡ Some ([], xs)
   unfolding many
   many_stop [] h = refl
   many_stop (x ∷ xs) h = rw h
@@ -103,11 +103,11 @@ module _ {A : Type 0} (test : List ℕ → Bool) (read : List ℕ → Option (A 
       (then_same (read (x ∷ xs)) _ _ (λ p e. rw (many_same (length xs) (length p.1) p.1 (out (rw e at (takes (length xs) (x ∷ xs) (all_of_it (x ∷ xs))))) (all_of_it p.1))))
 
   -- a record that begins takes a byte
-  pub many_less : (xs r : List ℕ) → test xs ≡ true → rest (read xs) ≡ some r → length r < length xs
+  pub many_less : (xs r : List ℕ) → test xs ≡ true → rest (read xs) ≡ Some r → length r < length xs
   many_less [] r h e = absurd (false≢true (sym empty ∙ h))
   many_less (x ∷ xs) r h e = go (takes (length xs) (x ∷ xs) (all_of_it (x ∷ xs))) e
     where
-      go : {o : Option (A × List ℕ)} → Within (Short (length xs)) o → rest o ≡ some r → length r < suc (length xs)
+      go : {o : Option (A × List ℕ)} → Within (Short (length xs)) o → rest o ≡ Some r → length r < suc (length xs)
       go failed e = let z : ◌≡◌ {A = ℕ} 0 1 = cc in absurd (omega arith)
       go (left {p = p} g) e = let z : p.1 ≡ r = cc in let y = g.short in rw (← z) (omega arith)
 
@@ -157,29 +157,29 @@ module _ (s : List ℕ) (i : ℕ) where
   takes_accessible : (n : ℕ) (xs : List ℕ) → Short (suc n) xs → Within (Short n) (accessible_at (length s) xs)
   takes_accessible n xs h = w_accessible (length s) xs h
 
-  pub accessibles_stop : accessible_begins (drop i s) ≡ false → accessibles_from s i ≡ some ([], drop i s)
+  pub accessibles_stop : accessible_begins (drop i s) ≡ false → accessibles_from s i ≡ Some ([], drop i s)
   accessibles_stop h = simp accessibles_many (many_stop accessible_begins (accessible_at (length s)) accessibles_empty takes_accessible (drop i s) h)
 
   pub accessibles_more : accessible_begins (drop i s) ≡ true → accessibles_from s i ≡ (accessible_at (length s) (drop i s) >>= λ p. before p.0 (accessibles_at (length s) (length p.1) p.1))
   accessibles_more h = simp accessibles_many (many_more accessible_begins (accessible_at (length s)) accessibles_empty takes_accessible (drop i s) h)
 
-  pub accessible_less : (r : List ℕ) → accessible_begins (drop i s) ≡ true → rest (accessible_at (length s) (drop i s)) ≡ some r → length r < length (drop i s)
+  pub accessible_less : (r : List ℕ) → accessible_begins (drop i s) ≡ true → rest (accessible_at (length s) (drop i s)) ≡ Some r → length r < length (drop i s)
   accessible_less r h e = many_less accessible_begins (accessible_at (length s)) accessibles_empty takes_accessible (drop i s) r h e
 
   takes_module : (n : ℕ) (xs : List ℕ) → Short (suc n) xs → Within (Short n) (module_at (length s) xs)
   takes_module n xs h = w_module (length s) xs h
 
-  pub modules_stop : begins (bytes "MO") (drop i s) ≡ false → modules_from s i ≡ some ([], drop i s)
+  pub modules_stop : begins (bytes "MO") (drop i s) ≡ false → modules_from s i ≡ Some ([], drop i s)
   modules_stop h = simp modules_many (many_stop (begins (bytes "MO")) (module_at (length s)) modules_empty takes_module (drop i s) h)
 
   pub modules_more : begins (bytes "MO") (drop i s) ≡ true → modules_from s i ≡ (module_at (length s) (drop i s) >>= λ p. before p.0 (modules_at (length s) (length p.1) p.1))
   modules_more h = simp modules_many (many_more (begins (bytes "MO")) (module_at (length s)) modules_empty takes_module (drop i s) h)
 
-  pub module_less : (r : List ℕ) → begins (bytes "MO") (drop i s) ≡ true → rest (module_at (length s) (drop i s)) ≡ some r → length r < length (drop i s)
+  pub module_less : (r : List ℕ) → begins (bytes "MO") (drop i s) ≡ true → rest (module_at (length s) (drop i s)) ≡ Some r → length r < length (drop i s)
   module_less r h e = many_less (begins (bytes "MO")) (module_at (length s)) modules_empty takes_module (drop i s) r h e
 
   takes_heading : (n : ℕ) (xs : List ℕ) → Short (suc n) xs → Within (Short n) (heading_at xs)
   takes_heading n xs h = w_heading xs h
 
-  pub heading_less : (r : List ℕ) → begins (bytes "MO") (drop i s) ≡ true → rest (heading_at (drop i s)) ≡ some r → length r < length (drop i s)
+  pub heading_less : (r : List ℕ) → begins (bytes "MO") (drop i s) ≡ true → rest (heading_at (drop i s)) ≡ Some r → length r < length (drop i s)
   heading_less r h e = many_less (begins (bytes "MO")) heading_at modules_empty takes_heading (drop i s) r h e

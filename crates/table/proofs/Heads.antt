@@ -1,9 +1,9 @@
 -- Laws of what is asked of a module and of the whole table, one for each way through a function that asks it. Assumes nothing.
+use Rattle.std.specs.Prelude.{Option, Some, None}
 use Prim.Native.Nat.{ℕ}
 use mathlib.Core.Path.{◌≡◌, refl, sym, ◌∙◌}
 use mathlib.Core.Bool.{Bool, true, false, cond, not, ◌&&◌, false≢true}
 use mathlib.Core.List.{List, map}
-use mathlib.Core.Option.{Option, none, some}
 use lib.ListN.{length, drop}
 use borrow.Author.Tests.{not-true, not-false}
 use Rattle.ascii.specs.Bytes.{◌>>=◌, all}
@@ -14,7 +14,6 @@ use Rattle.table.specs.Layout.{module_at}
 use Rattle.table.specs.Rules.{accessible_name, note_good, module_names_good}
 use Rattle.table.specs.declared.layout.Part.{Part}
 use Rattle.table.specs.declared.layout.ModuleAt.{ModuleAt}
-use Rattle.table.specs.declared.layout.Heading as H
 use Rattle.table.specs.declared.judge.Test.{Test}
 use Rattle.table.specs.declared.judge.Test.TheVariants.{Names, Rules, Initials}
 use Rattle.table.specs.declared.judge.Kind.TheVariants.{Accessibles}
@@ -23,11 +22,11 @@ use Rattle.table.specs.Clauses.Judged.{passed, passes, module_passes, names_from
 use Rattle.table.proofs.Modules.{with_them, module_as, module_is}
 
 module _ (s : List ℕ) (noted : Bool) (note : Part) where
-  pub note_good_lem : (r : Bool) → noted ≡ true → r ≡ is_text (bytes_of s note) → r ≡ note_good (cond noted (some (bytes_of s note)) none)
+  pub note_good_lem : (r : Bool) → noted ≡ true → r ≡ is_text (bytes_of s note) → r ≡ note_good (cond noted (Some (bytes_of s note)) None)
   unfolding note_good
   note_good_lem r e h = rw e h
 
-  pub note_missing : noted ≡ false → true ≡ note_good (cond noted (some (bytes_of s note)) none)
+  pub note_missing : noted ≡ false → true ≡ note_good (cond noted (Some (bytes_of s note)) None)
   unfolding note_good
   note_missing e = rw e
 
@@ -38,7 +37,7 @@ module _ (s : List ℕ) (m : ModuleAt) (t : Bool) (ht : t ≡ is_text (bytes_of 
   unfolding head_passes
   head_textless n = rw (← ht, not-true t n)
 
-  module _ (n : not t ≡ false) (u : Bool) (hu : u ≡ note_good (cond m.noted (some (bytes_of s m.note)) none)) where
+  module _ (n : not t ≡ false) (u : Bool) (hu : u ≡ note_good (cond m.noted (Some (bytes_of s m.note)) None)) where
     pub head_noteless : not u ≡ true → false ≡ head_passes Names s m
     unfolding head_passes
     head_noteless k = rw (← ht, not-false t n, ← hu, not-true u k)
@@ -65,8 +64,8 @@ all_named q = (map accessible_name q.0, q.1)
 -- what is asked of a module's beginning, of which o are the accessibles
 abbrev beginning : List ℕ → ModuleAt → Test → Option (List Table.Accessible × List ℕ) → Bool
 beginning s m Names o =
-    is_text (bytes_of s m.description) && note_good (cond m.noted (some (bytes_of s m.note)) none)
-    && passed good_names (o >>= λ q. some (all_named q))
+    is_text (bytes_of s m.description) && note_good (cond m.noted (Some (bytes_of s m.note)) None)
+    && passed good_names (o >>= λ q. Some (all_named q))
 beginning s m Rules o = true
 beginning s m Initials o = true
 
@@ -76,11 +75,11 @@ head_as s m Names = refl
 head_as s m Rules = refl
 head_as s m Initials = refl
 
-module _ (s : List ℕ) (at : ℕ) (h : H.Heading) (hh : HeadingIs s h (heading_at (drop at s))) where
-  pub module_unread : (test : Test) → h ≡ H.TheVariants.Bad → false ≡ passed (module_passes test) (module_at (length s) (drop at s))
+module _ (s : List ℕ) (at : ℕ) (h : Option ModuleAt) (hh : HeadingIs s h (heading_at (drop at s))) where
+  pub module_unread : (test : Test) → h ≡ None → false ≡ passed (module_passes test) (module_at (length s) (drop at s))
   module_unread test e = simp (module_as, rw e at hh)
 
-  module _ (m : ModuleAt) (eh : h ≡ H.TheVariants.Read m) where
+  module _ (m : ModuleAt) (eh : h ≡ Some m) where
     pub module_text_lem : Inside s m.description
     module_text_lem = (rw eh at hh).description
 
@@ -92,18 +91,18 @@ module _ (s : List ℕ) (at : ℕ) (h : H.Heading) (hh : HeadingIs s h (heading_
       unfolding module_passes module_names_good module_of
       module_headless n = rw (module_is s at h hh m eh) (go test (accessibles_from s m.next) (sym (not-true t n) ∙ ht ∙ head_as s m test))
         where
-          go : (k : Test) (o : Option (List Table.Accessible × List ℕ)) → false ≡ beginning s m k o → false ≡ passed (module_passes k) (o >>= λ q. some (with_them (module_of s m) q))
-          go k none e = refl
-          go Names (some q) e = rw (← e)
-          go Rules (some q) e = let z : ◌≡◌ {A = Bool} false true = e in absurd (false≢true z)
-          go Initials (some q) e = let z : ◌≡◌ {A = Bool} false true = e in absurd (false≢true z)
+          go : (k : Test) (o : Option (List Table.Accessible × List ℕ)) → false ≡ beginning s m k o → false ≡ passed (module_passes k) (o >>= λ q. Some (with_them (module_of s m) q))
+          go k None e = refl
+          go Names (Some q) e = rw (← e)
+          go Rules (Some q) e = let z : ◌≡◌ {A = Bool} false true = e in absurd (false≢true z)
+          go Initials (Some q) e = let z : ◌≡◌ {A = Bool} false true = e in absurd (false≢true z)
 
       pub module_passes_lem : (r : Bool) → not t ≡ false → r ≡ passed (all (passes test)) (accessibles_from s m.next) → r ≡ passed (module_passes test) (module_at (length s) (drop at s))
       unfolding module_passes module_names_good module_of passes
       module_passes_lem r n e = rw (module_is s at h hh m eh) (go test (accessibles_from s m.next) (sym (not-false t n) ∙ ht ∙ head_as s m test) e)
         where
-          go : (k : Test) (o : Option (List Table.Accessible × List ℕ)) → true ≡ beginning s m k o → r ≡ passed (all (passes k)) o → r ≡ passed (module_passes k) (o >>= λ q. some (with_them (module_of s m) q))
-          go k none z e = e
-          go Names (some q) z e = rw (← z) e
-          go Rules (some q) z e = e
-          go Initials (some q) z e = e
+          go : (k : Test) (o : Option (List Table.Accessible × List ℕ)) → true ≡ beginning s m k o → r ≡ passed (all (passes k)) o → r ≡ passed (module_passes k) (o >>= λ q. Some (with_them (module_of s m) q))
+          go k None z e = e
+          go Names (Some q) z e = rw (← z) e
+          go Rules (Some q) z e = e
+          go Initials (Some q) z e = e

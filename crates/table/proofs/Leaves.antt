@@ -1,9 +1,9 @@
 -- What a reader leaves is an end of what it was given: whatever holds of a list and of each of its ends holds of what is left.
 -- Assumes nothing.
+use Rattle.std.specs.Prelude.{Option, Some, None}
 use Prim.Native.Nat.{ℕ, zero, suc}
 use mathlib.Core.Bool.{Bool, true, false, cond}
 use mathlib.Core.List.{List, [], ◌∷◌}
-use mathlib.Core.Option.{Option, none, some}
 use lib.ListN.{length, drop}
 use lib.Dec.{leb, eqb}
 use Rattle.ascii.specs.Text.{bytes}
@@ -15,12 +15,12 @@ use Rattle.table.specs.Layout.{begins, argument_at, marked_at, head_at}
 
 -- Q holds of what is left, if anything was read
 pub data Within {A : Type 0} (Q : List ℕ → Type 0) : Option (A × List ℕ) → Type 0 where
-  failed : Within Q none
-  left : {p : A × List ℕ} → Q p.1 → Within Q (some p)
+  failed : Within Q None
+  left : {p : A × List ℕ} → Q p.1 → Within Q (Some p)
 
 pub data Rest (Q : List ℕ → Type 0) : Option (List ℕ) → Type 0 where
-  failed : Rest Q none
-  left : {r : List ℕ} → Q r → Rest Q (some r)
+  failed : Rest Q None
+  left : {r : List ℕ} → Q r → Rest Q (Some r)
 
 -- Q holds of each end of a list of which it holds
 abbrev pub Ending : (List ℕ → Type 0) → Type 0

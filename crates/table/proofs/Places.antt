@@ -1,13 +1,13 @@
 -- Each parameter of a table that can be read has its initial value where it says: `place` is where in the table's bytes it begins. The reason:
 -- what a reader leaves is an end of the table, so its length tells where it begins. Assumes nothing.
+use Rattle.std.specs.Prelude.{Option, Some, None, slice_get}
 use Prim.Native.Nat.{ℕ, zero, suc, ◌+◌, ◌-◌, ◌≤◌, ◌<◌}
 use native.Mathlib.Omega.{arith}
 use mathlib.Core.Path.{◌≡◌, refl, ap, subst, ◌∙◌}
 use mathlib.Core.Bool.{Bool, true, false, cond, ◌||◌}
 use mathlib.Core.List.{List, [], ◌∷◌, ◌++◌, map}
-use mathlib.Core.Option.{Option, none, some}
 use lib.Dec.{leb, eqb}
-use lib.ListN.{length, take, drop, get_elem?, length-drop, drop_of_length-le}
+use lib.ListN.{length, take, drop, length-drop, drop_of_length-le}
 use lib.Seq.{take-nil, drop-drop}
 use borrow.Author.Tests.{leb-true, leb-false}
 use Rattle.ascii.specs.Text.{bytes}
@@ -71,8 +71,8 @@ module _ (s : List ℕ) where
 
 -- P holds of what was read, and what is left is an end of s
 data Gives {A : Type 0} (s : List ℕ) (P : A → Type 0) : Option (A × List ℕ) → Type 0 where
-  nothing : Gives s P none
-  gives : {p : A × List ℕ} → P p.0 → End s p.1 → Gives s P (some p)
+  nothing : Gives s P None
+  gives : {p : A × List ℕ} → P p.0 → End s p.1 → Gives s P (Some p)
 
 module _ {s : List ℕ} where
   g_cond : {A : Type 0} {P : A → Type 0} (b : Bool) {x y : Option (A × List ℕ)} → Gives s P x → Gives s P y → Gives s P (cond b x y)
@@ -131,13 +131,13 @@ module _ {s : List ℕ} where
 
 -- ## The whole table
 
-end_of : {A : Type 0} {s : List ℕ} {p : A × List ℕ} → Within (End s) (some p) → End s p.1
+end_of : {A : Type 0} {s : List ℕ} {p : A × List ℕ} → Within (End s) (Some p) → End s p.1
 end_of (left h) = h
 
-given : {A : Type 0} {s : List ℕ} {P : A → Type 0} {p : A × List ℕ} → Gives s P (some p) → P p.0
+given : {A : Type 0} {s : List ℕ} {P : A → Type 0} {p : A × List ℕ} → Gives s P (Some p) → P p.0
 given (gives a h) = a
 
-whole_fine : (s : List ℕ) (t : Table) → whole_table s ≡ some t → ModulesFine s t.modules
+whole_fine : (s : List ℕ) (t : Table) → whole_table s ≡ Some t → ModulesFine s t.modules
 unfolding whole_table
 whole_fine s t w =
     steps (head_at s) _ w
@@ -147,15 +147,15 @@ whole_fine s t w =
     steps (after (bytes "EN") d.1) _ nd
     (λ e he ne. subst (ModulesFine s) (go (eqb (length e) 0) (with_modules a.0 d.0) ne) fine)))
   where
-    go : (b : Bool) (u : Table) → cond b (some u) none ≡ some t → u.modules ≡ t.modules
+    go : (b : Bool) (u : Table) → cond b (Some u) None ≡ Some t → u.modules ≡ t.modules
     go true u e = ap (λ (x : Table). x.modules) (in_some e)
     go false u e = let z : ◌≡◌ {A = ℕ} 0 1 = cc in absurd (omega arith)
 
-read_fine : (s : List ℕ) (t : Table) → read_table s ≡ some t → ModulesFine s t.modules
+read_fine : (s : List ℕ) (t : Table) → read_table s ≡ Some t → ModulesFine s t.modules
 unfolding read_table
 read_fine s t = go (leb (length s) 16384)
   where
-    go : (b : Bool) → cond b (whole_table s) none ≡ some t → ModulesFine s t.modules
+    go : (b : Bool) → cond b (whole_table s) None ≡ Some t → ModulesFine s t.modules
     go true e = whole_fine s t e
     go false e = let z : ◌≡◌ {A = ℕ} 0 1 = cc in absurd (omega arith)
 
@@ -163,19 +163,19 @@ read_fine s t = go (leb (length s) 16384)
 
 module _ (s : List ℕ) where
   of_module : (n : ℕ) (m : List ℕ) (l : List Accessible) (more : List (Placed Parameter)) → AllFine s l
-      → ((k : ℕ) (p : Placed Parameter) → get_elem? more k ≡ some p → Lies s p.it)
-      → (k : ℕ) (p : Placed Parameter) → get_elem? (map (λ (a : Parameter). record { home = n; module_name = m; it = a }) (parameters_of l) ++ more) k ≡ some p → Lies s p.it
+      → ((k : ℕ) (p : Placed Parameter) → slice_get more k ≡ Some p → Lies s p.it)
+      → (k : ℕ) (p : Placed Parameter) → slice_get (map (λ (a : Parameter). record { home = n; module_name = m; it = a }) (parameters_of l) ++ more) k ≡ Some p → Lies s p.it
   unfolding parameters_of
   of_module n m [] more f g k p e = g k p e
   of_module n m (parameter q ∷ l) more f g zero p e = subst (λ (x : Placed Parameter). Lies s x.it) (in_some e) f.0
   of_module n m (parameter q ∷ l) more f g (suc k) p e = of_module n m l more f.1 g k p e
   of_module n m (command c ∷ l) more f g k p e = of_module n m l more f.1 g k p e
 
-  of_modules : (n : ℕ) (l : List Module) → ModulesFine s l → (k : ℕ) (p : Placed Parameter) → get_elem? (placed_from parameters_of n l) k ≡ some p → Lies s p.it
+  of_modules : (n : ℕ) (l : List Module) → ModulesFine s l → (k : ℕ) (p : Placed Parameter) → slice_get (placed_from parameters_of n l) k ≡ Some p → Lies s p.it
   unfolding placed_from
   of_modules n [] f k p e = let z : ◌≡◌ {A = ℕ} 0 1 = cc in absurd (omega arith)
   of_modules n (m ∷ l) f k p e = of_module n m.name m.accessibles (placed_from parameters_of (suc n) l) f.0 (of_modules (suc n) l f.1) k p e
 
-  pub initial_lies : (t : Table) → read_table s ≡ some t → (k : ℕ) (p : Placed Parameter) → get_elem? (parameters t) k ≡ some p → Lies s p.it
+  pub initial_lies : (t : Table) → read_table s ≡ Some t → (k : ℕ) (p : Placed Parameter) → slice_get (parameters t) k ≡ Some p → Lies s p.it
   unfolding parameters
   initial_lies t h k p e = of_modules 0 t.modules (read_fine s t h) k p e

@@ -1,14 +1,12 @@
 -- Laws of what is asked of a table's records, one for each way through a function that asks it. Assumes nothing.
+use Rattle.std.specs.Prelude.{Option, Some, None}
 use Prim.Native.Nat.{ℕ, ◌≤◌}
 use native.Mathlib.Omega.{arith}
 use mathlib.Core.Path.{◌≡◌, refl, sym, ap, ◌∙◌}
 use mathlib.Core.Bool.{Bool, true, false, not, ◌&&◌}
 use mathlib.Core.List.{List}
-use mathlib.Core.Option.{Option, none, some}
 use lib.ListN.{length, drop}
 use borrow.Author.Tests.{not-true, not-false}
-use Rattle.ascii.specs.declared.Next.{Next}
-use Rattle.ascii.specs.declared.Next.TheVariants.{At, Bad}
 use Rattle.ascii.specs.Text.{bytes}
 use Rattle.ascii.specs.Bytes.{◌>>=◌, all}
 use Rattle.ascii.specs.Names.{is_text}
@@ -84,21 +82,21 @@ unfolding passes text_passes info_passes accessible_names_good rules_kept initia
 passes_command Names c = go c.argument
   where
     go : (a : Option Datainfo) → (is_text c.description && if_any Datainfo.names_good a) ≡ (is_text c.description && if_any (info_passes Names) a)
-    go none = refl
-    go (some d) = refl
+    go None = refl
+    go (Some d) = refl
 passes_command Rules c = go c.argument
   where
     go : (a : Option Datainfo) → if_any Datainfo.rules_kept a ≡ if_any (info_passes Rules) a
-    go none = refl
-    go (some d) = refl
+    go None = refl
+    go (Some d) = refl
 passes_command Initials c = go c.argument
   where
     go : (a : Option Datainfo) → true ≡ if_any (info_passes Initials) a
-    go none = refl
-    go (some d) = refl
+    go None = refl
+    go (Some d) = refl
 
 abbrev as_argument : Datainfo × List ℕ → Option Datainfo × List ℕ
-as_argument p = (some p.0, p.1)
+as_argument p = (Some p.0, p.1)
 
 module _ (s : List ℕ) (test : Test) (t : Bool) where
   module _ (q : ParameterAt) (h : t ≡ text_passes test (bytes_of s q.description)) (d : Datainfo) where
@@ -115,7 +113,7 @@ module _ (s : List ℕ) (test : Test) (t : Bool) where
       unfolding parameter_of
       parameter_all r g k = rw (passes_parameter, ← h, e, ← i, g) k
 
-  module _ (q : CommandAt) (h : t ≡ text_passes test (bytes_of s q.description)) (a : Option Datainfo) (x : List ℕ) (g : argument_at q.argument (drop q.info s) ≡ some (a, x)) where
+  module _ (q : CommandAt) (h : t ≡ text_passes test (bytes_of s q.description)) (a : Option Datainfo) (x : List ℕ) (g : argument_at q.argument (drop q.info s) ≡ Some (a, x)) where
     pub command_not : t ≡ false → false ≡ passes test (Table.command (command_of s q a))
     unfolding command_of
     command_not e = rw (passes_command, ← h, e)
@@ -123,29 +121,29 @@ module _ (s : List ℕ) (test : Test) (t : Bool) where
     pub command_without : t ≡ true → q.argument ≡ false → true ≡ passes test (Table.command (command_of s q a))
     unfolding command_of argument_at if_any
     command_without e n =
-        let i : ◌≡◌ {A = Option (Option Datainfo × List ℕ)} (some (none, drop q.info s)) (some (a, x)) = rw n at g in
-        let j : none ≡ a = ap (λ (y : Option Datainfo × List ℕ). y.0) (in_some i) in
+        let i : ◌≡◌ {A = Option (Option Datainfo × List ℕ)} (Some (None, drop q.info s)) (Some (a, x)) = rw n at g in
+        let j : None ≡ a = ap (λ (y : Option Datainfo × List ℕ). y.0) (in_some i) in
         rw (passes_command, ← h, e, ← j)
 
-    pub command_with : (r : Bool) → t ≡ true → q.argument ≡ true → ((d : Datainfo) (x : List ℕ) → datainfo_in 4 (drop q.info s) ≡ some (d, x) → r ≡ info_passes test d) → r ≡ passes test (Table.command (command_of s q a))
+    pub command_with : (r : Bool) → t ≡ true → q.argument ≡ true → ((d : Datainfo) (x : List ℕ) → datainfo_in 4 (drop q.info s) ≡ Some (d, x) → r ≡ info_passes test d) → r ≡ passes test (Table.command (command_of s q a))
     unfolding command_of argument_at if_any
     command_with r e n f = rw (passes_command, ← h, e) (go (datainfo_at (drop q.info s)) f (rw n at g))
       where
-        go : (o : Option (Datainfo × List ℕ)) → ((d : Datainfo) (x : List ℕ) → o ≡ some (d, x) → r ≡ info_passes test d) → (o >>= λ p. some (as_argument p)) ≡ some (a, x) → r ≡ if_any (info_passes test) a
-        go none f z = let y : ◌≡◌ {A = ℕ} 0 1 = cc in absurd (omega arith)
-        go (some p) f z = let y : some p.0 ≡ a = ap (λ (y : Option Datainfo × List ℕ). y.0) (in_some z) in rw (← y) (f p.0 p.1 refl)
+        go : (o : Option (Datainfo × List ℕ)) → ((d : Datainfo) (x : List ℕ) → o ≡ Some (d, x) → r ≡ info_passes test d) → (o >>= λ p. Some (as_argument p)) ≡ Some (a, x) → r ≡ if_any (info_passes test) a
+        go None f z = let y : ◌≡◌ {A = ℕ} 0 1 = cc in absurd (omega arith)
+        go (Some p) f z = let y : Some p.0 ≡ a = ap (λ (y : Option Datainfo × List ℕ). y.0) (in_some z) in rw (← y) (f p.0 p.1 refl)
 
 -- a declared argument is a datainfo
 pub argument_readable : {s : List ℕ} {b : Bool} {at : ℕ} → ArgumentReadable s b at → b ≡ true → ReadableAt s at 4
 unfolding argument_at
 argument_readable {s} {b} {at} h e = go (datainfo_at (drop at s)) refl (rw e at h.is)
   where
-    go : (o : Option (Datainfo × List ℕ)) → datainfo_at (drop at s) ≡ o → (o >>= λ p. some (as_argument p)) ≡ some (h.argument, h.left) → ReadableAt s at 4
-    go none i z = let y : ◌≡◌ {A = ℕ} 0 1 = cc in absurd (omega arith)
-    go (some p) i z = record { within = h.within; datainfo = p.0; left = p.1; is = i }
+    go : (o : Option (Datainfo × List ℕ)) → datainfo_at (drop at s) ≡ o → (o >>= λ p. Some (as_argument p)) ≡ Some (h.argument, h.left) → ReadableAt s at 4
+    go None i z = let y : ◌≡◌ {A = ℕ} 0 1 = cc in absurd (omega arith)
+    go (Some p) i z = record { within = h.within; datainfo = p.0; left = p.1; is = i }
 
-module _ (s : List ℕ) (r : A.Accessible) (o : Option (Table.Accessible × List ℕ)) (h : AccessibleIs s r o) where
-  module _ (q : ParameterAt) (e : r ≡ A.TheVariants.Parameter q) where
+module _ (s : List ℕ) (r : Option A.Accessible) (o : Option (Table.Accessible × List ℕ)) (h : AccessibleIs s r o) where
+  module _ (q : ParameterAt) (e : r ≡ Some (A.TheVariants.Parameter q)) where
     pub parameter_text : Inside s q.description
     parameter_text = (rw e at h).description
 
@@ -158,10 +156,10 @@ module _ (s : List ℕ) (r : A.Accessible) (o : Option (Table.Accessible × List
     pub parameter_readable : ReadableAt s q.info 4
     parameter_readable = let x = rw e at h in record { within = x.info_within; datainfo = x.datainfo; left = x.left; is = x.info }
 
-    pub parameter_passes : (test : Test) (b : Bool) → ((d : Datainfo) (x : List ℕ) → datainfo_in 4 (drop q.info s) ≡ some (d, x) → b ≡ passes test (Table.parameter (parameter_of s q d))) → b ≡ passed (passes test) o
+    pub parameter_passes : (test : Test) (b : Bool) → ((d : Datainfo) (x : List ℕ) → datainfo_in 4 (drop q.info s) ≡ Some (d, x) → b ≡ passes test (Table.parameter (parameter_of s q d))) → b ≡ passed (passes test) o
     parameter_passes test b f = let x = rw e at h in rw x.is (f x.datainfo x.left x.info)
 
-  module _ (q : CommandAt) (e : r ≡ A.TheVariants.Command q) where
+  module _ (q : CommandAt) (e : r ≡ Some (A.TheVariants.Command q)) where
     pub command_text : Inside s q.description
     command_text = (rw e at h).description
 
@@ -171,10 +169,10 @@ module _ (s : List ℕ) (r : A.Accessible) (o : Option (Table.Accessible × List
     pub command_readable : ArgumentReadable s q.argument q.info
     command_readable = let x = rw e at h in record { within = x.info_within; argument = x.argument; left = drop q.next s; is = x.info }
 
-    pub command_passes : (test : Test) (b : Bool) → ((a : Option Datainfo) (x : List ℕ) → argument_at q.argument (drop q.info s) ≡ some (a, x) → b ≡ passes test (Table.command (command_of s q a))) → b ≡ passed (passes test) o
+    pub command_passes : (test : Test) (b : Bool) → ((a : Option Datainfo) (x : List ℕ) → argument_at q.argument (drop q.info s) ≡ Some (a, x) → b ≡ passes test (Table.command (command_of s q a))) → b ≡ passed (passes test) o
     command_passes test b f = let x = rw e at h in rw x.is (f x.argument (drop q.next s) x.info)
 
-  pub bad_passes : (test : Test) → r ≡ A.TheVariants.Bad → false ≡ passed (passes test) o
+  pub bad_passes : (test : Test) → r ≡ None → false ≡ passed (passes test) o
   bad_passes test e = rw (rw e at h)
 
 -- ## All records that follow
@@ -187,20 +185,20 @@ and-false false = refl
 module _ {A : Type 0} (p : A → Bool) (f : List ℕ → Option (List A × List ℕ)) where
   pub all_before : (a : A) (o : Option (List A × List ℕ)) → passed (all p) (before a o) ≡ (p a && passed (all p) o)
   unfolding all
-  all_before a none = sym (and-false (p a))
-  all_before a (some q) = refl
+  all_before a None = sym (and-false (p a))
+  all_before a (Some q) = refl
 
-  all_bad : (o : Option (A × List ℕ)) → rest o ≡ none → false ≡ passed (all p) (o >>= λ a. before a.0 (f a.1))
-  all_bad none h = refl
-  all_bad (some a) h = let z : ◌≡◌ {A = ℕ} 0 1 = cc in absurd (omega arith)
+  all_bad : (o : Option (A × List ℕ)) → rest o ≡ None → false ≡ passed (all p) (o >>= λ a. before a.0 (f a.1))
+  all_bad None h = refl
+  all_bad (Some a) h = let z : ◌≡◌ {A = ℕ} 0 1 = cc in absurd (omega arith)
 
   all_fails : (o : Option (A × List ℕ)) (t : Bool) → t ≡ passed p o → not t ≡ true → false ≡ passed (all p) (o >>= λ a. before a.0 (f a.1))
-  all_fails none t h n = refl
-  all_fails (some a) t h n = rw (all_before a.0 (f a.1), ← h, not-true t n)
+  all_fails None t h n = refl
+  all_fails (Some a) t h n = rw (all_before a.0 (f a.1), ← h, not-true t n)
 
-  all_next : (o : Option (A × List ℕ)) (t : Bool) (r : List ℕ) → t ≡ passed p o → not t ≡ false → rest o ≡ some r → passed (all p) (o >>= λ a. before a.0 (f a.1)) ≡ passed (all p) (f r)
-  all_next none t r h n e = let z : ◌≡◌ {A = ℕ} 0 1 = cc in absurd (omega arith)
-  all_next (some a) t r h n e = let z : a.1 ≡ r = cc in rw (all_before a.0 (f a.1), ← h, not-false t n, z)
+  all_next : (o : Option (A × List ℕ)) (t : Bool) (r : List ℕ) → t ≡ passed p o → not t ≡ false → rest o ≡ Some r → passed (all p) (o >>= λ a. before a.0 (f a.1)) ≡ passed (all p) (f r)
+  all_next None t r h n e = let z : ◌≡◌ {A = ℕ} 0 1 = cc in absurd (omega arith)
+  all_next (Some a) t r h n e = let z : a.1 ≡ r = cc in rw (all_before a.0 (f a.1), ← h, not-false t n, z)
 
 -- the accessibles from position i on
 module _ (s : List ℕ) (p : Table.Accessible → Bool) (o : Bool) (i : ℕ) (e : o ≡ passed (all p) (accessibles_from s i)) (b : Bool) (hb : b ≡ accessible_begins (drop i s)) where
@@ -208,11 +206,11 @@ module _ (s : List ℕ) (p : Table.Accessible → Bool) (o : Bool) (i : ℕ) (e 
   unfolding all
   accessibles_passed z = sym (e ∙ ap (passed (all p)) (accessibles_stop s i (sym hb ∙ z)))
 
-  module _ (z : b ≡ true) (r : Next) (hr : Ends s r (rest (accessible_at (length s) (drop i s)))) where
-    pub accessibles_unread : r ≡ Bad → false ≡ o
+  module _ (z : b ≡ true) (r : Option ℕ) (hr : Ends s r (rest (accessible_at (length s) (drop i s)))) where
+    pub accessibles_unread : r ≡ None → false ≡ o
     accessibles_unread x = all_bad p (λ xs. accessibles_at (length s) (length xs) xs) (accessible_at (length s) (drop i s)) (rw x at hr) ∙ sym (e ∙ ap (passed (all p)) (accessibles_more s i (sym hb ∙ z)))
 
-    pub accessibles_pass_on : (t : Bool) → t ≡ passed p (accessible_at (length s) (drop i s)) → not t ≡ false → (j : ℕ) → r ≡ At j → o ≡ passed (all p) (accessibles_from s j)
+    pub accessibles_pass_on : (t : Bool) → t ≡ passed p (accessible_at (length s) (drop i s)) → not t ≡ false → (j : ℕ) → r ≡ Some j → o ≡ passed (all p) (accessibles_from s j)
     accessibles_pass_on t ht n j x = e ∙ ap (passed (all p)) (accessibles_more s i (sym hb ∙ z)) ∙ all_next p (λ xs. accessibles_at (length s) (length xs) xs) (accessible_at (length s) (drop i s)) t (drop j s) ht n (rw x at hr).0
 
   pub accessibles_failed : b ≡ true → (t : Bool) → t ≡ passed p (accessible_at (length s) (drop i s)) → not t ≡ true → false ≡ o
@@ -224,11 +222,11 @@ module _ (s : List ℕ) (p : Table.Module → Bool) (o : Bool) (i : ℕ) (e : o 
   unfolding all
   modules_passed z = sym (e ∙ ap (passed (all p)) (modules_stop s i (sym hb ∙ z)))
 
-  module _ (z : b ≡ true) (r : Next) (hr : Ends s r (rest (module_at (length s) (drop i s)))) where
-    pub modules_unread : r ≡ Bad → false ≡ o
+  module _ (z : b ≡ true) (r : Option ℕ) (hr : Ends s r (rest (module_at (length s) (drop i s)))) where
+    pub modules_unread : r ≡ None → false ≡ o
     modules_unread x = all_bad p (λ xs. modules_at (length s) (length xs) xs) (module_at (length s) (drop i s)) (rw x at hr) ∙ sym (e ∙ ap (passed (all p)) (modules_more s i (sym hb ∙ z)))
 
-    pub modules_pass_on : (t : Bool) → t ≡ passed p (module_at (length s) (drop i s)) → not t ≡ false → (j : ℕ) → r ≡ At j → o ≡ passed (all p) (modules_from s j)
+    pub modules_pass_on : (t : Bool) → t ≡ passed p (module_at (length s) (drop i s)) → not t ≡ false → (j : ℕ) → r ≡ Some j → o ≡ passed (all p) (modules_from s j)
     modules_pass_on t ht n j x = e ∙ ap (passed (all p)) (modules_more s i (sym hb ∙ z)) ∙ all_next p (λ xs. modules_at (length s) (length xs) xs) (module_at (length s) (drop i s)) t (drop j s) ht n (rw x at hr).0
 
   pub modules_failed : b ≡ true → (t : Bool) → t ≡ passed p (module_at (length s) (drop i s)) → not t ≡ true → false ≡ o

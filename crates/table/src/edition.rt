@@ -1,20 +1,12 @@
 // The edition that a table declares by its `ED` record (M-107).
-ghost use Rattle.std.specs.Prelude.{◌≡◌};
-ghost use Rattle.std.proofs.Math.Option.{some};
+ghost use Rattle.std.specs.Prelude.{◌≡◌, Option, Some, None};
 ghost use Rattle.ascii.specs.Text.{bytes};
 ghost use Rattle.table.specs.Layout.{begins, Readable};
 ghost use Rattle.table.specs.Rules.{edition_good};
 ghost use Rattle.table.specs.Clauses.At.{Inside, text_if, EditionIs};
 
-use crate::layout::{Head, Part, head_at};
+use crate::layout::{Part, head_at};
 use ascii::names::{is_text, same};
-
-// The text that a table gives, or none: the first edition.
-#[derive(Clone, Copy)]
-pub enum Edition {
-    Given(Part),
-    First,
-}
 
 // "it must begin `ISSE,SECoP,`": 11 bytes
 fn begins_so(text: &[u8]) -> bool
@@ -27,7 +19,7 @@ fn begins_so(text: &[u8]) -> bool
 }
 
 fn is_good_text(text: &[u8]) -> bool
-    ensures { result ≡ edition_good (some text.now) }
+    ensures { result ≡ edition_good (Some text.now) }
 {
     if is_text(text) {
         return begins_so(text);
@@ -49,16 +41,16 @@ pub(crate) fn edition_is_good(s: &[u8], edited: bool, edition: Part) -> bool
 }
 
 // The edition of a table that can be read.
-pub fn edition_of(s: &[u8]) -> Edition
+pub fn edition_of(s: &[u8]) -> Option<Part>
     requires { Readable s.now }
     ensures { EditionIs s.now result }
 {
-    let Head::Read(h) = head_at(s) else {
-        return Edition::First;
+    let Some(h) = head_at(s) else {
+        return None;
     };
     let edition = h.edition;
     if h.edited {
-        return Edition::Given(edition);
+        return Some(edition);
     }
-    Edition::First
+    None
 }

@@ -1,7 +1,6 @@
 // What is asked of a table: its number, 1 to 5. Number 1, a table that can't be read, comes before the others, so those are asked of a table
 // that can be read.
-ghost use Rattle.std.specs.Prelude.{◌≡◌, cond, List, ℕ, ◌≤◌, length, drop};
-ghost use Rattle.std.proofs.Math.Option.{Option, none, some};
+ghost use Rattle.std.specs.Prelude.{◌≡◌, cond, List, ℕ, ◌≤◌, length, drop, Option, Some, None};
 ghost use Rattle.ascii.specs.Bytes.{all};
 ghost use Rattle.ascii.specs.Names.{is_name, is_text};
 ghost use Rattle.datainfo.specs.Datainfo.{Datainfo};
@@ -21,11 +20,10 @@ ghost use Rattle.table.specs.Clauses.Judged.{differs, NamedIs, how_many, Members
 
 use crate::edition::edition_is_good;
 use crate::layout::{
-    Accessible, CommandAt, Head, Heading, ModuleAt, ParameterAt, Part, accessible_at,
+    Accessible, CommandAt, ModuleAt, ParameterAt, Part, accessible_at,
     accessible_end, accessibles_end, head_at, heading_at, is_accessible, is_module, is_readable,
     module_end,
 };
-use ascii::Next;
 use ascii::names::{is_name, is_text, same_lowercase};
 use form::is_stored;
 use limits::{ACCESSIBLES, DATAINFO_LEVELS, MODULES};
@@ -45,20 +43,6 @@ pub enum Kind {
     Accessibles,
 }
 
-// How many accessibles a module has, with the position after the module.
-#[derive(Clone, Copy)]
-pub enum Members {
-    Read(usize, usize),
-    Bad,
-}
-
-// A record's name, with the position after the record.
-#[derive(Clone, Copy)]
-pub enum Named {
-    Read(Part, usize),
-    Bad,
-}
-
 fn part_is_text(s: &[u8], p: Part) -> bool
     requires { Inside s.now p }
     ensures { result ≡ is_text (bytes_of s.now p) }
@@ -71,7 +55,7 @@ fn part_is_text(s: &[u8], p: Part) -> bool
 // Whether a datainfo passes.
 fn info_passes(s: &[u8], at: usize, test: Test) -> bool
     requires { ReadableAt s.now at 4 }
-    ensures { (d : Datainfo) (x : List ℕ) → datainfo_in 4 (drop at s.now) ≡ some (d, x) → result ≡ info_passes test d }
+    ensures { (d : Datainfo) (x : List ℕ) → datainfo_in 4 (drop at s.now) ≡ Some (d, x) → result ≡ info_passes test d }
 {
     match test {
         Test::Names => datainfo::rules::names_good(s, at, DATAINFO_LEVELS),
@@ -94,7 +78,7 @@ fn text_passes(s: &[u8], p: Part, test: Test) -> bool
 
 fn part_is_stored(s: &[u8], info: usize, p: Part) -> bool
     requires { ReadableAt s.now info 4 × Inside s.now p }
-    ensures { (d : Datainfo) (x : List ℕ) → datainfo_in 4 (drop info s.now) ≡ some (d, x) → result ≡ is_stored d (bytes_of s.now p) }
+    ensures { (d : Datainfo) (x : List ℕ) → datainfo_in 4 (drop info s.now) ≡ Some (d, x) → result ≡ is_stored d (bytes_of s.now p) }
 {
     let from = p.from;
     let to = p.to;
@@ -104,7 +88,7 @@ fn part_is_stored(s: &[u8], info: usize, p: Part) -> bool
 // Whether an initial value passes.
 fn value_passes(s: &[u8], info: usize, p: Part, test: Test) -> bool
     requires { ReadableAt s.now info 4 × Inside s.now p }
-    ensures { (d : Datainfo) (x : List ℕ) → datainfo_in 4 (drop info s.now) ≡ some (d, x)
+    ensures { (d : Datainfo) (x : List ℕ) → datainfo_in 4 (drop info s.now) ≡ Some (d, x)
         → result ≡ value_passes test d (bytes_of s.now p) }
 {
     match test {
@@ -116,7 +100,7 @@ fn value_passes(s: &[u8], info: usize, p: Part, test: Test) -> bool
 
 fn parameter_passes(s: &[u8], q: ParameterAt, test: Test) -> bool
     requires { (Inside s.now q.description × Inside s.now q.initial) × ReadableAt s.now q.info 4 }
-    ensures { (d : Datainfo) (x : List ℕ) → datainfo_in 4 (drop q.info s.now) ≡ some (d, x)
+    ensures { (d : Datainfo) (x : List ℕ) → datainfo_in 4 (drop q.info s.now) ≡ Some (d, x)
         → result ≡ passes test (parameter (parameter_of s.now q d)) }
 {
     let description = q.description;
@@ -133,7 +117,7 @@ fn parameter_passes(s: &[u8], q: ParameterAt, test: Test) -> bool
 
 fn command_passes(s: &[u8], q: CommandAt, test: Test) -> bool
     requires { Inside s.now q.description × ArgumentReadable s.now q.argument q.info }
-    ensures { (a : Option Datainfo) (x : List ℕ) → argument_at q.argument (drop q.info s.now) ≡ some (a, x)
+    ensures { (a : Option Datainfo) (x : List ℕ) → argument_at q.argument (drop q.info s.now) ≡ Some (a, x)
         → result ≡ passes test (command (command_of s.now q a)) }
 {
     let description = q.description;
@@ -152,9 +136,9 @@ fn accessible_passes(s: &[u8], at: usize, test: Test) -> bool
     ensures { result ≡ passed (passes test) (accessible_at (length s.now) (drop at s.now)) }
 {
     match accessible_at(s, at) {
-        Accessible::Parameter(q) => parameter_passes(s, q, test),
-        Accessible::Command(q) => command_passes(s, q, test),
-        Accessible::Bad => false,
+        Some(Accessible::Parameter(q)) => parameter_passes(s, q, test),
+        Some(Accessible::Command(q)) => command_passes(s, q, test),
+        None => false,
     }
 }
 
@@ -168,7 +152,7 @@ fn accessibles_pass(s: &[u8], at: usize, test: Test) -> bool
         if !accessible_passes(s, i, test) {
             return false;
         }
-        let Next::At(e) = accessible_end(s, i) else {
+        let Some(e) = accessible_end(s, i) else {
             return false;
         };
         i = e;
@@ -176,40 +160,40 @@ fn accessibles_pass(s: &[u8], at: usize, test: Test) -> bool
     true
 }
 
-fn accessible_name_at(s: &[u8], at: usize) -> Named
+fn accessible_name_at(s: &[u8], at: usize) -> Option<(Part, usize)>
     requires { at ≤ length s.now }
     ensures { NamedIs s.now result (named_at Kind.Accessibles (length s.now) (drop at s.now)) }
 {
     match accessible_at(s, at) {
-        Accessible::Parameter(q) => {
+        Some(Accessible::Parameter(q)) => {
             let name = q.name;
-            Named::Read(name, q.next)
+            Some((name, q.next))
         }
-        Accessible::Command(q) => {
+        Some(Accessible::Command(q)) => {
             let name = q.name;
-            Named::Read(name, q.next)
+            Some((name, q.next))
         }
-        Accessible::Bad => Named::Bad,
+        None => None,
     }
 }
 
-fn module_name_at(s: &[u8], at: usize) -> Named
+fn module_name_at(s: &[u8], at: usize) -> Option<(Part, usize)>
     requires { at ≤ length s.now }
     ensures { NamedIs s.now result (named_at Kind.Modules (length s.now) (drop at s.now)) }
 {
-    let Heading::Read(m) = heading_at(s, at) else {
-        return Named::Bad;
+    let Some(m) = heading_at(s, at) else {
+        return None;
     };
     let name = m.name;
     let next = m.next;
-    let Next::At(e) = accessibles_end(s, next) else {
-        return Named::Bad;
+    let Some(e) = accessibles_end(s, next) else {
+        return None;
     };
-    Named::Read(name, e)
+    Some((name, e))
 }
 
 // The name of a record of a kind.
-pub fn name_at(s: &[u8], at: usize, kind: Kind) -> Named
+pub fn name_at(s: &[u8], at: usize, kind: Kind) -> Option<(Part, usize)>
     requires { at ≤ length s.now }
     ensures { NamedIs s.now result (named_at kind (length s.now) (drop at s.now)) }
 {
@@ -249,7 +233,7 @@ fn is_new(s: &[u8], at: usize, kind: Kind, name: Part) -> bool
 {
     let mut i = at;
     while is_next(s, i, kind) {
-        let Named::Read(other, e) = name_at(s, i, kind) else {
+        let Some((other, e)) = name_at(s, i, kind) else {
             return false;
         };
         if !parts_differ(s, name, other) {
@@ -276,7 +260,7 @@ fn all_named_well(s: &[u8], at: usize, kind: Kind) -> bool
 {
     let mut i = at;
     while is_next(s, i, kind) {
-        let Named::Read(name, e) = name_at(s, i, kind) else {
+        let Some((name, e)) = name_at(s, i, kind) else {
             return false;
         };
         if !part_is_name(s, name) {
@@ -298,7 +282,7 @@ pub fn count(s: &[u8], at: usize, kind: Kind) -> usize
     let mut n = 0;
     let mut i = at;
     while is_next(s, i, kind) {
-        let Named::Read(_, e) = name_at(s, i, kind) else {
+        let Some((_, e)) = name_at(s, i, kind) else {
             return 0;
         };
         n += 1;
@@ -309,7 +293,7 @@ pub fn count(s: &[u8], at: usize, kind: Kind) -> usize
 
 fn note_is_good(s: &[u8], noted: bool, note: Part) -> bool
     requires { Inside s.now note }
-    ensures { result ≡ note_good (cond noted (some (bytes_of s.now note)) none) }
+    ensures { result ≡ note_good (cond noted (Some (bytes_of s.now note)) None) }
 {
     if noted {
         return part_is_text(s, note);
@@ -349,7 +333,7 @@ fn module_passes(s: &[u8], at: usize, test: Test) -> bool
     requires { at ≤ length s.now }
     ensures { result ≡ passed (module_passes test) (module_at (length s.now) (drop at s.now)) }
 {
-    let Heading::Read(m) = heading_at(s, at) else {
+    let Some(m) = heading_at(s, at) else {
         return false;
     };
     let next = m.next;
@@ -369,7 +353,7 @@ fn modules_pass(s: &[u8], at: usize, test: Test) -> bool
         if !module_passes(s, i, test) {
             return false;
         }
-        let Next::At(e) = module_end(s, i) else {
+        let Some(e) = module_end(s, i) else {
             return false;
         };
         i = e;
@@ -377,19 +361,19 @@ fn modules_pass(s: &[u8], at: usize, test: Test) -> bool
     true
 }
 
-fn members_at(s: &[u8], at: usize) -> Members
+fn members_at(s: &[u8], at: usize) -> Option<(usize, usize)>
     requires { at ≤ length s.now }
     ensures { MembersAre s.now result (module_at (length s.now) (drop at s.now)) }
 {
-    let Heading::Read(m) = heading_at(s, at) else {
-        return Members::Bad;
+    let Some(m) = heading_at(s, at) else {
+        return None;
     };
     let next = m.next;
-    let Next::At(e) = accessibles_end(s, next) else {
-        return Members::Bad;
+    let Some(e) = accessibles_end(s, next) else {
+        return None;
     };
     let n = count(s, next, Kind::Accessibles);
-    Members::Read(n, e)
+    Some((n, e))
 }
 
 // Whether the modules that follow have at most so many accessibles in all.
@@ -400,7 +384,7 @@ fn accessibles_are_few(s: &[u8], at: usize, most: usize) -> bool
     let mut i = at;
     let mut left = most;
     while is_module(s, i) {
-        let Members::Read(n, e) = members_at(s, i) else {
+        let Some((n, e)) = members_at(s, i) else {
             return false;
         };
         if left < n {
@@ -414,9 +398,9 @@ fn accessibles_are_few(s: &[u8], at: usize, most: usize) -> bool
 
 // Number 2: whether there are 1 to 16 modules and at most 64 accessibles in all.
 fn counts_good(s: &[u8]) -> bool
-    ensures { (t : Table) → whole_table s.now ≡ some t → result ≡ counts_good t }
+    ensures { (t : Table) → whole_table s.now ≡ Some t → result ≡ counts_good t }
 {
-    let Head::Read(h) = head_at(s) else {
+    let Some(h) = head_at(s) else {
         return false;
     };
     let first = h.first;
@@ -432,9 +416,9 @@ fn counts_good(s: &[u8]) -> bool
 
 // Number 3: whether names and texts are good, and names unique where they have to be.
 fn names_good(s: &[u8]) -> bool
-    ensures { (t : Table) → whole_table s.now ≡ some t → result ≡ names_good t }
+    ensures { (t : Table) → whole_table s.now ≡ Some t → result ≡ names_good t }
 {
-    let Head::Read(h) = head_at(s) else {
+    let Some(h) = head_at(s) else {
         return false;
     };
     let id = h.id;
@@ -458,9 +442,9 @@ fn names_good(s: &[u8]) -> bool
 
 // Number 4: whether all datainfos keep their own rules.
 fn datainfos_good(s: &[u8]) -> bool
-    ensures { (t : Table) → whole_table s.now ≡ some t → result ≡ datainfos_good t }
+    ensures { (t : Table) → whole_table s.now ≡ Some t → result ≡ datainfos_good t }
 {
-    let Head::Read(h) = head_at(s) else {
+    let Some(h) = head_at(s) else {
         return false;
     };
     let first = h.first;
@@ -469,9 +453,9 @@ fn datainfos_good(s: &[u8]) -> bool
 
 // Number 5: whether all initial values are in stored form and fit.
 fn initials_good(s: &[u8]) -> bool
-    ensures { (t : Table) → whole_table s.now ≡ some t → result ≡ initials_good t }
+    ensures { (t : Table) → whole_table s.now ≡ Some t → result ≡ initials_good t }
 {
-    let Head::Read(h) = head_at(s) else {
+    let Some(h) = head_at(s) else {
         return false;
     };
     let first = h.first;

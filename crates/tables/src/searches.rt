@@ -5,9 +5,8 @@ ghost use Rattle.table.specs.Layout.{Readable};
 
 use describe::judge::table_number;
 use input::{read_byte, read_full};
-use search::cursor::NextParameter;
 use search::find::{
-    FoundCommand, FoundModule, FoundParameter, find_command, find_module, find_parameter,
+    find_command, find_module, find_parameter,
     module_count, parameter_by_number,
 };
 use std::io;
@@ -82,8 +81,8 @@ fn find_module_in<R: Read, W: Write>(input: &mut R, output: &mut W, s: &[u8]) ->
     let mut name = [0u8; 4096];
     let n = name_in(input, &mut name)?;
     match find_module(s, &name[..n]) {
-        FoundModule::At(number, at) => write_module(output, number, at),
-        FoundModule::Nothing => write_nothing(output),
+        Some((number, at)) => write_module(output, number, at),
+        None => write_nothing(output),
     }
 }
 
@@ -95,8 +94,8 @@ fn find_parameter_in<R: Read, W: Write>(input: &mut R, output: &mut W, s: &[u8])
     let m = name_in(input, &mut module)?;
     let n = name_in(input, &mut name)?;
     match find_parameter(s, &module[..m], &name[..n]) {
-        FoundParameter::At(number, home, q) => write_parameter(output, number, home, q),
-        FoundParameter::Nothing => write_nothing(output),
+        Some((number, home, q)) => write_parameter(output, number, home, q),
+        None => write_nothing(output),
     }
 }
 
@@ -108,8 +107,8 @@ fn find_command_in<R: Read, W: Write>(input: &mut R, output: &mut W, s: &[u8]) -
     let m = name_in(input, &mut module)?;
     let n = name_in(input, &mut name)?;
     match find_command(s, &module[..m], &name[..n]) {
-        FoundCommand::At(number, home, q) => write_command(output, number, home, q),
-        FoundCommand::Nothing => write_nothing(output),
+        Some((number, home, q)) => write_command(output, number, home, q),
+        None => write_nothing(output),
     }
 }
 
@@ -119,11 +118,11 @@ fn find_number_in<R: Read, W: Write>(input: &mut R, output: &mut W, s: &[u8]) ->
 {
     let k = read_byte(input)? as usize;
     match parameter_by_number(s, k) {
-        NextParameter::At(q, e) => {
+        Some((q, e)) => {
             let home = e.modules - 1;
             write_parameter(output, k, home, q)
         }
-        NextParameter::End => write_nothing(output),
+        None => write_nothing(output),
     }
 }
 

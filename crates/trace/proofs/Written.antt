@@ -1,10 +1,10 @@
 -- A record that is written is read. Assumes nothing.
+use Rattle.std.specs.Prelude.{Some}
 use Prim.Native.Nat.{ℕ, zero, suc, ◌+◌, ◌*◌, ◌≤◌, ◌<◌}
 use native.Mathlib.Numerals.{add-one}
 use native.Mathlib.Omega.{arith}
 use mathlib.Core.Bool.{Bool, true, false}
 use mathlib.Core.List.{List, [], ◌∷◌, ◌++◌}
-use mathlib.Core.Option.{some}
 use mathlib.Core.Path.{◌≡◌, refl, sym, ap, ◌∙◌}
 use lib.Dec.{ltb}
 use lib.ListN.{length, get_or, take, drop}
@@ -26,16 +26,16 @@ unfolding judge
 in_mark xs h = rw (lt-ltb (length xs) 2 h) refl
 
 module _ (k : Kind) (xs : List ℕ) where
-  in_head : 2 ≤ length xs → length xs < 13 → kind_of (take 2 xs) ≡ some k → judge xs ≡ more
+  in_head : 2 ≤ length xs → length xs < 13 → kind_of (take 2 xs) ≡ Some k → judge xs ≡ more
   unfolding judge judge_kind
   in_head l h m = rw (le-ltb (length xs) 2 l, m, lt-ltb (length xs) 13 h) refl
 
-  in_body : 13 ≤ length xs → kind_of (take 2 xs) ≡ some k → length_good k (size_in xs) ≡ true → length xs < 13 + size_in xs → judge xs ≡ more
+  in_body : 13 ≤ length xs → kind_of (take 2 xs) ≡ Some k → length_good k (size_in xs) ≡ true → length xs < 13 + size_in xs → judge xs ≡ more
   unfolding judge judge_kind judge_sized
   in_body l m g h = rw (le-ltb (length xs) 2 (omega arith), m, le-ltb (length xs) 13 l, g, lt-ltb (length xs) (13 + size_in xs) h) refl
 
 -- all bytes of a record, byte by byte
-module _ (k : Kind) (all : List ℕ) (marked : kind_of (take 2 all) ≡ some k) (good : length_good k (size_in all) ≡ true)
+module _ (k : Kind) (all : List ℕ) (marked : kind_of (take 2 all) ≡ Some k) (good : length_good k (size_in all) ≡ true)
     (full : length all ≡ 13 + size_in all) (o : ℕ) where
   abbrev entry : Entry
   entry = record { kind = k; number = get_or all 2 0; time = big_endian (take 8 (drop 3 all)); offered = take (size_in all) (drop 13 all) }
@@ -89,7 +89,7 @@ module _ (k : Kind) (all : List ℕ) (marked : kind_of (take 2 all) ≡ some k) 
           ap (take_bytes (between o)) (sym (take_all (i + 1) all (omega arith))) ∙ last
           ∙ ap (λ (xs : List ℕ). advance o xs (judge xs)) joined ∙ ap (advance o all) comes_whole
 
-marked_so : (k : Kind) → kind_of (mark_of k) ≡ some k
+marked_so : (k : Kind) → kind_of (mark_of k) ≡ Some k
 unfolding kind_of mark_of same bytes
 marked_so Opening = refl
 marked_so Closing = refl
@@ -137,7 +137,7 @@ module _ (k : Kind) (n o t0 t1 t2 t3 t4 t5 t6 t7 a b : ℕ) (bs : List ℕ) (siz
       by Reading = omega arith
       by Unreadable = omega arith
 
-  marked : kind_of (take 2 all) ≡ some k
+  marked : kind_of (take 2 all) ≡ Some k
   marked = ap kind_of mark_is ∙ marked_so k
 
   fits : length_good k (size_in all) ≡ true

@@ -1,14 +1,14 @@
 -- Laws of updates of parameters to one client: one parameter's update by its positions, and all of them in table order. Assumes nothing.
+use Rattle.std.specs.Prelude.{Option, Some, None, slice_get}
 use Prim.Native.Nat.{ℕ, suc, ◌+◌, ◌-◌, ◌≤◌, ◌<◌}
 use native.Mathlib.Nat.{zero-add}
 use native.Mathlib.Numerals.{add-one}
 use native.Mathlib.Omega.{arith}
 use mathlib.Core.Bool.{Bool, true, false, cond, not}
 use mathlib.Core.List.{List, [], ◌∷◌, ◌++◌}
-use mathlib.Core.Option.{Option, some}
 use mathlib.Core.Path.{◌≡◌, refl, sym, ap, subst, ◌∙◌}
 use lib.Dec.{eqb}
-use lib.ListN.{length, get_or, drop, get_elem?, length-append}
+use lib.ListN.{length, get_or, drop, length-append}
 use borrow.Author.Tests.{not-true, not-false}
 use Rattle.ascii.specs.Clauses.Writer.{Puts}
 use Rattle.ascii.specs.Text.{bytes}
@@ -24,7 +24,6 @@ use Rattle.table.specs.Clauses.At.{bytes_of, parameter_of}
 use Rattle.table.specs.declared.layout.ParameterAt.{ParameterAt}
 use Rattle.table.proofs.Places.{initial_lies}
 use Rattle.search.specs.declared.cursor.Cursor.{Cursor}
-use Rattle.search.specs.declared.cursor.NextParameter as P
 use Rattle.search.specs.Clauses.Left.{placed, OnWay, FirstCursor, NextParameterIs}
 use Rattle.search.specs.Clauses.Found.{ParameterNumbered}
 use Rattle.search.proofs.Finds.{Counted, counted_parameters, number_end, number_is_lem, number_on}
@@ -85,7 +84,7 @@ fine_room d at c r f h = record { fits = rw (encode_one (update c r)) at h; shor
 module _ (table : List ℕ) (s : Settings) (values : List ℕ) (c : ℕ) (scope : Scope) where
   -- the values that are shown
   abbrev shown_at : ℕ → Value
-  shown_at k = value_at table s values k (get_elem? (parameters (table_of table)) k)
+  shown_at k = value_at table s values k (slice_get (parameters (table_of table)) k)
 
   abbrev every : List Record
   every = updates_of c (wanted scope) shown_at 0 (parameters (table_of table))
@@ -116,18 +115,18 @@ module _ (table : List ℕ) (s : Settings) (values : List ℕ) (c : ℕ) (scope 
     pub sent_all : table_number table ≡ 0 → 64 ≤ k → Puts d 0 (encode_all every) e p
     sent_all a l = none_left (past_64 table a k l)
 
-    module _ (r : P.NextParameter) (hr : NextParameterIs table i r) where
-      pub sent_end : r ≡ P.TheVariants.End → Puts d 0 (encode_all every) e p
+    module _ (r : Option (ParameterAt × Cursor)) (hr : NextParameterIs table i r) where
+      pub sent_end : r ≡ None → Puts d 0 (encode_all every) e p
       sent_end z = none_left (number_end table k k i h.counted r hr z)
 
-      module _ (q : ParameterAt) (n : Cursor) (z : r ≡ P.TheVariants.At q n) (a : table_number table ≡ 0) where
+      module _ (q : ParameterAt) (n : Cursor) (z : r ≡ Some (q, n)) (a : table_number table ≡ 0) where
         number : ParameterNumbered table k q n
         number = number_is_lem table k k i h.counted r hr q n z refl
 
         abbrev it : Placed Parameter
         it = placed table n (parameter_of table q number.held.datainfo)
 
-        there : get_elem? (parameters (table_of table)) k ≡ some it
+        there : slice_get (parameters (table_of table)) k ≡ Some it
         there = number.is
 
         value_is : shown_at k
@@ -159,7 +158,7 @@ module _ (table : List ℕ) (s : Settings) (values : List ℕ) (c : ℕ) (scope 
         sent_on f t x = record { counted = number_on table k k i h.counted r hr q n z; going = going_on (update_if scope c n own) (left (k + 1)) next x }
 
         -- if all of them are fine and have room, so has the next
-        own_shows : ((j : ℕ) (x : Placed Parameter) → get_elem? (parameters (table_of table)) j ≡ some x → Fine (Node.report_of x (shown_at j)))
+        own_shows : ((j : ℕ) (x : Placed Parameter) → slice_get (parameters (table_of table)) j ≡ Some x → Fine (Node.report_of x (shown_at j)))
             → 0 + length (encode_all every) ≤ length d → settings_unfit s values 0 (parameters (table_of table)) ≡ false → 16384 ≤ length values → k < 64
             → Updatable table s values e p c scope k q n
         own_shows f l u v y =
@@ -193,7 +192,7 @@ module _ (table : List ℕ) (s : State) (values : List ℕ) (c : ℕ) (scope : S
         counts = λ i. (omega arith, (omega arith, omega arith));
       }
 
-  fine_at : (j : ℕ) (x : Placed Parameter) → get_elem? (parameters (table_of table)) j ≡ some x → Fine (Node.report_of x (shown_at table s.settings values c scope j))
+  fine_at : (j : ℕ) (x : Placed Parameter) → slice_get (parameters (table_of table)) j ≡ Some x → Fine (Node.report_of x (shown_at table s.settings values c scope j))
   fine_at j x y = fine (table_of table) (accepted table g.lent.accepted) node sound j x y (node.values j) (sound.values j x y)
 
   all_room : 0 + length (encode_all (every table s.settings values c scope)) ≤ length d
@@ -203,7 +202,7 @@ module _ (table : List ℕ) (s : State) (values : List ℕ) (c : ℕ) (scope : S
       let l = g.lent.room in
       omega arith
 
-  pub next_shows : (k : ℕ) (i : Cursor) (e : List ℕ) (p : ℕ) → Sent table s.settings values c scope d k i e p → (r : P.NextParameter) → NextParameterIs table i r
-      → (q : ParameterAt) (n : Cursor) → r ≡ P.TheVariants.At q n → k < 64 → Updatable table s.settings values e p c scope k q n
+  pub next_shows : (k : ℕ) (i : Cursor) (e : List ℕ) (p : ℕ) → Sent table s.settings values c scope d k i e p → (r : Option (ParameterAt × Cursor)) → NextParameterIs table i r
+      → (q : ParameterAt) (n : Cursor) → r ≡ Some (q, n) → k < 64 → Updatable table s.settings values e p c scope k q n
   next_shows k i e p h r hr q n z y =
       own_shows table s.settings values c scope d k i e p h r hr q n z g.lent.accepted fine_at all_room fit g.area y

@@ -19,7 +19,7 @@ ghost use Rattle.update.specs.Clauses.Updatable.{shown_report, Updatable};
 use limits::{ACCESSIBLES, CLIENTS};
 use message::say::Sensor;
 use outbox::write::put_update;
-use search::cursor::{Cursor, NextParameter, first_cursor, next_parameter};
+use search::cursor::{Cursor, first_cursor, next_parameter};
 use state::client::is_active;
 use state::setting::{sensor_at, shown};
 use state::{Bare, Brief, Settings};
@@ -145,7 +145,7 @@ pub fn put_updates_of<'a>(
     let mut k = 0;
     let mut cursor = first_cursor(table);
     while k < ACCESSIBLES {
-        let NextParameter::At(p, next) = next_parameter(table, cursor) else {
+        let Some((p, next)) = next_parameter(table, cursor) else {
             return end;
         };
         end = put_shown(table, values, out, end, settings, client, scope, k, p, next);

@@ -6,8 +6,7 @@
 ghost use Rattle.datainfo.specs.Layout.{ReadableAt};
 ghost use Rattle.form.specs.Clauses.Formed.{FitsAt};
 
-use ascii::Next;
-use fit::Verdict;
+use fit::Misfit;
 use input::read_full;
 use limits::{DATAINFO_LEVELS, PLACE};
 use std::io;
@@ -44,10 +43,10 @@ fn write_verdict<W: Write>(
     requires { ReadableAt info.now 0 4 }
 {
     match form::verdict(info, 0, text) {
-        Verdict::Fits => write_fit(output, info, text, stored),
-        Verdict::RangeError => output.write_all(b"RangeError\n"),
-        Verdict::WrongType => output.write_all(b"WrongType\n"),
-        Verdict::BadJson => output.write_all(b"BadJSON\n"),
+        Ok(()) => write_fit(output, info, text, stored),
+        Err(Misfit::RangeError) => output.write_all(b"RangeError\n"),
+        Err(Misfit::WrongType) => output.write_all(b"WrongType\n"),
+        Err(Misfit::BadJson) => output.write_all(b"BadJSON\n"),
     }
 }
 
@@ -58,8 +57,8 @@ fn judge_case<W: Write>(
     stored: &mut [u8],
 ) -> io::Result<()> {
     match datainfo::layout::datainfo_end(info, 0, DATAINFO_LEVELS) {
-        Next::At(_) => write_verdict(output, info, text, stored),
-        Next::Bad => output.write_all(b"no datainfo\n"),
+        Some(_) => write_verdict(output, info, text, stored),
+        None => output.write_all(b"no datainfo\n"),
     }
 }
 

@@ -1,6 +1,5 @@
 -- What the code that carries out a command is given, and what it answers. Assumes nothing.
-use Rattle.std.specs.Prelude.{ℕ, ◌≤◌, ◌<◌, ◌≡◌, Bool, true, List, [], ◌∷◌, length}
-use Rattle.std.proofs.Math.Option.{Option, some}
+use Rattle.std.specs.Prelude.{ℕ, ◌≤◌, ◌<◌, ◌≡◌, Bool, true, List, [], ◌∷◌, length, Option, Some, Result}
 use Rattle.ascii.specs.Text.{bytes}
 use Rattle.ascii.specs.Names.{is_name}
 use Rattle.ascii.specs.Numbers.{latest}
@@ -8,16 +7,16 @@ use Rattle.ascii.specs.Clauses.Writer.{Puts}
 use Rattle.datainfo.specs.Datainfo.{Datainfo}
 use Rattle.fit.specs.Fit.{is_fit}
 use Rattle.fit.specs.Clauses.Verdict.{meaning}
-use Rattle.fit.specs.declared.Verdict.{Verdict}
 use Rattle.table.specs.Clauses.At.{ArgumentReadable}
 use Rattle.message.specs.Reply.{valued, done}
 use Rattle.message.specs.Clauses.Said.{report_of}
 use Rattle.outbox.specs.Outbox.{Record, final, order_command, encode, encode_all}
 use Rattle.plain.specs.Answer.{argument_verdict, argument_form}
+use Rattle.fit.specs.declared.Misfit.{Misfit}
 
 -- r is the verdict on a text by the argument that o reads; asked only where o can be read
-pub record JudgesArgument (o : Option (Option Datainfo × List ℕ)) (xs : List ℕ) (r : Verdict) : Type 0 where
-  pub is : {a : Option Datainfo} {x : List ℕ} → o ≡ some (a, x) → meaning r ≡ argument_verdict a xs
+pub record JudgesArgument (o : Option (Option Datainfo × List ℕ)) (xs : List ℕ) (r : Result Unit Misfit) : Type 0 where
+  pub is : {a : Option Datainfo} {x : List ℕ} → o ≡ Some (a, x) → meaning r ≡ argument_verdict a xs
 
 -- a text that is let in, by the argument that is declared at a position of the table or where none is
 pub record LetIn (table : List ℕ) (info : ℕ) (declared : Bool) (xs : List ℕ) : Type 0 where
@@ -42,8 +41,8 @@ order_records c k form m a t = order_command c k form ∷ (final c (done (report
 
 -- the order of client c to carry out command k, with the form of a text by the argument that o reads, is at the front of the outbox
 pub record PutsOrder (o : Option (Option Datainfo × List ℕ)) (c k : ℕ) (xs before after : List ℕ) (end : ℕ) : Type 0 where
-  pub is : {d : Option Datainfo} {x : List ℕ} → o ≡ some (d, x) → Puts before 0 (encode (order_command c k (argument_form d xs))) after end
+  pub is : {d : Option Datainfo} {x : List ℕ} → o ≡ Some (d, x) → Puts before 0 (encode (order_command c k (argument_form d xs))) after end
 
 -- and the reply after it
 pub record IsOrdered (o : Option (Option Datainfo × List ℕ)) (c k : ℕ) (xs m a : List ℕ) (t : ℕ) (before after : List ℕ) (end : ℕ) : Type 0 where
-  pub is : {d : Option Datainfo} {x : List ℕ} → o ≡ some (d, x) → Puts before 0 (encode_all (order_records c k (argument_form d xs) m a t)) after end
+  pub is : {d : Option Datainfo} {x : List ℕ} → o ≡ Some (d, x) → Puts before 0 (encode_all (order_records c k (argument_form d xs) m a t)) after end

@@ -1,6 +1,5 @@
 -- What a text comes to that leaves nothing out, and what the code does that fills in what a change leaves out (M-113). Assumes nothing.
-use Rattle.std.specs.Prelude.{ℕ, ◌≤◌, ◌≡◌, cond, List, length, take}
-use Rattle.std.proofs.Math.Option.{some}
+use Rattle.std.specs.Prelude.{ℕ, ◌≤◌, ◌≡◌, cond, List, length, take, Some}
 use Rattle.json_text.specs.Json.{text}
 use Rattle.fit.specs.Fit.{verdict, stored_form, completed_of}
 use Rattle.table.specs.declared.layout.ParameterAt.{ParameterAt}
@@ -40,5 +39,5 @@ pub record Fillable (table : List ℕ) (s : State) (values m a : List ℕ) (k h 
 pub record Fills (table : List ℕ) (s : State) (values m a xs before after : List ℕ) (r : ℕ) : Type 0 where
   pub size : length after ≡ length before
   pub within : r ≤ length after
-  pub is : (x : ℕ × Placed Parameter) → find_parameter (table_of table) m a ≡ some x
+  pub is : (x : ℕ × Placed Parameter) → find_parameter (table_of table) m a ≡ Some x
       → text (take r after) ≡ completed_of (shown_value ((view table s values).values x.0).held) x.1.it.datainfo (text xs)

@@ -16,7 +16,7 @@ pub returns-in_default : goal.returns-in_default
 returns-in_default c = search sized_bad
 
 pub overflow_add-result : goal.overflow_add-result
-overflow_add-result c = let h : c.in-Of.m ≤ 2 = search last_low in omega arith
+overflow_add-result c = let h : c.in-Some.m ≤ 2 = search last_low in omega arith
 
 pub returns : goal.returns
 returns c = search sized_of

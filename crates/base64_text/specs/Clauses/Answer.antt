@@ -1,21 +1,18 @@
 -- What the code that sizes a text answers. Assumes nothing.
-use Rattle.std.specs.Prelude.{ℕ, ◌+◌, Bool, cond, List, eqb, length, get_or}
-use Rattle.std.proofs.Math.Option.{Option, none, some}
+use Rattle.std.specs.Prelude.{ℕ, ◌+◌, Bool, cond, List, eqb, length, get_or, Option, Some, None}
 use Rattle.base64_text.specs.Base64.{is_whole, padded}
-use Rattle.base64_text.specs.declared.Size.{Size}
-use Rattle.base64_text.specs.declared.Size.TheVariants.{Of, Bad}
 
 -- whether the group at a position is whole; past the end there is no digit
 abbrev pub whole_at : List ℕ → ℕ → Bool
 whole_at t i = is_whole (get_or t i 0) (get_or t (i + 1) 0) (get_or t (i + 2) 0) (get_or t (i + 3) 0)
 
 -- the size that the code's answer stands for
-abbrev pub meaning : Size → Option ℕ
-meaning (Of n) = some n
-meaning Bad = none
+abbrev pub meaning : Option ℕ → Option ℕ
+meaning (Some n) = Some n
+meaning None = None
 
 -- the size of what follows the whole groups: nothing, or a padded group
 unfoldable pub last_size : List ℕ → Option ℕ
 last_size xs =
-    cond (eqb (length xs) 0) (some 0)
-    (cond (eqb (length xs) 4) (padded (get_or xs 0 0) (get_or xs 1 0) (get_or xs 2 0) (get_or xs 3 0)) none)
+    cond (eqb (length xs) 0) (Some 0)
+    (cond (eqb (length xs) 4) (padded (get_or xs 0 0) (get_or xs 1 0) (get_or xs 2 0) (get_or xs 3 0)) None)

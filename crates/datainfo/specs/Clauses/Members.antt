@@ -1,7 +1,6 @@
 -- The members of a datainfo, whatever its kind: what the code that walks over them promises. The kind is the type byte: 4 enum ("each
 -- name and i32"), 7 tuple ("datainfos"), 8 struct ("each name and datainfo"), 11 the same with a flag before each name. Assumes nothing.
-use Rattle.std.specs.Prelude.{ℕ, zero, suc, cond, List, eqb}
-use Rattle.std.proofs.Math.Option.{Option, some}
+use Rattle.std.specs.Prelude.{ℕ, zero, suc, cond, List, eqb, Option, Some}
 use Rattle.ascii.specs.Bytes.{◌>>=◌, part}
 use Rattle.ascii.specs.Numbers.{unsigned}
 use Rattle.ascii.specs.Clauses.Reader.{rest}
@@ -24,7 +23,7 @@ module _ (inner : List ℕ → Option (Datainfo × List ℕ)) (k : ℕ) where
 
   -- what is left after n members
   unfoldable pub after_members : ℕ → List ℕ → Option (List ℕ)
-  after_members zero xs = some xs
+  after_members zero xs = Some xs
   after_members (suc n) xs = after_member xs >>= after_members n
 
   -- what is left after a count byte and as many members

@@ -1,15 +1,11 @@
 -- What the code promises that asks number 3 (good names) or number 4 (its own rules) of a datainfo in the table's bytes. Both are asked of
 -- a datainfo and of each inside it; `names` says which one. The steps of the walk say nothing of what can't be read. Assumes nothing.
-use Rattle.std.specs.Prelude.{ℕ, zero, suc, ◌≤◌, ◌≡◌, Bool, true, false, cond, not, ◌&&◌, List, [], ◌∷◌, map, length, get_or, take, drop, eqb, ℤ, pos}
-use Rattle.std.proofs.Math.Option
-use Rattle.std.proofs.Math.Option.{Option, none, some}
+use Rattle.std.specs.Prelude.{ℕ, zero, suc, ◌≤◌, ◌≡◌, Bool, true, false, cond, not, ◌&&◌, List, [], ◌∷◌, map, length, get_or, take, drop, eqb, ℤ, pos, Option, Some, None, unwrap_or}
 use Rattle.ascii.specs.Bytes.{◌>>=◌, all, any, same}
 use Rattle.ascii.specs.Names.{is_name, lowercase}
 use Rattle.ascii.specs.Numbers.{unsigned, signed}
 use Rattle.ascii.specs.Clauses.Reader.{rest}
 use Rattle.decimal.specs.Decimal.{Decimal}
-use Rattle.datainfo.specs.declared.rules.Limit.{Limit}
-use Rattle.datainfo.specs.declared.rules.Limit.TheVariants.{Read, Short}
 use Rattle.datainfo.specs.Datainfo.{Datainfo, double, int, bool, enum, string, array, tuple, struct, scaled, blob, partial, Elements, no_elements}
 use Rattle.datainfo.specs.Datainfo.{element, Fields, no_fields, field}
 use Rattle.datainfo.specs.Layout.{counted, entry, string_at, array_at, blob_at}
@@ -20,12 +16,12 @@ use Rattle.datainfo.specs.Rules.{names_good, rules_kept, same_integer}
 
 -- r is the answer o, if there is one
 abbrev pub Agrees : Bool → Option Bool → Type 0
-Agrees r none = Unit
-Agrees r (some b) = r ≡ b
+Agrees r None = Unit
+Agrees r (Some b) = r ≡ b
 
 -- the answer of a test to what was read
 abbrev pub asked : {A : Type 0} → (A → Bool) → Option (A × List ℕ) → Option Bool
-asked p o = o >>= λ a. some (p a.0)
+asked p o = o >>= λ a. Some (p a.0)
 
 -- a datainfo obeys what number 3 asks (good names), or what number 4 asks (its own rules)
 unfoldable pub obeys : Bool → Datainfo → Bool
@@ -58,8 +54,8 @@ inside_obeys names d = all (obeys names) (inside d)
 
 -- r decides what is asked of a datainfo, but for the datainfos inside it
 abbrev pub Decides : Bool → Bool → Option (Datainfo × List ℕ) → Type 0
-Decides names r none = Unit
-Decides names r (some p) = obeys names p.0 ≡ (r && inside_obeys names p.0)
+Decides names r None = Unit
+Decides names r (Some p) = obeys names p.0 ≡ (r && inside_obeys names p.0)
 
 -- r decides the limits of a string, of a blob, and those of an array whose inner datainfo is read by f
 pub record Ordered (r : Bool) (xs : List ℕ) : Type 0 where
@@ -68,21 +64,21 @@ pub record Ordered (r : Bool) (xs : List ℕ) : Type 0 where
   pub array : (f : List ℕ → Option (Datainfo × List ℕ)) → Decides false r (array_at f xs)
 
 -- the answer of a reader of a double's limits and of a scale: `Read m p e` where it reads m times ten to the power p and leaves the bytes from e on
-abbrev pub ReadsLimit : List ℕ → Limit → Option (Decimal × List ℕ) → Type 0
-ReadsLimit s (Read m p e) o = (o ≡ some (record { whole = m; power = p }, drop e s)) × (e ≤ length s)
-ReadsLimit s Short o = o ≡ none
+abbrev pub ReadsLimit : List ℕ → Option (ℤ × ℤ × ℕ) → Option (Decimal × List ℕ) → Type 0
+ReadsLimit s (Some (m, p, e)) o = (o ≡ Some (record { whole = m; power = p }, drop e s)) × (e ≤ length s)
+ReadsLimit s None o = o ≡ None
 
 -- ## Members, by the bytes from each on
 
 -- a name, empty where it is cut off; that of a member of the kind k; and the number of an enum's, then 0
 unfoldable pub name_of : List ℕ → List ℕ
-name_of xs = Option.get_or (counted xs >>= λ p. some p.0) []
+name_of xs = unwrap_or (counted xs >>= λ p. Some p.0) []
 
 unfoldable pub name_in : ℕ → List ℕ → List ℕ
-name_in k xs = Option.get_or (entry k xs >>= λ p. some p.0.1) []
+name_in k xs = unwrap_or (entry k xs >>= λ p. Some p.0.1) []
 
 unfoldable pub number_of : List ℕ → ℤ
-number_of xs = Option.get_or (counted xs >>= λ p. signed 4 p.1 >>= λ q. some q.0) (pos 0)
+number_of xs = unwrap_or (counted xs >>= λ p. signed 4 p.1 >>= λ q. Some q.0) (pos 0)
 
 -- what makes two members of one datainfo too much alike: the same name when lowercased, or the same number
 unfoldable pub same_key : ℕ → Bool → List ℕ → List ℕ → Bool
@@ -113,25 +109,25 @@ pub record Notes (s ps : List ℕ) (r : ℕ) (xs : List (List ℕ)) : Type 0 whe
 
 -- what is left before the datainfo of a member of the kind k: a tuple's (7) has no name
 unfoldable pub before_held : ℕ → List ℕ → Option (List ℕ)
-before_held k xs = cond (eqb k 7) (some xs) (rest (entry k xs))
+before_held k xs = cond (eqb k 7) (Some xs) (rest (entry k xs))
 
 -- Datainfos inside are read by `inner`; k is the kind.
 module _ (inner : List ℕ → Option (Datainfo × List ℕ)) (k : ℕ) where
   -- n members, as far as they can be read
   unfoldable pub starts : ℕ → List ℕ → List (List ℕ)
   starts zero xs = []
-  starts (suc n) xs = xs ∷ Option.get_or (after_member inner k xs >>= λ r. some (starts n r)) []
+  starts (suc n) xs = xs ∷ unwrap_or (after_member inner k xs >>= λ r. Some (starts n r)) []
 
   -- as many as a count byte says
   unfoldable pub starts_at : List ℕ → List (List ℕ)
-  starts_at xs = Option.get_or (unsigned 1 xs >>= λ p. some (starts p.0 p.1)) []
+  starts_at xs = unwrap_or (unsigned 1 xs >>= λ p. Some (starts p.0 p.1)) []
 
   module _ (names : Bool) where
     -- the answer to the datainfos of n members
     unfoldable pub held_obeys : ℕ → List ℕ → Option Bool
-    held_obeys zero xs = some true
+    held_obeys zero xs = Some true
     held_obeys (suc n) xs =
-        before_held k xs >>= λ h. inner h >>= λ p. held_obeys n p.1 >>= λ b. some (obeys names p.0 && b)
+        before_held k xs >>= λ h. inner h >>= λ p. held_obeys n p.1 >>= λ b. Some (obeys names p.0 && b)
 
     unfoldable pub held_obeys_at : List ℕ → Option Bool
     held_obeys_at xs = unsigned 1 xs >>= λ p. held_obeys p.0 p.1

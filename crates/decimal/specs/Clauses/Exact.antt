@@ -1,10 +1,8 @@
 -- What the values that the comparison computes with stand for. Assumes nothing.
-use Rattle.std.specs.Prelude.{ℕ, ◌+◌, ◌*◌, ◌^◌, ◌<◌, ◌≡◌, Bool, true, false, cond, List, ℤ, pos, neg_ℤ, ◌-ℤ◌, leb}
+use Rattle.std.specs.Prelude.{ℕ, ◌+◌, ◌*◌, ◌^◌, ◌<◌, ◌≡◌, Bool, true, false, cond, List, ℤ, pos, neg_ℤ, ◌-ℤ◌, leb, Option, Some, None}
 use Rattle.decimal.specs.Decimal.{Decimal, exactly, is_within_limits, between}
 use Rattle.decimal.specs.declared.compare.Natural.{Natural}
 use Rattle.decimal.specs.declared.compare.Exact.{Exact}
-use Rattle.decimal.specs.declared.compare.TokenValue.{TokenValue}
-use Rattle.decimal.specs.declared.compare.TokenValue.TheVariants.{Of, Beyond}
 
 -- the number of two halves, the lower of 16 digits
 abbrev pub value : Natural → ℕ
@@ -43,16 +41,16 @@ pub record Is (x : Exact) (d : Decimal) : Type 0 where
   pub room : Room x.size
 
 -- v is what was read of the token t
-abbrev pub ValueOf : List ℕ → TokenValue → Type 0
-ValueOf t (Of x) = (is_within_limits t ≡ true) × Is x (exactly t)
-ValueOf t Beyond = is_within_limits t ≡ false
+abbrev pub ValueOf : List ℕ → Option Exact → Type 0
+ValueOf t (Some x) = (is_within_limits t ≡ true) × Is x (exactly t)
+ValueOf t None = is_within_limits t ≡ false
 
 -- with room for a digit more
-abbrev pub Roomy : TokenValue → Type 0
-Roomy (Of x) = Room x.size
-Roomy Beyond = Unit
+abbrev pub Roomy : Option Exact → Type 0
+Roomy (Some x) = Room x.size
+Roomy None = Unit
 
 -- from lo to hi; what is beyond a token's own limits is nowhere
-unfoldable pub lies_between : Decimal → Decimal → TokenValue → Bool
-lies_between lo hi (Of x) = between lo hi (decimal_of x)
-lies_between lo hi Beyond = false
+unfoldable pub lies_between : Decimal → Decimal → Option Exact → Bool
+lies_between lo hi (Some x) = between lo hi (decimal_of x)
+lies_between lo hi None = false

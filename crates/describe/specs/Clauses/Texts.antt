@@ -1,6 +1,5 @@
 -- The texts of the accessibles and modules of the structure report, as the code writes them. Assumes nothing.
-use Rattle.std.specs.Prelude.{ℕ, Bool, cond, List, [], ◌∷◌, ◌++◌}
-use Rattle.std.proofs.Math.Option.{Option}
+use Rattle.std.specs.Prelude.{ℕ, Bool, cond, List, [], ◌∷◌, ◌++◌, Option}
 use Rattle.ascii.specs.Text.{bytes}
 use Rattle.json_text.specs.Json.{no_members, quoted, compact_members, more_members}
 use Rattle.datainfo.specs.Datainfo.{Datainfo}

@@ -1,7 +1,6 @@
 -- What the code that writes a text piece by piece does: each piece is written where the lent buffer has room for it, and counted
 -- where not. Assumes nothing.
-use Rattle.std.specs.Prelude.{ℕ, ◌+◌, ◌-◌, ◌≤◌, ◌≡◌, Bool, cond, List, [], length}
-use Rattle.std.proofs.Math.Option.{Option, none, some}
+use Rattle.std.specs.Prelude.{ℕ, ◌+◌, ◌-◌, ◌≤◌, ◌≡◌, Bool, cond, List, [], length, Option, Some, None}
 use Rattle.ascii.specs.Text.{bytes}
 use Rattle.ascii.specs.Clauses.Writer.{Puts}
 
@@ -18,12 +17,12 @@ pub record Emits (before : List ℕ) (at : ℕ) (text : List ℕ) (after : List 
 
 -- the text of what was read, with what is left
 abbrev pub told : {A : Type 0} → (A → List ℕ) → Option (A × List ℕ) → Option (List ℕ × List ℕ)
-told f none = none
-told f (some p) = some (f p.0, p.1)
+told f None = None
+told f (Some p) = Some (f p.0, p.1)
 
 -- the text that o has was written; where o is none, nothing is said
 pub record Says (o : Option (List ℕ × List ℕ)) (before : List ℕ) (at : ℕ) (after : List ℕ) (end : ℕ) : Type 0 where
-  pub is : {text left : List ℕ} → o ≡ some (text, left) → Emits before at text after end
+  pub is : {text left : List ℕ} → o ≡ Some (text, left) → Emits before at text after end
 
 -- what stands before a member or an item
 unfoldable pub comma : Bool → List ℕ

@@ -1,7 +1,6 @@
 -- What the code keeps of a parameter's settings, and how that stands for their figures. A number from -2,147,483,648 on is kept as how far it lies above
 -- that, so that all that is kept is no negative number. Assumes nothing.
-use Rattle.std.specs.Prelude.{ℕ, ◌+◌, ◌-◌, ◌*◌, ◌≤◌, Bool, true, cond, List, [], ◌∷◌, ◌++◌, map, ◌≡◌, eqb, ltb, leb, ℤ, pos, negsuc, length, get_or, set, drop}
-use Rattle.std.proofs.Math.Option.{some}
+use Rattle.std.specs.Prelude.{ℕ, ◌+◌, ◌-◌, ◌*◌, ◌≤◌, Bool, true, cond, List, [], ◌∷◌, ◌++◌, map, ◌≡◌, eqb, ltb, leb, ℤ, pos, negsuc, length, get_or, set, drop, Some, None}
 use Rattle.std.proofs.Math.IntN.{sub_ℕ}
 use Rattle.ascii.specs.Text.{bytes}
 use Rattle.ascii.specs.Numbers.{decimal, integer, signed}
@@ -108,21 +107,21 @@ pub record SetTo (s : List ℕ) (info : ℕ) (v : List ℕ) : Type 0 where
   pub within : info ≤ length s
   pub datainfo : Datainfo
   pub left : List ℕ
-  pub reads : datainfo_at (drop info s) ≡ some (datainfo, left)
+  pub reads : datainfo_at (drop info s) ≡ Some (datainfo, left)
   pub stored : is_stored datainfo v ≡ true
 
 -- r is the mark of a text by the datainfo there
 pub record Marks (s : List ℕ) (info : ℕ) (v : List ℕ) (r : ℕ) : Type 0 where
-  pub is : {d : Datainfo} {x : List ℕ} → datainfo_at (drop info s) ≡ some (d, x) → r ≡ mark_of d v
+  pub is : {d : Datainfo} {x : List ℕ} → datainfo_at (drop info s) ≡ Some (d, x) → r ≡ mark_of d v
   pub low : r ≤ 4294967296
 
 -- r is whether the two limits that are read from xs are narrow; where they can't be read, r is any. Of a scaled they stand behind its scale
 pub record LimitsNarrow (xs : List ℕ) (r : Bool) : Type 0 where
-  pub is : {lo hi : ℤ} {y z : List ℕ} → signed 8 xs ≡ some (lo, y) → signed 8 y ≡ some (hi, z) → r ≡ is_narrow lo hi
+  pub is : {lo hi : ℤ} {y z : List ℕ} → signed 8 xs ≡ Some (lo, y) → signed 8 y ≡ Some (hi, z) → r ≡ is_narrow lo hi
 
 pub record ScaledNarrow (xs : List ℕ) (r : Bool) : Type 0 where
-  pub is : {a : Decimal} {y : List ℕ} → limit xs ≡ some (a, y) → LimitsNarrow y r
+  pub is : {a : Decimal} {y : List ℕ} → limit xs ≡ Some (a, y) → LimitsNarrow y r
 
 -- r is whether the parameter of the datainfo there has more than a count
 pub record TellsSummed (s : List ℕ) (info : ℕ) (r : Bool) : Type 0 where
-  pub is : {d : Datainfo} {x : List ℕ} → datainfo_at (drop info s) ≡ some (d, x) → r ≡ is_summed d
+  pub is : {d : Datainfo} {x : List ℕ} → datainfo_at (drop info s) ≡ Some (d, x) → r ≡ is_summed d

@@ -1,6 +1,5 @@
 -- The texts of a datainfo and its parts in the structure report, as the code writes them. Assumes nothing.
-use Rattle.std.specs.Prelude.{ℕ, zero, suc, ◌≤◌, ◌≡◌, length, drop, Bool, true, false, cond, List, [], ◌++◌, eqb}
-use Rattle.std.proofs.Math.Option.{Option, some}
+use Rattle.std.specs.Prelude.{ℕ, zero, suc, ◌≤◌, ◌≡◌, length, drop, Bool, true, false, cond, List, [], ◌++◌, eqb, Option, Some}
 use Rattle.ascii.specs.Text.{bytes}
 use Rattle.ascii.specs.Bytes.{◌>>=◌}
 use Rattle.ascii.specs.Numbers.{decimal, integer, unsigned, signed}
@@ -31,15 +30,15 @@ array_limits lo hi = bytes "{\"type\":\"array\",\"minlen\":" ++ decimal lo ++ (b
 -- position r of s is past the name of a member of the kind k at position i, if one can be read there
 pub record NameEnds (s : List ℕ) (i k r : ℕ) : Type 0 where
   pub within : r ≤ length s
-  pub is : {a : Bool × List ℕ} {left : List ℕ} → entry k (drop i s) ≡ some (a, left) → left ≡ drop r s
+  pub is : {a : Bool × List ℕ} {left : List ℕ} → entry k (drop i s) ≡ Some (a, left) → left ≡ drop r s
 
 -- the name of the member that o reads was written, if it is optional, with a comma before it unless it is the first
 pub record NamesOptional (o : Option ((Bool × List ℕ) × List ℕ)) (first : Bool) (before : List ℕ) (at : ℕ) (after : List ℕ) (end : ℕ) : Type 0 where
-  pub is : {a : Bool × List ℕ} {y : List ℕ} → o ≡ some (a, y) → Emits before at (cond a.0 (comma first ++ quoted a.1) []) after end
+  pub is : {a : Bool × List ℕ} {y : List ℕ} → o ≡ Some (a, y) → Emits before at (cond a.0 (comma first ++ quoted a.1) []) after end
 
 -- r is whether none has been written after it
 pub record StaysFirst (o : Option ((Bool × List ℕ) × List ℕ)) (first r : Bool) : Type 0 where
-  pub is : {a : Bool × List ℕ} {y : List ℕ} → o ≡ some (a, y) → r ≡ cond a.0 false first
+  pub is : {a : Bool × List ℕ} {y : List ℕ} → o ≡ Some (a, y) → r ≡ cond a.0 false first
 
 -- what stands before the members of the kind k, and after them
 unfoldable pub opening : ℕ → List ℕ
@@ -64,7 +63,7 @@ module _ (inner : List ℕ → Option (Datainfo × List ℕ)) (k : ℕ) where
 
   -- n members with commas before all but the first
   unfoldable pub members_text : Bool → ℕ → List ℕ → Option (List ℕ × List ℕ)
-  members_text first zero xs = some ([], xs)
+  members_text first zero xs = Some ([], xs)
   members_text first (suc n) xs = member_text xs >>= λ p. told (λ t. comma first ++ p.0 ++ t) (members_text false n p.1)
 
   -- a count byte and as many members, and a datainfo that has these

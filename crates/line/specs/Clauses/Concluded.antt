@@ -1,6 +1,6 @@
 -- What the code does with the outcome of a request: an error is answered now; whatever else has been answered, and changes the state. Assumes
 -- nothing.
-use Rattle.std.specs.Prelude.{ℕ, ◌≤◌, ◌<◌, ◌≡◌, List, length}
+use Rattle.std.specs.Prelude.{ℕ, ◌≤◌, ◌<◌, ◌≡◌, List, length, Option, Some, None}
 use Rattle.ascii.specs.Clauses.Writer.{Puts}
 use Rattle.message.specs.Error.{Denial, class, fault}
 use Rattle.message.specs.Reply.{error}
@@ -10,8 +10,6 @@ use Rattle.state.specs.declared.Bare.{Bare}
 use Rattle.state.specs.View.{with_length, settings_with}
 use Rattle.state.specs.Clauses.Bare.{brief_active}
 use Rattle.outcome.specs.Clauses.Outcome.{status_settings}
-use Rattle.outcome.specs.declared.Status.{Status}
-use Rattle.outcome.specs.declared.Status.TheVariants.{Stays, Busy}
 use Rattle.outcome.specs.declared.Outcome.{Outcome}
 use Rattle.outcome.specs.declared.Outcome.TheVariants.{Denied, Unreadable, Sent, Active, Stored}
 use Rattle.outcome.specs.declared.Answered.{Answered}
@@ -23,9 +21,9 @@ pub record Deniable (out action specifier : List ℕ) : Type 0 where
   pub specifier_short : length specifier ≤ 1024
 
 -- the number of a status is that of a parameter that a table may have
-abbrev pub StatusNumbered : Status → Type 0
-StatusNumbered Stays = Unit {0}
-StatusNumbered (Busy k h) = k < 64
+abbrev pub StatusNumbered : Option (ℕ × ℕ) → Type 0
+StatusNumbered None = Unit {0}
+StatusNumbered (Some (k, h)) = k < 64
 
 -- what an outcome asks for: an error, that it can be answered; a stored value, numbers of parameters and a length that it may have
 abbrev pub Concludable : List ℕ → List ℕ → List ℕ → Outcome → Type 0
@@ -60,7 +58,7 @@ module _ (before after : List ℕ) (s : Bare) (c t : ℕ) (r : Answered) where
     pub counts : r.state.counts ≡ s.counts
 
   -- after a status parameter k has a stored value of so many bytes, from this time on
-  pub record Sets (first : Status) (k size written : ℕ) : Type 0 where
+  pub record Sets (first : Option (ℕ × ℕ)) (k size written : ℕ) : Type 0 where
     pub keeps : Keeps written
     pub clients : r.state.clients ≡ s.clients
     pub settings : r.state.settings ≡ with_length (settings_with s.settings (status_settings first t)) k size t

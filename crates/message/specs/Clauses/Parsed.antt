@@ -1,6 +1,5 @@
 -- What the code that takes a line apart answers: a part of a line stands for the bytes between its positions. Assumes nothing.
-use Rattle.std.specs.Prelude.{ℕ, ◌≤◌, ◌+◌, ◌-◌, ◌<◌, ◌≡◌, cond, not, List, [], eqb, length, take, drop}
-use Rattle.std.proofs.Math.Option.{Option, none, some}
+use Rattle.std.specs.Prelude.{ℕ, ◌≤◌, ◌+◌, ◌-◌, ◌<◌, ◌≡◌, cond, not, List, [], eqb, length, take, drop, Option, Some, None}
 use Rattle.ascii.specs.Text.{bytes}
 use Rattle.ascii.specs.Bytes.{take_while, drop_while, tail, same}
 use Rattle.message.specs.Line.{Parts, content, whole, after_space, parts_of}
@@ -71,7 +70,7 @@ pub record Cuts (xs : List ℕ) (p : Part) (stop : ℕ) (r : Cut) : Type 0 where
 -- the three parts of a line that has content: the action begins with it, the specifier after the first space and the data after the second,
 -- or where the content ends
 pub record Parted (xs : List ℕ) (action specifier payload : Part) : Type 0 where
-  pub some : 0 < length (content (whole xs))
+  pub Some : 0 < length (content (whole xs))
   pub action_is : part xs action ≡ (parts_of (content (whole xs))).action
   pub specifier_is : part xs specifier ≡ (parts_of (content (whole xs))).specifier
   pub payload_is : part xs payload ≡ (parts_of (content (whole xs))).payload
@@ -120,8 +119,8 @@ abbrev pub meaning : List ℕ → List ℕ → List ℕ → Request → R.Reques
 meaning xs s x Q.Identify = R.identify
 meaning xs s x Q.Describe = R.describe
 meaning xs s x Q.Ping = R.ping s
-meaning xs s x (Q.All v) = switch_request v none
-meaning xs s x (Q.Scoped v m) = switch_request v (some (part xs m))
+meaning xs s x (Q.All v) = switch_request v None
+meaning xs s x (Q.Scoped v m) = switch_request v (Some (part xs m))
 meaning xs s x (Q.Named v m a) = verb_request v (or_null x) (part xs m) (part xs a)
 meaning xs s x Q.Count = R.count
 meaning xs s x Q.Malformed = R.malformed

@@ -1,6 +1,5 @@
 -- What the code that writes lines is given, as the definitions have it. Assumes nothing.
-use Rattle.std.specs.Prelude.{ℕ, List, ◌++◌}
-use Rattle.std.proofs.Math.Option.{Option, none, some}
+use Rattle.std.specs.Prelude.{ℕ, List, ◌++◌, Option, Some, None}
 use Rattle.ascii.specs.Text.{bytes}
 use Rattle.message.specs.Error as Error
 use Rattle.message.specs.Error.{fault_name}
@@ -36,8 +35,8 @@ denial_of (Denial.Fault f t) = Error.fault (fault_as f) t
 
 -- why a parameter can't be read, unless it can
 abbrev pub sensor_fault : Sensor → Option Error.Fault
-sensor_fault Works = none
-sensor_fault (Fails f) = some (fault_as f)
+sensor_fault Works = None
+sensor_fault (Fails f) = Some (fault_as f)
 
 -- the text of a value, unless it can't be read
 abbrev pub held_by : Sensor → List ℕ → Held

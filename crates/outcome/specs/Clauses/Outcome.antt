@@ -1,7 +1,5 @@
 -- What the code's outcome of a request stands for: the plain node's, with what was written and what was stored. Assumes nothing.
-use Rattle.std.specs.Prelude.{ℕ, true, false, List, [], ◌∷◌, ◌++◌, ◌≡◌, length}
-use Rattle.std.proofs.Math.Option.{some}
-use Rattle.std.proofs.Math.ListN.{get_elem?}
+use Rattle.std.specs.Prelude.{ℕ, true, false, List, [], ◌∷◌, ◌++◌, ◌≡◌, length, Option, Some, None, slice_get}
 use Rattle.ascii.specs.Clauses.Writer.{Puts}
 use Rattle.fit.specs.Fit.{is_stored}
 use Rattle.table.specs.Table.{Parameter, Command, Table}
@@ -20,29 +18,27 @@ use Rattle.state.specs.declared.State.{State}
 use Rattle.state.specs.View.{bit, view, area_with, settings_with}
 use Rattle.state.specs.Fit.{is_unfit, past_last}
 use Rattle.state.specs.Clauses.Bare.{unlined, brief_masks}
-use Rattle.outcome.specs.declared.Status.{Status}
-use Rattle.outcome.specs.declared.Status.TheVariants.{Stays, Busy}
 use Rattle.outcome.specs.declared.Outcome.{Outcome}
 use Rattle.outcome.specs.declared.Outcome.TheVariants.{Denied, Unreadable, Sent, Active, Stored}
 use Rattle.outcome.specs.declared.Answered.{Answered}
 
 -- what is set of a status at a time, and then of the parameter of number p
-abbrev pub status_settings : Status → ℕ → List Setting
-status_settings Stays t = []
-status_settings (Busy k h) t = record { parameter = k; held = valued busy; time = t } ∷ []
+abbrev pub status_settings : Option (ℕ × ℕ) → ℕ → List Setting
+status_settings None t = []
+status_settings (Some (k, h)) t = record { parameter = k; held = valued busy; time = t } ∷ []
 
-abbrev pub stored_by : Status → ℕ → List ℕ → ℕ → List Setting
+abbrev pub stored_by : Option (ℕ × ℕ) → ℕ → List ℕ → ℕ → List Setting
 stored_by first p text t = status_settings first t ++ (record { parameter = p; held = valued text; time = t } ∷ [])
 
 -- the parameter of number p is there, and a text is in stored form and fits it
 pub record Holds (w : Table) (p : ℕ) (text : List ℕ) : Type 0 where
   pub parameter : Placed Parameter
-  pub there : get_elem? (parameters w) p ≡ some parameter
+  pub there : slice_get (parameters w) p ≡ Some parameter
   pub fits : is_stored parameter.it.datainfo text ≡ true
 
-abbrev pub StatusHolds : Table → Status → Type 0
-StatusHolds w Stays = Unit {0}
-StatusHolds w (Busy k h) = Holds w k busy
+abbrev pub StatusHolds : Table → Option (ℕ × ℕ) → Type 0
+StatusHolds w None = Unit {0}
+StatusHolds w (Some (k, h)) = Holds w k busy
 
 -- On the table w, at the plain node n, for client c at the time t: the outbox held `before` and holds `after`, the values area held `values` and
 -- holds `stored`.
@@ -72,7 +68,7 @@ module _ (w : Table) (n : Node) (c t : ℕ) (before after values stored : List �
     pub low : past_last mask (length w.modules) ≡ false
 
   -- after a status the parameter of number p has a value of so many bytes that fits it
-  pub record Stores (o : Plain.Outcome) (first : Status) (p size written : ℕ) : Type 0 where
+  pub record Stores (o : Plain.Outcome) (first : Option (ℕ × ℕ)) (p size written : ℕ) : Type 0 where
     pub text : List ℕ
     pub status : StatusHolds w first
     pub holds : Holds w p text
@@ -107,13 +103,13 @@ ComesAtAny table before c t r after q = (n : Node) (values : List ℕ)
 -- what f makes of the parameter a of the module m
 abbrev pub OfParameter : List ℕ → State → List ℕ → List ℕ → ℕ → ℕ → Outcome → List ℕ → List ℕ → List ℕ → List ℕ
     → (Table → Node → ℕ → ℕ → ℕ × Placed Parameter → Plain.Outcome) → Type 0
-OfParameter table s values before c t r stored after m a f = (x : ℕ × Placed Parameter) → find_parameter (table_of table) m a ≡ some x
+OfParameter table s values before c t r stored after m a f = (x : ℕ × Placed Parameter) → find_parameter (table_of table) m a ≡ Some x
     → ComesTo table s values before c t r stored after (λ w n c t. f w n c t x)
 
 -- what f makes of the command a of the module m, at any node
 abbrev pub OfCommand : List ℕ → List ℕ → ℕ → ℕ → Outcome → List ℕ → List ℕ → List ℕ
     → (Table → Node → ℕ → ℕ → ℕ × Placed Command → Plain.Outcome) → Type 0
-OfCommand table before c t r after m a f = (n : Node) (values : List ℕ) (x : ℕ × Placed Command) → find_command (table_of table) m a ≡ some x
+OfCommand table before c t r after m a f = (n : Node) (values : List ℕ) (x : ℕ × Placed Command) → find_command (table_of table) m a ≡ Some x
     → OutcomeIs (table_of table) n c t before after values values r (f (table_of table) n c t x)
 
 -- A line is answered as the plain node has it, o, which sets ss: on the table's bytes, from the state without its lines, the values area and the outbox

@@ -1,6 +1,5 @@
 -- What a replay's struct stands for. Assumes nothing.
-use Rattle.std.specs.Prelude.{ℕ, ◌+◌, ◌*◌, ◌≤◌, cond, List, eqb, get_or, set, take, drop}
-use Rattle.std.proofs.Math.Option.{Option, none, some}
+use Rattle.std.specs.Prelude.{ℕ, ◌+◌, ◌*◌, ◌≤◌, cond, List, eqb, get_or, set, take, drop, Option, Some, None}
 use Rattle.figures.specs.Clauses.Tally.{Bounded}
 use Rattle.trace.specs.declared.Head.{Head}
 use Rattle.trace.specs.Trace.{Entry}
@@ -17,7 +16,7 @@ offered_in r = take r.left.size (drop r.at r.reader.held)
 
 -- what is left to be offered
 unfoldable pub pending_of : Replay → Option Entry
-pending_of r = cond (eqb r.left.size 0) none (some (entry_of r.left (offered_in r)))
+pending_of r = cond (eqb r.left.size 0) None (Some (entry_of r.left (offered_in r)))
 
 -- counts after a call that answered this number; 0 is no refusal
 unfoldable pub counted : List ℕ → ℕ → List ℕ

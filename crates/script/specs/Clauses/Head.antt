@@ -1,13 +1,12 @@
 -- What the head of an operation says. Assumes nothing.
-use Rattle.std.specs.Prelude.{ℕ, List, ◌⊎◌, ◌≡◌, get_or, drop}
-use Rattle.std.proofs.Math.Option.{Option, none, some}
+use Rattle.std.specs.Prelude.{ℕ, List, ◌⊎◌, ◌≡◌, get_or, drop, Option, Some, None}
 use Rattle.ascii.specs.Numbers.{unsigned}
 use Rattle.script.specs.declared.operation.Operation.{Operation}
 
 -- what was read, 0 if nothing
 abbrev pub or_zero : Option (ℕ × List ℕ) → ℕ
-or_zero none = 0
-or_zero (some p) = p.0
+or_zero None = 0
+or_zero (Some p) = p.0
 
 -- the number of the k bytes at a place
 abbrev pub number_at : List ℕ → ℕ → ℕ → ℕ

@@ -1,6 +1,5 @@
 -- What is left of a table's accessibles at a cursor, and what the code that walks over them answers. Assumes nothing.
-use Rattle.std.specs.Prelude.{ℕ, ◌-◌, ◌≤◌, ◌<◌, ◌≡◌, Bool, false, cond, List, [], ◌∷◌, ◌++◌, map, eqb, length, drop}
-use Rattle.std.proofs.Math.Option.{Option, some}
+use Rattle.std.specs.Prelude.{ℕ, ◌-◌, ◌≤◌, ◌<◌, ◌≡◌, Bool, false, cond, List, [], ◌∷◌, ◌++◌, map, eqb, length, drop, Option, Some, None}
 use Rattle.ascii.specs.Text.{bytes}
 use Rattle.ascii.specs.Bytes.{◌>>=◌, after}
 use Rattle.ascii.specs.Numbers.{unsigned}
@@ -16,10 +15,8 @@ use Rattle.table.specs.declared.layout.ParameterAt.{ParameterAt}
 use Rattle.table.specs.declared.layout.CommandAt.{CommandAt}
 use Rattle.search.specs.declared.cursor.Cursor.{Cursor}
 use Rattle.search.specs.declared.cursor.Record as R
-use Rattle.search.specs.declared.cursor.One as O
-use Rattle.search.specs.declared.cursor.NextAccessible as N
-use Rattle.search.specs.declared.cursor.NextParameter as P
-use Rattle.search.specs.declared.cursor.NextCommand as C
+use Rattle.table.specs.declared.layout.Accessible as O
+use Rattle.table.specs.declared.layout.Accessible.{Accessible}
 
 -- ## What is left
 
@@ -29,7 +26,7 @@ follows s c = cond (eqb c.modules 0) false (accessible_begins (drop c.at s))
 
 -- the latest module's accessibles that are left
 unfoldable pub accessibles_left : List ℕ → Cursor → Option (List Table.Accessible × List ℕ)
-accessibles_left s c = cond (eqb c.modules 0) (some ([], drop c.at s)) (accessibles_from s c.at)
+accessibles_left s c = cond (eqb c.modules 0) (Some ([], drop c.at s)) (accessibles_from s c.at)
 
 -- an accessible of the latest module
 abbrev pub placed : {A : Type 0} → List ℕ → Cursor → A → Placed A
@@ -40,7 +37,7 @@ unfoldable pub left_from : {A : Type 0} → (List Table.Accessible → List A) �
 left_from of s c = do
   (xs, r) ← accessibles_left s c
   (ms, e) ← modules_at (length s) (length r) r
-  some (map (placed s c) (of xs) ++ placed_from of c.modules ms)
+  Some (map (placed s c) (of xs) ++ placed_from of c.modules ms)
 
 -- a module's parameters and commands alike
 abbrev pub accessibles_of : List Table.Accessible → List Table.Accessible
@@ -59,8 +56,8 @@ pub record Fits (s : List ℕ) (c : Cursor) : Type 0 where
 pub record HomeIs (s : List ℕ) (n : ℕ) (p : Part) : Type 0 where
   pub begin : ℕ
   pub left : List ℕ
-  pub reads : modules_from s begin ≡ some (drop n (table_of s).modules, left)
-  pub end : after (bytes "EN") left ≡ some []
+  pub reads : modules_from s begin ≡ Some (drop n (table_of s).modules, left)
+  pub end : after (bytes "EN") left ≡ Some []
   pub it : ModuleAt
   pub heading : ModuleIs s it (heading_at (drop begin s))
   pub name : it.name ≡ p
@@ -72,9 +69,9 @@ pub record OnWay (s : List ℕ) (c : Cursor) : Type 0 where
   pub own : List Table.Accessible
   pub rest : List ℕ
   pub left : List ℕ
-  pub reads : accessibles_left s c ≡ some (own, rest)
-  pub follow : modules_at (length s) (length rest) rest ≡ some (drop c.modules (table_of s).modules, left)
-  pub end : after (bytes "EN") left ≡ some []
+  pub reads : accessibles_left s c ≡ Some (own, rest)
+  pub follow : modules_at (length s) (length rest) rest ≡ Some (drop c.modules (table_of s).modules, left)
+  pub end : after (bytes "EN") left ≡ Some []
   pub home : 0 < c.modules → HomeIs s (c.modules - 1) c.name
 
 -- the walk comes to e after c, in a module
@@ -87,26 +84,26 @@ pub record After (s : List ℕ) (c e : Cursor) : Type 0 where
 pub record ParameterIn (s : List ℕ) (q : ParameterAt) : Type 0 where
   pub datainfo : Datainfo
   pub left : List ℕ
-  pub info : datainfo_at (drop q.info s) ≡ some (datainfo, left)
+  pub info : datainfo_at (drop q.info s) ≡ Some (datainfo, left)
   pub name : Inside s q.name
   pub description : Inside s q.description
   pub initial : Inside s q.initial
   pub info_within : q.info ≤ length s
-  pub between : unsigned 1 (drop q.name.to s) ≡ some (q.description.to - q.description.from, drop q.description.from s)
-  pub flagged : flag (drop q.description.to s) ≡ some (q.readonly, drop q.info s)
-  pub size : unsigned 2 left ≡ some (q.initial.to - q.initial.from, drop q.initial.from s)
+  pub between : unsigned 1 (drop q.name.to s) ≡ Some (q.description.to - q.description.from, drop q.description.from s)
+  pub flagged : flag (drop q.description.to s) ≡ Some (q.readonly, drop q.info s)
+  pub size : unsigned 2 left ≡ Some (q.initial.to - q.initial.from, drop q.initial.from s)
   pub end : q.next ≡ q.initial.to
 
 -- the parts of a command lie in s, and so does its argument's datainfo; `between` and `flagged` are what stands between the parts
 pub record CommandIn (s : List ℕ) (q : CommandAt) : Type 0 where
   pub argument : Option Datainfo
   pub left : List ℕ
-  pub info : argument_at q.argument (drop q.info s) ≡ some (argument, left)
+  pub info : argument_at q.argument (drop q.info s) ≡ Some (argument, left)
   pub name : Inside s q.name
   pub description : Inside s q.description
   pub info_within : q.info ≤ length s
-  pub between : unsigned 1 (drop q.name.to s) ≡ some (q.description.to - q.description.from, drop q.description.from s)
-  pub flagged : flag (drop q.description.to s) ≡ some (q.argument, drop q.info s)
+  pub between : unsigned 1 (drop q.name.to s) ≡ Some (q.description.to - q.description.from, drop q.description.from s)
+  pub flagged : flag (drop q.description.to s) ≡ Some (q.argument, drop q.info s)
   pub end : left ≡ drop q.next s
   pub next_within : q.next ≤ length s
 
@@ -115,8 +112,8 @@ pub record CommandIn (s : List ℕ) (q : CommandAt) : Type 0 where
 -- a, of the module of e, is the first of those left at c, and the others are left at e
 pub record FirstIs {A : Type 0} (of : List Table.Accessible → List A) (s : List ℕ) (c e : Cursor) (a : A) : Type 0 where
   pub others : List (Placed A)
-  pub is : left_from of s c ≡ some (placed s e a ∷ others)
-  pub left : left_from of s e ≡ some others
+  pub is : left_from of s c ≡ Some (placed s e a ∷ others)
+  pub left : left_from of s e ≡ Some others
 
 module _ {A : Type 0} (of : List Table.Accessible → List A) (s : List ℕ) (c : Cursor) where
   -- what is left at c is left at e
@@ -125,7 +122,7 @@ module _ {A : Type 0} (of : List Table.Accessible → List A) (s : List ℕ) (c 
 
   -- nothing is left at c
   abbrev pub Ended : Type 0
-  Ended = left_from of s c ≡ some []
+  Ended = left_from of s c ≡ Some []
 
 module _ {A : Type 0} (of : List Table.Accessible → List A) (as_one : Table.Parameter → A) (s : List ℕ) (c : Cursor) (q : ParameterAt) (e : Cursor) where
   -- the parameter of which q has the positions is the first of what is left at c, and e is the cursor after it
@@ -151,11 +148,11 @@ pub record ModuleFirst (s : List ℕ) (c e : Cursor) : Type 0 where
 -- c is straight after the table's head, and all of the table is left there
 pub record FirstCursor (s : List ℕ) (c : Cursor) : Type 0 where
   pub way : OnWay s c
-  pub head : head_at s ≡ some (Table.with_modules (table_of s) [], drop c.at s)
+  pub head : head_at s ≡ Some (Table.with_modules (table_of s) [], drop c.at s)
   pub modules : c.modules ≡ 0
   pub unnamed : (c.name.from ≡ c.at) × (c.name.to ≡ c.at)
-  pub parameters : left_from parameters_of s c ≡ some (parameters (table_of s))
-  pub commands : left_from commands_of s c ≡ some (commands (table_of s))
+  pub parameters : left_from parameters_of s c ≡ Some (parameters (table_of s))
+  pub commands : left_from commands_of s c ≡ Some (commands (table_of s))
 
 -- the next record from c on
 abbrev pub RecordIs : List ℕ → Cursor → R.Record → Type 0
@@ -165,26 +162,26 @@ RecordIs s c (R.TheVariants.Module e) = ModuleFirst s c e
 RecordIs s c R.TheVariants.End = Ended accessibles_of s c
 
 -- where the name of an accessible lies
-abbrev pub name_of : O.One → Part
+abbrev pub name_of : O.Accessible → Part
 name_of (O.TheVariants.Parameter q) = q.name
 name_of (O.TheVariants.Command q) = q.name
 
 -- the accessible a is the first of what is left at c, and e is the cursor after it
-abbrev pub OneFirst : List ℕ → Cursor → O.One → Cursor → Type 0
+abbrev pub OneFirst : List ℕ → Cursor → O.Accessible → Cursor → Type 0
 OneFirst s c (O.TheVariants.Parameter q) e = ParameterFirst accessibles_of Table.parameter s c q e
 OneFirst s c (O.TheVariants.Command q) e = CommandFirst accessibles_of Table.command s c q e
 
 -- the next accessible from c on
-abbrev pub NextAccessibleIs : List ℕ → Cursor → N.NextAccessible → Type 0
-NextAccessibleIs s c (N.TheVariants.At a e) = OneFirst s c a e
-NextAccessibleIs s c N.TheVariants.End = Ended accessibles_of s c
+abbrev pub NextAccessibleIs : List ℕ → Cursor → Option (Accessible × Cursor) → Type 0
+NextAccessibleIs s c (Some (a, e)) = OneFirst s c a e
+NextAccessibleIs s c None = Ended accessibles_of s c
 
 -- the next parameter from c on
-abbrev pub NextParameterIs : List ℕ → Cursor → P.NextParameter → Type 0
-NextParameterIs s c (P.TheVariants.At q e) = ParameterFirst parameters_of (λ p. p) s c q e
-NextParameterIs s c P.TheVariants.End = Ended parameters_of s c
+abbrev pub NextParameterIs : List ℕ → Cursor → Option (ParameterAt × Cursor) → Type 0
+NextParameterIs s c (Some (q, e)) = ParameterFirst parameters_of (λ p. p) s c q e
+NextParameterIs s c None = Ended parameters_of s c
 
 -- the next command from c on
-abbrev pub NextCommandIs : List ℕ → Cursor → C.NextCommand → Type 0
-NextCommandIs s c (C.TheVariants.At q e) = CommandFirst commands_of (λ p. p) s c q e
-NextCommandIs s c C.TheVariants.End = Ended commands_of s c
+abbrev pub NextCommandIs : List ℕ → Cursor → Option (CommandAt × Cursor) → Type 0
+NextCommandIs s c (Some (q, e)) = CommandFirst commands_of (λ p. p) s c q e
+NextCommandIs s c None = Ended commands_of s c

@@ -35,7 +35,7 @@ loop-k-preserved c = let at = c.loop-k in
     let on = sent_on c.args.table.now c.args.state.settings c.args.values.now c.args.out.now
     c.loop-k.k c.loop-k.cursor c.loop-k.out c.loop-k.end c.loop-k.invariant.1
     c.next_parameter.result c.next_parameter.ensures in
-    (omega arith, on c.in-At.p c.in-At.next (search rules) c.requires.accepted _ _ c.put_shown-end.ensures)
+    (omega arith, on c.in-Some.p c.in-Some.next (search rules) c.requires.accepted _ _ c.put_shown-end.ensures)
 
 pub shape_of-out : goal.shape_of-out
 shape_of-out c = search sent_length

@@ -1,7 +1,7 @@
 -- `switch::activate` meets its contract. Assumes nothing.
+use Rattle.std.specs.Prelude.{Some}
 use lib.Dec.{eqb}
 use mathlib.Core.List.{[]}
-use mathlib.Core.Option.{some}
 use Rattle.state.specs.Clauses.Bare.{unlined}
 use Rattle.state.proofs.Becomes.{brief_sized}
 use Rattle.switch.proofs.Switches.{few, active_room, activated_one}
@@ -16,7 +16,7 @@ put_updates_of-told-requires c = c.requires.0
 
 pub put_final_switched_name-end-requires : goal.put_final_switched_name-end-requires
 put_final_switched_name-end-requires c = let z = brief_sized c.args.state.clients c.well_formed.1.1.1.0.1.1.0 [] in
-    active_room _ (unlined c.args.state) z _ _ _ c.requires.0 (λ j. eqb j _) (some _) c.requires.1.named _ _ c.put_updates_of-told.ensures
+    active_room _ (unlined c.args.state) z _ _ _ c.requires.0 (λ j. eqb j _) (Some _) c.requires.1.named _ _ c.put_updates_of-told.ensures
 
 pub returns : goal.returns
 returns c = let z = brief_sized c.args.state.clients c.well_formed.1.1.1.0.1.1.0 [] in

@@ -1,7 +1,7 @@
 -- `switch::activate_all` meets its contract. Assumes nothing.
+use Rattle.std.specs.Prelude.{None}
 use mathlib.Core.Bool.{true}
 use mathlib.Core.List.{[]}
-use mathlib.Core.Option.{none}
 use borrow.Author.Rules.{rules}
 use Rattle.fitness.proofs.Unfits.{few_counted}
 use Rattle.report.proofs.Faults.{accepted_readable}
@@ -21,7 +21,7 @@ put_updates_of-told-requires c = c.requires
 
 pub put_final_switched-end-requires : goal.put_final_switched-end-requires
 put_final_switched-end-requires c = let z = brief_sized c.args.state.clients c.well_formed.1.1.1.0.1.1.0 [] in
-    active_room _ (unlined c.args.state) z _ _ _ c.requires (λ i. true) none tt _ _ c.put_updates_of-told.ensures
+    active_room _ (unlined c.args.state) z _ _ _ c.requires (λ i. true) None tt _ _ c.put_updates_of-told.ensures
 
 pub returns : goal.returns
 returns c = let z = brief_sized c.args.state.clients c.well_formed.1.1.1.0.1.1.0 [] in

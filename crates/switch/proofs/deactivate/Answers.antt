@@ -1,5 +1,5 @@
 -- `switch::deactivate` meets its contract. Assumes nothing.
-use mathlib.Core.Option.{some}
+use Rattle.std.specs.Prelude.{Some}
 use Rattle.switch.proofs.Switches.{inactive_room, one_inactive}
 use borrow.Author.Rules.{rules}
 use Rattle.switch.proofs.deactivate.Goals as goal
@@ -8,7 +8,7 @@ pub without_bit-fewer-requires : goal.without_bit-fewer-requires
 without_bit-fewer-requires c = c.requires.1.low
 
 pub put_final_switched_name-end-requires : goal.put_final_switched_name-end-requires
-put_final_switched_name-end-requires c = inactive_room _ _ (some _) c.requires.1.named c.requires.0
+put_final_switched_name-end-requires c = inactive_room _ _ (Some _) c.requires.1.named c.requires.0
 
 pub returns : goal.returns
 returns c = λ w n t values low h.

@@ -1,6 +1,5 @@
 -- What the code that reads records answers: positions of the table's bytes, and what they stand for. Assumes nothing.
-use Rattle.std.specs.Prelude.{ℕ, ◌-◌, ◌≤◌, ◌≡◌, Bool, false, cond, ◌||◌, List, [], length, take, drop}
-use Rattle.std.proofs.Math.Option.{Option, none, some}
+use Rattle.std.specs.Prelude.{ℕ, ◌-◌, ◌≤◌, ◌≡◌, Bool, false, cond, ◌||◌, List, [], length, take, drop, Option, Some, None}
 use Rattle.ascii.specs.Text.{bytes}
 use Rattle.ascii.specs.Bytes.{◌>>=◌, after, part}
 use Rattle.ascii.specs.Numbers.{unsigned}
@@ -9,18 +8,11 @@ use Rattle.datainfo.specs.Layout.{counted, datainfo_at}
 use Rattle.table.specs.Table as Table
 use Rattle.table.specs.Layout.{begins, flag, argument_at, parameter_at, command_at, accessibles_at, marked_at, note_at, modules_at, head_at, table_of}
 use Rattle.table.specs.declared.layout.Part.{Part}
-use Rattle.table.specs.declared.layout.Bytes as B
-use Rattle.table.specs.declared.layout.Texts as T
-use Rattle.table.specs.declared.layout.Flag as F
 use Rattle.table.specs.declared.layout.ParameterAt.{ParameterAt}
 use Rattle.table.specs.declared.layout.CommandAt.{CommandAt}
 use Rattle.table.specs.declared.layout.Accessible as A
 use Rattle.table.specs.declared.layout.ModuleAt.{ModuleAt}
-use Rattle.table.specs.declared.layout.Marked as N
-use Rattle.table.specs.declared.layout.Heading as H
 use Rattle.table.specs.declared.layout.HeadAt.{HeadAt}
-use Rattle.table.specs.declared.layout.Head as Head
-use Rattle.table.specs.declared.edition.Edition as E
 
 -- the bytes of a part
 unfoldable pub bytes_of : List ℕ → Part → List ℕ
@@ -33,13 +25,13 @@ pub record Inside (s : List ℕ) (p : Part) : Type 0 where
 
 -- a length of k bytes and as many bytes, which are the part p
 pub record SizedIs (s : List ℕ) (at k : ℕ) (p : Part) : Type 0 where
-  pub size : unsigned k (drop at s) ≡ some (p.to - p.from, drop p.from s)
-  pub held : part (p.to - p.from) (drop p.from s) ≡ some (bytes_of s p, drop p.to s)
+  pub size : unsigned k (drop at s) ≡ Some (p.to - p.from, drop p.from s)
+  pub held : part (p.to - p.from) (drop p.from s) ≡ Some (bytes_of s p, drop p.to s)
   pub inside : Inside s p
 
-abbrev pub Sized : List ℕ → ℕ → ℕ → B.Bytes → Type 0
-Sized s at k (B.TheVariants.At p) = SizedIs s at k p
-Sized s at k B.TheVariants.Bad = (unsigned k (drop at s) >>= λ p. part p.0 p.1) ≡ none
+abbrev pub Sized : List ℕ → ℕ → ℕ → Option Part → Type 0
+Sized s at k (Some p) = SizedIs s at k p
+Sized s at k None = (unsigned k (drop at s) >>= λ p. part p.0 p.1) ≡ None
 
 -- a mark m, a name or an equipment id, and a description
 unfoldable pub texts_at : List ℕ → List ℕ → Option ((List ℕ × List ℕ) × List ℕ)
@@ -47,22 +39,22 @@ texts_at m xs = do
   a ← after m xs
   (name, b) ← counted a
   (text, c) ← counted b
-  some ((name, text), c)
+  Some ((name, text), c)
 
 -- o is the texts p and q; `between` is the second one's length byte
 pub record TextsAre (s : List ℕ) (p q : Part) (o : Option ((List ℕ × List ℕ) × List ℕ)) : Type 0 where
-  pub is : o ≡ some ((bytes_of s p, bytes_of s q), drop q.to s)
-  pub between : unsigned 1 (drop p.to s) ≡ some (q.to - q.from, drop q.from s)
+  pub is : o ≡ Some ((bytes_of s p, bytes_of s q), drop q.to s)
+  pub between : unsigned 1 (drop p.to s) ≡ Some (q.to - q.from, drop q.from s)
   pub name : Inside s p
   pub description : Inside s q
 
-abbrev pub TextsAt : List ℕ → T.Texts → Option ((List ℕ × List ℕ) × List ℕ) → Type 0
-TextsAt s (T.TheVariants.At p q) o = TextsAre s p q o
-TextsAt s T.TheVariants.Bad o = o ≡ none
+abbrev pub TextsAt : List ℕ → Option (Part × Part) → Option ((List ℕ × List ℕ) × List ℕ) → Type 0
+TextsAt s (Some (p, q)) o = TextsAre s p q o
+TextsAt s None o = o ≡ None
 
-abbrev pub FlagIs : List ℕ → F.Flag → Option (Bool × List ℕ) → Type 0
-FlagIs s (F.TheVariants.Is b p) o = (o ≡ some (b, drop p s)) × (p ≤ length s)
-FlagIs s F.TheVariants.Bad o = o ≡ none
+abbrev pub FlagIs : List ℕ → Option (Bool × ℕ) → Option (Bool × List ℕ) → Type 0
+FlagIs s (Some (b, p)) o = (o ≡ Some (b, drop p s)) × (p ≤ length s)
+FlagIs s None o = o ≡ None
 
 -- ## Accessibles
 
@@ -94,16 +86,16 @@ parameter_of s q d =
 pub record ParameterIs (s : List ℕ) (q : ParameterAt) (o : Option (Table.Accessible × List ℕ)) : Type 0 where
   pub datainfo : Datainfo
   pub left : List ℕ
-  pub is : o ≡ some (Table.parameter (parameter_of s q datainfo), drop q.next s)
-  pub info : datainfo_at (drop q.info s) ≡ some (datainfo, left)
+  pub is : o ≡ Some (Table.parameter (parameter_of s q datainfo), drop q.next s)
+  pub info : datainfo_at (drop q.info s) ≡ Some (datainfo, left)
   pub name : Inside s q.name
   pub description : Inside s q.description
   pub initial : Inside s q.initial
   pub info_within : q.info ≤ length s
   pub next_within : q.next ≤ length s
-  pub between : unsigned 1 (drop q.name.to s) ≡ some (q.description.to - q.description.from, drop q.description.from s)
-  pub flagged : flag (drop q.description.to s) ≡ some (q.readonly, drop q.info s)
-  pub size : unsigned 2 left ≡ some (q.initial.to - q.initial.from, drop q.initial.from s)
+  pub between : unsigned 1 (drop q.name.to s) ≡ Some (q.description.to - q.description.from, drop q.description.from s)
+  pub flagged : flag (drop q.description.to s) ≡ Some (q.readonly, drop q.info s)
+  pub size : unsigned 2 left ≡ Some (q.initial.to - q.initial.from, drop q.initial.from s)
   pub end : q.next ≡ q.initial.to
 
 -- the command of which q has the positions, and a is the argument
@@ -115,42 +107,42 @@ pub record ArgumentReadable (s : List ℕ) (declared : Bool) (at : ℕ) : Type 0
   pub within : at ≤ length s
   pub argument : Option Datainfo
   pub left : List ℕ
-  pub is : argument_at declared (drop at s) ≡ some (argument, left)
+  pub is : argument_at declared (drop at s) ≡ Some (argument, left)
 
 -- o is the command of which q has the positions; `between` and `flagged` are what stands between its parts
 pub record CommandIs (s : List ℕ) (q : CommandAt) (o : Option (Table.Accessible × List ℕ)) : Type 0 where
   pub argument : Option Datainfo
-  pub is : o ≡ some (Table.command (command_of s q argument), drop q.next s)
-  pub info : argument_at q.argument (drop q.info s) ≡ some (argument, drop q.next s)
+  pub is : o ≡ Some (Table.command (command_of s q argument), drop q.next s)
+  pub info : argument_at q.argument (drop q.info s) ≡ Some (argument, drop q.next s)
   pub name : Inside s q.name
   pub description : Inside s q.description
   pub info_within : q.info ≤ length s
   pub next_within : q.next ≤ length s
-  pub between : unsigned 1 (drop q.name.to s) ≡ some (q.description.to - q.description.from, drop q.description.from s)
-  pub flagged : flag (drop q.description.to s) ≡ some (q.argument, drop q.info s)
+  pub between : unsigned 1 (drop q.name.to s) ≡ Some (q.description.to - q.description.from, drop q.description.from s)
+  pub flagged : flag (drop q.description.to s) ≡ Some (q.argument, drop q.info s)
 
 -- the answer of a reader of s that reads the accessible o
-abbrev pub AccessibleIs : List ℕ → A.Accessible → Option (Table.Accessible × List ℕ) → Type 0
-AccessibleIs s (A.TheVariants.Parameter q) o = ParameterIs s q o
-AccessibleIs s (A.TheVariants.Command q) o = CommandIs s q o
-AccessibleIs s A.TheVariants.Bad o = o ≡ none
+abbrev pub AccessibleIs : List ℕ → Option A.Accessible → Option (Table.Accessible × List ℕ) → Type 0
+AccessibleIs s (Some (A.TheVariants.Parameter q)) o = ParameterIs s q o
+AccessibleIs s (Some (A.TheVariants.Command q)) o = CommandIs s q o
+AccessibleIs s None o = o ≡ None
 
 -- ## A text after a mark
 
 -- the text of a part, where it is there
 abbrev pub text_if : List ℕ → Bool → Part → Option (List ℕ)
-text_if s there p = cond there (some (bytes_of s p)) none
+text_if s there p = cond there (Some (bytes_of s p)) None
 
 -- such a text is the part p, where it is there; an empty part where it is not
 pub record MarkedRead (s mark : List ℕ) (at : ℕ) (there : Bool) (p : Part) : Type 0 where
-  pub is : marked_at mark (drop at s) ≡ some (text_if s there p, drop p.to s)
+  pub is : marked_at mark (drop at s) ≡ Some (text_if s there p, drop p.to s)
   pub inside : Inside s p
   pub none : there ≡ false → p.from ≡ p.to
 
 -- the answer of a reader of a note or an edition
-abbrev pub MarkedIs : List ℕ → List ℕ → ℕ → N.Marked → Type 0
-MarkedIs s mark at (N.TheVariants.Read there p) = MarkedRead s mark at there p
-MarkedIs s mark at N.TheVariants.Bad = marked_at mark (drop at s) ≡ none
+abbrev pub MarkedIs : List ℕ → List ℕ → ℕ → Option (Bool × Part) → Type 0
+MarkedIs s mark at (Some (there, p)) = MarkedRead s mark at there p
+MarkedIs s mark at None = marked_at mark (drop at s) ≡ None
 
 -- ## Modules
 
@@ -159,7 +151,7 @@ unfoldable pub heading_at : List ℕ → Option (Table.Module × List ℕ)
 heading_at xs = do
   (t, c) ← texts_at (bytes "MO") xs
   (note, d) ← note_at c
-  some (record { name = t.0; description = t.1; note = note; accessibles = [] }, d)
+  Some (record { name = t.0; description = t.1; note = note; accessibles = [] }, d)
 
 -- the module of which q has the positions, with no accessibles yet
 unfoldable pub module_of : List ℕ → ModuleAt → Table.Module
@@ -167,26 +159,26 @@ module_of s q =
     record {
       name = bytes_of s q.name;
       description = bytes_of s q.description;
-      note = cond q.noted (some (bytes_of s q.note)) none;
+      note = cond q.noted (Some (bytes_of s q.note)) None;
       accessibles = [];
     }
 
 -- o is the module of which q has the positions, with no accessibles yet; `between` is the description's length byte. A note ends where the
 -- accessibles begin, and no note is an empty part there
 pub record ModuleIs (s : List ℕ) (q : ModuleAt) (o : Option (Table.Module × List ℕ)) : Type 0 where
-  pub is : o ≡ some (module_of s q, drop q.next s)
+  pub is : o ≡ Some (module_of s q, drop q.next s)
   pub name : Inside s q.name
   pub description : Inside s q.description
   pub note : Inside s q.note
   pub next_within : q.next ≤ length s
-  pub between : unsigned 1 (drop q.name.to s) ≡ some (q.description.to - q.description.from, drop q.description.from s)
-  pub note_read : note_at (drop q.description.to s) ≡ some (cond q.noted (some (bytes_of s q.note)) none, drop q.next s)
+  pub between : unsigned 1 (drop q.name.to s) ≡ Some (q.description.to - q.description.from, drop q.description.from s)
+  pub note_read : note_at (drop q.description.to s) ≡ Some (cond q.noted (Some (bytes_of s q.note)) None, drop q.next s)
   pub note_end : q.note.to ≡ q.next
   pub noteless : q.noted ≡ false → q.note.from ≡ q.next
 
-abbrev pub HeadingIs : List ℕ → H.Heading → Option (Table.Module × List ℕ) → Type 0
-HeadingIs s (H.TheVariants.Read q) o = ModuleIs s q o
-HeadingIs s H.TheVariants.Bad o = o ≡ none
+abbrev pub HeadingIs : List ℕ → Option ModuleAt → Option (Table.Module × List ℕ) → Type 0
+HeadingIs s (Some q) o = ModuleIs s q o
+HeadingIs s None o = o ≡ None
 
 -- the modules from a position on
 abbrev pub modules_from : List ℕ → ℕ → Option (List Table.Module × List ℕ)
@@ -206,23 +198,23 @@ head_of s q =
 
 -- q has the positions of the head of s: the first module's record begins at `first`
 pub record HeadIs (s : List ℕ) (q : HeadAt) : Type 0 where
-  pub is : head_at s ≡ some (head_of s q, drop q.first s)
+  pub is : head_at s ≡ Some (head_of s q, drop q.first s)
   pub id : Inside s q.id
   pub description : Inside s q.description
   pub edition : Inside s q.edition
   pub within : q.first ≤ length s
 
 -- the answer of a reader of the head of s
-abbrev pub HeadRead : List ℕ → Head.Head → Type 0
-HeadRead s (Head.TheVariants.Read q) = HeadIs s q
-HeadRead s Head.TheVariants.Bad = head_at s ≡ none
+abbrev pub HeadRead : List ℕ → Option HeadAt → Type 0
+HeadRead s (Some q) = HeadIs s q
+HeadRead s None = head_at s ≡ None
 
 -- a part that has the text of the edition
 pub record Given (s : List ℕ) (p : Part) : Type 0 where
-  pub is : (table_of s).edition ≡ some (bytes_of s p)
+  pub is : (table_of s).edition ≡ Some (bytes_of s p)
   pub inside : Inside s p
 
 -- the answer of a reader of the edition of a table that can be read
-abbrev pub EditionIs : List ℕ → E.Edition → Type 0
-EditionIs s (E.TheVariants.Given p) = Given s p
-EditionIs s E.TheVariants.First = (table_of s).edition ≡ none
+abbrev pub EditionIs : List ℕ → Option Part → Type 0
+EditionIs s (Some p) = Given s p
+EditionIs s None = (table_of s).edition ≡ None

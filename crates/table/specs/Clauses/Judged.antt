@@ -1,6 +1,5 @@
 -- What the code that judges a table answers about its parts. Assumes nothing.
-use Rattle.std.specs.Prelude.{ℕ, ◌+◌, ◌≤◌, ◌≡◌, Bool, true, false, cond, not, ◌&&◌, List, map, leb, length, drop}
-use Rattle.std.proofs.Math.Option.{Option, none, some}
+use Rattle.std.specs.Prelude.{ℕ, ◌+◌, ◌≤◌, ◌≡◌, Bool, true, false, cond, not, ◌&&◌, List, map, leb, length, drop, Option, Some, None}
 use Rattle.ascii.specs.Text.{bytes}
 use Rattle.ascii.specs.Bytes.{◌>>=◌, all, same}
 use Rattle.ascii.specs.Names.{is_text, lowercase}
@@ -19,13 +18,11 @@ use Rattle.table.specs.declared.judge.Test.{Test}
 use Rattle.table.specs.declared.judge.Test.TheVariants.{Names, Rules, Initials}
 use Rattle.table.specs.declared.judge.Kind.{Kind}
 use Rattle.table.specs.declared.judge.Kind.TheVariants.{Modules, Accessibles}
-use Rattle.table.specs.declared.judge.Named as N
-use Rattle.table.specs.declared.judge.Members as M
 
 -- a test of what was read; what can't be read does not pass
 abbrev pub passed : {A : Type 0} → (A → Bool) → Option (A × List ℕ) → Bool
-passed p none = false
-passed p (some a) = p a.0
+passed p None = false
+passed p (Some a) = p a.0
 
 -- ## What a test asks
 
@@ -64,29 +61,29 @@ kind_begins Accessibles xs = accessible_begins xs
 unfoldable pub named_at : Kind → ℕ → List ℕ → Option (List ℕ × List ℕ)
 named_at Modules n xs = do
   (m, r) ← module_at n xs
-  some (m.name, r)
+  Some (m.name, r)
 named_at Accessibles n xs = do
   (a, r) ← accessible_at n xs
-  some (accessible_name a, r)
+  Some (accessible_name a, r)
 
 -- the names of the records of a kind from a position on
 unfoldable pub names_from : Kind → List ℕ → ℕ → Option (List (List ℕ) × List ℕ)
 names_from Modules s at = do
   (ms, r) ← modules_from s at
-  some (map (λ (m : Module). m.name) ms, r)
+  Some (map (λ (m : Module). m.name) ms, r)
 names_from Accessibles s at = do
   (xs, r) ← accessibles_from s at
-  some (map accessible_name xs, r)
+  Some (map accessible_name xs, r)
 
 pub record NameIs (s : List ℕ) (p : Part) (j : ℕ) (o : Option (List ℕ × List ℕ)) : Type 0 where
-  pub is : o ≡ some (bytes_of s p, drop j s)
+  pub is : o ≡ Some (bytes_of s p, drop j s)
   pub inside : Inside s p
   pub within : j ≤ length s
 
 -- the answer of a reader of a name
-abbrev pub NamedIs : List ℕ → N.Named → Option (List ℕ × List ℕ) → Type 0
-NamedIs s (N.TheVariants.Read p j) o = NameIs s p j o
-NamedIs s N.TheVariants.Bad o = o ≡ none
+abbrev pub NamedIs : List ℕ → Option (Part × ℕ) → Option (List ℕ × List ℕ) → Type 0
+NamedIs s (Some (p, j)) o = NameIs s p j o
+NamedIs s None o = o ≡ None
 
 -- two names that are not the same when lowercased
 unfoldable pub differs : List ℕ → List ℕ → Bool
@@ -94,13 +91,13 @@ differs x y = not (same (lowercase x) (lowercase y))
 
 -- how many were read, after n others; 0 if they can't be read
 abbrev pub how_many : {A : Type 0} → ℕ → Option (List A × List ℕ) → ℕ
-how_many n none = 0
-how_many n (some q) = n + length q.0
+how_many n None = 0
+how_many n (Some q) = n + length q.0
 
 -- what is asked of a module before its accessibles
 unfoldable pub head_passes : Test → List ℕ → ModuleAt → Bool
 head_passes Names s m =
-    is_text (bytes_of s m.description) && note_good (cond m.noted (some (bytes_of s m.note)) none)
+    is_text (bytes_of s m.description) && note_good (cond m.noted (Some (bytes_of s m.note)) None)
     && passed good_names (names_from Accessibles s m.next)
 head_passes Rules s m = true
 head_passes Initials s m = true
@@ -110,13 +107,13 @@ head_passes Initials s m = true
 -- o is a module with n accessibles, after which the bytes from j on are left
 pub record ModuleHas (s : List ℕ) (n j : ℕ) (o : Option (Module × List ℕ)) : Type 0 where
   pub it : Module
-  pub is : o ≡ some (it, drop j s)
+  pub is : o ≡ Some (it, drop j s)
   pub many : n ≡ length it.accessibles
   pub within : j ≤ length s
 
-abbrev pub MembersAre : List ℕ → M.Members → Option (Module × List ℕ) → Type 0
-MembersAre s (M.TheVariants.Read n j) o = ModuleHas s n j o
-MembersAre s M.TheVariants.Bad o = o ≡ none
+abbrev pub MembersAre : List ℕ → Option (ℕ × ℕ) → Option (Module × List ℕ) → Type 0
+MembersAre s (Some (n, j)) o = ModuleHas s n j o
+MembersAre s None o = o ≡ None
 
 -- at most so many accessibles in all
 unfoldable pub few : ℕ → List Module → Bool
@@ -126,5 +123,5 @@ few most ms = leb (accessible_count ms) most
 
 -- the lowest of the numbers 1 to 5
 unfoldable pub number_below6 : Option Table → ℕ
-number_below6 none = 1
-number_below6 (some t) = first_fault (faults_below6 t)
+number_below6 None = 1
+number_below6 (Some t) = first_fault (faults_below6 t)

@@ -20,5 +20,5 @@ pub returns-then-s-size : goal.returns-then-s-size
 returns-then-s-size c = search goes_on_lem
 
 pub returns : goal.returns
-returns c = is_whole _ _ c.kind_of.ensures c.if-s-lt2.false _ c.in-As.is _ c.number_at-size.ensures c.if-s-lt13.false _
+returns c = is_whole _ _ c.kind_of.ensures c.if-s-lt2.false _ c.in-Some.is _ c.number_at-size.ensures c.if-s-lt13.false _
     c.length_good.ensures (ap not c.if-not-length_good.false) c.if-s-size.false _ c.number_at.ensures

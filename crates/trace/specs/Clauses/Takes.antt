@@ -1,9 +1,6 @@
 -- What the code that reads a trace answers. Assumes nothing.
-use Rattle.std.specs.Prelude.{ℕ, ◌+◌, ◌≤◌, false, List, [], ◌∷◌, ◌≡◌, length, take, drop}
-use Rattle.std.proofs.Math.Option.{Option, none, some}
+use Rattle.std.specs.Prelude.{ℕ, ◌+◌, ◌≤◌, false, List, [], ◌∷◌, ◌≡◌, length, take, drop, Option, Some, None}
 use Rattle.trace.specs.declared.Kind.{Kind}
-use Rattle.trace.specs.declared.Marked.{Marked}
-use Rattle.trace.specs.declared.Marked.TheVariants.{As, Unknown}
 use Rattle.trace.specs.declared.Head.{Head}
 use Rattle.trace.specs.declared.Found.{Found}
 use Rattle.trace.specs.declared.Found.TheVariants.{More, Wrong, Whole}
@@ -12,9 +9,9 @@ use Rattle.trace.specs.declared.Taken.{Taken}
 use Rattle.trace.specs.Trace.{Entry, Judged, more, wrong, whole, judge}
 use Rattle.trace.specs.Reader.{Progress, take_bytes}
 
-abbrev pub marked_as : Marked → Option Kind
-marked_as (As k) = some k
-marked_as Unknown = none
+abbrev pub marked_as : Option Kind → Option Kind
+marked_as (Some k) = Some k
+marked_as None = None
 
 -- the record of this head that stands at the front of the bytes
 abbrev pub entry_in : Head → List ℕ → Entry

@@ -32,7 +32,7 @@ pub loop-k-preserved : goal.loop-k-preserved
 loop-k-preserved c = let at = c.loop-k in
     let on = sent_on c.args.table.now c.args.state.settings c.args.values.now c.args.client c.args.scope c.args.out.now at.k at.cursor at.out at.end at.invariant.1
     c.next_parameter.result c.next_parameter.ensures in
-    (omega arith, on c.in-At.p c.in-At.next (search rules) c.requires.lent.accepted _ _ c.put_shown-end.ensures)
+    (omega arith, on c.in-Some.p c.in-Some.next (search rules) c.requires.lent.accepted _ _ c.put_shown-end.ensures)
 
 pub shape_of-out : goal.shape_of-out
 shape_of-out c = search sent_length

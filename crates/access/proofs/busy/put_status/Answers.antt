@@ -8,9 +8,9 @@ pub put_updates_to-requires : goal.put_updates_to-requires
 unfolding bytes
 put_updates_to-requires c = (search home_low_lem, (search told_room, omega arith))
 
-pub returns-in-Stays : goal.returns-in-Stays
-returns-in-Stays c = search told_none
+pub returns-in-None : goal.returns-in-None
+returns-in-None c = search told_none
 
-pub returns-in-Busy : goal.returns-in-Busy
+pub returns-in-Some : goal.returns-in-Some
 unfolding bytes
-returns-in-Busy c = search told_put
+returns-in-Some c = search told_put

@@ -8,8 +8,8 @@ overflow_mul-k c = record { fits = search store_low }
 pub put-requires : goal.put-requires
 put-requires c = search store_room
 
-pub returns-in-Stays : goal.returns-in-Stays
-returns-in-Stays c = search store_none
+pub returns-in-None : goal.returns-in-None
+returns-in-None c = search store_none
 
-pub returns-in-Busy : goal.returns-in-Busy
-returns-in-Busy c = search store_is
+pub returns-in-Some : goal.returns-in-Some
+returns-in-Some c = search store_is

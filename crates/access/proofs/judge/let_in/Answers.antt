@@ -1,16 +1,5 @@
--- `access::judge::let_in` meets its contract. Assumes nothing.
-use mathlib.Core.Path.{refl}
-use Rattle.plain.specs.Answer.{let_in}
+-- `access::judge::let_in` meets its contract.
 use Rattle.access.proofs.judge.let_in.Goals as goal
 
-pub returns-in-RangeError : goal.returns-in-RangeError
-unfolding let_in
-returns-in-RangeError c = λ o. rw c.in-RangeError.is refl
-
-pub returns-in-WrongType : goal.returns-in-WrongType
-unfolding let_in
-returns-in-WrongType c = λ o. rw c.in-WrongType.is refl
-
-pub returns-in-BadJson : goal.returns-in-BadJson
-unfolding let_in
-returns-in-BadJson c = λ o. rw c.in-BadJson.is refl
+pub returns-in-Err : goal.returns-in-Err
+returns-in-Err c = λ o. rw c.in-Err.is (c.class_of.ensures o)

@@ -8,12 +8,12 @@ judge_change-requires c = info_known (parameter_known _ c.requires.0.accepted _ 
 
 pub put_checked-requires : goal.put_checked-requires
 put_checked-requires c = check_told _ _ _ _ c.requires.0 _ _ _ _ _ _ c.requires.1.1 _
-    c.judge_change.ensures c.in-LetIn.is c.requires.1.0
+    c.judge_change.ensures c.in-Ok.is c.requires.1.0
 
-pub returns-in-Denied : goal.returns-in-Denied
-returns-in-Denied c = check_denied _ _ _ _ c.requires.0 _ _ _ _ _ _ c.requires.1.1 _ c.judge_change.ensures _ c.in-Denied.is
+pub returns-in-Err : goal.returns-in-Err
+returns-in-Err c = check_denied _ _ _ _ c.requires.0 _ _ _ _ _ _ c.requires.1.1 _ c.judge_change.ensures _ c.in-Err.is
 
-pub returns-in-LetIn : goal.returns-in-LetIn
-returns-in-LetIn c = check_sent _ _ _ _ c.requires.0 _ _ _ _ _ _ c.requires.1.1 _
-    c.judge_change.ensures c.in-LetIn.is
+pub returns-in-Ok : goal.returns-in-Ok
+returns-in-Ok c = check_sent _ _ _ _ c.requires.0 _ _ _ _ _ _ c.requires.1.1 _
+    c.judge_change.ensures c.in-Ok.is
     _ _ c.put_checked.ensures

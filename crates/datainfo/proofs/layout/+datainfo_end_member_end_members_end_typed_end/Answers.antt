@@ -87,8 +87,8 @@ typed_end-returns-in-4 t c = search typed_enum
 pub typed_end-returns-in-5 : goal.typed_end-returns-in-5
 typed_end-returns-in-5 t c = search typed_string
 
-pub typed_end-returns-in-At : goal.typed_end-returns-in-At
-typed_end-returns-in-At t c = search typed_array
+pub typed_end-returns-in-Some : goal.typed_end-returns-in-Some
+typed_end-returns-in-Some t c = search typed_array
 
 pub typed_end-returns-in-7 : goal.typed_end-returns-in-7
 typed_end-returns-in-7 t c = search typed_tuple

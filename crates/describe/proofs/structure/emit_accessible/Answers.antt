@@ -1,19 +1,21 @@
 -- `describe::structure::emit_accessible` meets its contract. Assumes nothing.
+use Rattle.std.specs.Prelude.{Some}
+use mathlib.Core.Path.{ap, ◌∙◌}
 use Rattle.describe.proofs.Reported.{parameter_name_lem, command_name_lem, accessible_parameter, accessible_command, accessible_bad}
 use Rattle.table.proofs.Tests.{parameter_text, parameter_info, command_text, command_info}
 use Rattle.describe.proofs.structure.emit_accessible.Goals as goal
 
 pub emit_parameter-requires : goal.emit_parameter-requires
-emit_parameter-requires c = ((search parameter_name_lem, search parameter_text), search parameter_info)
+emit_parameter-requires c = ((search (parameter_name_lem, c.in-Some-Parameter.is ∙ ap Some c.in-Some-Parameter.field-0-is), search (parameter_text, c.in-Some-Parameter.is ∙ ap Some c.in-Some-Parameter.field-0-is)), search (parameter_info, c.in-Some-Parameter.is ∙ ap Some c.in-Some-Parameter.field-0-is))
 
 pub emit_command-requires : goal.emit_command-requires
-emit_command-requires c = ((search command_name_lem, search command_text), search command_info)
+emit_command-requires c = ((search (command_name_lem, c.in-Some-Command.is ∙ ap Some c.in-Some-Command.field-0-is), search (command_text, c.in-Some-Command.is ∙ ap Some c.in-Some-Command.field-0-is)), search (command_info, c.in-Some-Command.is ∙ ap Some c.in-Some-Command.field-0-is))
 
-pub returns-in-Parameter : goal.returns-in-Parameter
-returns-in-Parameter c = search accessible_parameter
+pub returns-in-Some-Parameter : goal.returns-in-Some-Parameter
+returns-in-Some-Parameter c = search (accessible_parameter, c.in-Some-Parameter.is ∙ ap Some c.in-Some-Parameter.field-0-is)
 
-pub returns-in-Command : goal.returns-in-Command
-returns-in-Command c = search accessible_command
+pub returns-in-Some-Command : goal.returns-in-Some-Command
+returns-in-Some-Command c = search (accessible_command, c.in-Some-Command.is ∙ ap Some c.in-Some-Command.field-0-is)
 
-pub returns-in-Bad : goal.returns-in-Bad
-returns-in-Bad c = search accessible_bad
+pub returns-in-None : goal.returns-in-None
+returns-in-None c = search accessible_bad

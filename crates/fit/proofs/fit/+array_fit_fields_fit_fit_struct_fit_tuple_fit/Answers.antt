@@ -145,7 +145,7 @@ tuple_fit-loop-left-init t c = let a = c.args in (
   (
     search unsigned_within,
     tuple_first a.s.now a.at a.levels a.v.now a.p a.depth _ c.byte.ensures
-        _ c.unsigned.ensures c.if-depth-eq0.false c.if-byte-ne91.false _ _ c.in-Read.is _ c.first-item.ensures,
+        _ c.unsigned.ensures c.if-depth-eq0.false c.if-byte-ne91.false _ _ c.in-Some.is _ c.first-item.ensures,
   ),
 )
 

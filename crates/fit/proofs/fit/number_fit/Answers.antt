@@ -13,10 +13,10 @@ pub slice_bounds-token_fit-count : goal.slice_bounds-token_fit-count
 slice_bounds-token_fit-count c = search number_room
 
 pub slice_bounds-token_fit-start : goal.slice_bounds-token_fit-start
-slice_bounds-token_fit-start c = let h : c.args.p ≤ c.in-At.e = search number_room in omega arith
+slice_bounds-token_fit-start c = let h : c.args.p ≤ c.in-Some.e = search number_room in omega arith
 
 pub slice_bounds-token_fit-end : goal.slice_bounds-token_fit-end
-slice_bounds-token_fit-end c = let h : c.args.p ≤ c.in-At.e = search number_room in let g : c.in-At.e ≤ length c.args.v.now = search ended_within in omega arith
+slice_bounds-token_fit-end c = let h : c.args.p ≤ c.in-Some.e = search number_room in let g : c.in-Some.e ≤ length c.args.v.now = search ended_within in omega arith
 
 pub returns : goal.returns
 returns c = search number_token

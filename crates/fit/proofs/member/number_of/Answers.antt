@@ -23,7 +23,7 @@ pub returns-in_default-number : goal.returns-in_default-number
 returns-in_default-number c = search number_cut
 
 pub returns-then-same : goal.returns-then-same
-returns-then-same c = search number_hit
+returns-then-same c = rw c.in-Some-number.is (search number_hit)
 
 pub loop-left-preserved : goal.loop-left-preserved
 loop-left-preserved c = (search signed_within, search number_more)

@@ -21,7 +21,7 @@ pub returns-in_default-field_end : goal.returns-in_default-field_end
 returns-in_default-field_end c = search fields_bad
 
 pub loop-left-preserved : goal.loop-left-preserved
-loop-left-preserved c = (search ended_within, fields_more _ _ _ _ _ _ _ c.loop-left.invariant.1 c.loop-left-test.true _ c.field_end.ensures _ c.in-At.is (optional_later _ _ _ c.is_optional_here.ensures c.if-is_optional_here.false))
+loop-left-preserved c = (search ended_within, fields_more _ _ _ _ _ _ _ c.loop-left.invariant.1 c.loop-left-test.true _ c.field_end.ensures _ c.in-Some-field_end.is (optional_later _ _ _ c.is_optional_here.ensures c.if-is_optional_here.false))
 
 pub returns : goal.returns
 returns c = fields_over _ _ _ _ _ _ _ c.loop-left.invariant.1 c.loop-left-test.false _ (optional_none _)

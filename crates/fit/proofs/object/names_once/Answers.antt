@@ -20,7 +20,7 @@ pub returns-in_default-field_end : goal.returns-in_default-field_end
 returns-in_default-field_end c = search once_bad
 
 pub loop-left-preserved : goal.loop-left-preserved
-loop-left-preserved c = (search ended_within, once_more _ _ _ _ _ _ _ c.loop-left.invariant.1 c.loop-left-test.true _ c.field_end.ensures _ c.in-At.is _ _ c.named_at.ensures c.count_key.ensures c.if-count_key-ne1.false)
+loop-left-preserved c = (search ended_within, once_more _ _ _ _ _ _ _ c.loop-left.invariant.1 c.loop-left-test.true _ c.field_end.ensures _ c.in-Some-field_end.is _ _ c.named_at.ensures c.count_key.ensures c.if-count_key-ne1.false)
 
 pub returns : goal.returns
 returns c = search once_over

@@ -13,16 +13,16 @@ pub returns-in_default : goal.returns-in_default
 returns-in_default c = search quoted_bad
 
 pub overflow_sub-to : goal.overflow_sub-to
-overflow_sub-to c = let h : c.args.p + 2 ≤ c.in-At.e = search quoted_room in omega arith
+overflow_sub-to c = let h : c.args.p + 2 ≤ c.in-Some.e = search quoted_room in omega arith
 
 pub slice_bounds-result-count-2 : goal.slice_bounds-result-count-2
-slice_bounds-result-count-2 c = let h : c.args.p + 2 ≤ c.in-At.e = search quoted_room in omega arith
+slice_bounds-result-count-2 c = let h : c.args.p + 2 ≤ c.in-Some.e = search quoted_room in omega arith
 
 pub slice_bounds-result-start-2 : goal.slice_bounds-result-start-2
-slice_bounds-result-start-2 c = let h : c.args.p + 2 ≤ c.in-At.e = search quoted_room in omega arith
+slice_bounds-result-start-2 c = let h : c.args.p + 2 ≤ c.in-Some.e = search quoted_room in omega arith
 
 pub slice_bounds-result-end-2 : goal.slice_bounds-result-end-2
-slice_bounds-result-end-2 c = let h : c.args.p + 2 ≤ c.in-At.e = search quoted_room in let g : c.in-At.e ≤ length c.args.v.now = search ended_within in omega arith
+slice_bounds-result-end-2 c = let h : c.args.p + 2 ≤ c.in-Some.e = search quoted_room in let g : c.in-Some.e ≤ length c.args.v.now = search ended_within in omega arith
 
 pub returns : goal.returns
 returns c = search quoted_all

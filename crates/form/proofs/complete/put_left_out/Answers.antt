@@ -13,7 +13,7 @@ pub returns-in_default : goal.returns-in_default
 returns-in_default c = search kept_short
 
 pub loop-left-init : goal.loop-left-init
-loop-left-init c = (search unsigned_within, refl, omega arith, kept_first _ _ _ _ _ c.unsigned.ensures _ _ c.in-Read.is _ _ (omega arith))
+loop-left-init c = (search unsigned_within, refl, omega arith, kept_first _ _ _ _ _ c.unsigned.ensures _ _ c.in-Some.is _ _ (omega arith))
 
 pub returns-in_default-field_end : goal.returns-in_default-field_end
 returns-in_default-field_end c = search kept_bad

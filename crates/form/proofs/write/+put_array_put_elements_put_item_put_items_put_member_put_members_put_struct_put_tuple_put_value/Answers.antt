@@ -33,7 +33,7 @@ pub put_elements-returns-in_default : goal.put_elements-returns-in_default
 put_elements-returns-in_default t c = search elements_short
 
 pub put_elements-loop-left-init : goal.put_elements-loop-left-init
-put_elements-loop-left-init t c = (search inside_ends, search unsigned_within, refl, omega arith, elements_first _ _ _ _ _ _ _ c.unsigned.ensures (omega arith) _ _ c.in-Read.is _ _ (omega arith) _ (search rules))
+put_elements-loop-left-init t c = (search inside_ends, search unsigned_within, refl, omega arith, elements_first _ _ _ _ _ _ _ c.unsigned.ensures (omega arith) _ _ c.in-Some.is _ _ (omega arith) _ (search rules))
 
 pub put_elements-returns-in_default-item : goal.put_elements-returns-in_default-item
 put_elements-returns-in_default-item t c = search elements_few

@@ -13,11 +13,11 @@ pub slice_bounds-emit-count : goal.slice_bounds-emit-count
 slice_bounds-emit-count c = search scalar_room
 
 pub slice_bounds-emit-start : goal.slice_bounds-emit-start
-slice_bounds-emit-start c = let h : c.args.p ≤ c.in-At.e = search scalar_room in omega arith
+slice_bounds-emit-start c = let h : c.args.p ≤ c.in-Some.e = search scalar_room in omega arith
 
 pub slice_bounds-emit-end : goal.slice_bounds-emit-end
-slice_bounds-emit-end c = let h : c.args.p ≤ c.in-At.e = search scalar_room in
-    let g : c.in-At.e ≤ length c.args.v.now = search ended_within in
+slice_bounds-emit-end c = let h : c.args.p ≤ c.in-Some.e = search scalar_room in
+    let g : c.in-Some.e ≤ length c.args.v.now = search ended_within in
     omega arith
 
 pub returns : goal.returns

@@ -7,7 +7,7 @@ pub returns-in_default : goal.returns-in_default
 returns-in_default c = simp (text_ended, rw c.in_default.is at c.value_end.ensures)
 
 pub overflow_sub-result : goal.overflow_sub-result
-overflow_sub-result c = (rw c.in-At.is at c.value_end.ensures).1
+overflow_sub-result c = (rw c.in-Some.is at c.value_end.ensures).1
 
 pub returns : goal.returns
-returns c = simp (text_ended, (rw c.in-At.is at c.value_end.ensures).0, length-drop)
+returns c = simp (text_ended, (rw c.in-Some.is at c.value_end.ensures).0, length-drop)

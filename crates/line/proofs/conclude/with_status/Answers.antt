@@ -6,8 +6,8 @@ use Rattle.line.proofs.conclude.with_status.Goals as goal
 pub stored-requires : goal.stored-requires
 stored-requires c = (search busy_low, omega arith)
 
-pub returns-in-Stays : goal.returns-in-Stays
-returns-in-Stays c = search no_settings_lem
+pub returns-in-None : goal.returns-in-None
+returns-in-None c = search no_settings_lem
 
-pub returns-in-Busy : goal.returns-in-Busy
-returns-in-Busy c = search busy_settings_lem
+pub returns-in-Some : goal.returns-in-Some
+returns-in-Some c = search busy_settings_lem

@@ -2,8 +2,8 @@
 use Rattle.line.proofs.Sought.{edited, unedited}
 use Rattle.line.proofs.named.is_edited.Goals as goal
 
-pub returns-in-Given : goal.returns-in-Given
-returns-in-Given c = search edited
+pub returns-in-Some : goal.returns-in-Some
+returns-in-Some c = search edited
 
-pub returns-in-First : goal.returns-in-First
-returns-in-First c = search unedited
+pub returns-in-None : goal.returns-in-None
+returns-in-None c = search unedited

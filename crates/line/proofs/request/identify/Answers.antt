@@ -23,9 +23,9 @@ pub put_final_edition-requires : goal.put_final_edition-requires
 unfolding bytes_of
 put_final_edition-requires c = search edition_room
 
-pub returns-in-First : goal.returns-in-First
-returns-in-First c = search identified_first
+pub returns-in-None : goal.returns-in-None
+returns-in-None c = search identified_first
 
-pub returns-in-Given : goal.returns-in-Given
+pub returns-in-Some : goal.returns-in-Some
 unfolding bytes_of
-returns-in-Given c = search identified_given
+returns-in-Some c = search identified_given

@@ -23,5 +23,5 @@ take_unreadable-done-requires c = search unread_tells
 
 pub returns : goal.returns
 returns c = unread_taken _ c.args.state _ _ _ _ c.args.time _ _ c.lent_number-number.ensures c.if-number-ne0.false _
-    c.parameter_by_number.ensures _ _ c.in-At.is _ c.sensor_of.ensures _
+    c.parameter_by_number.ensures _ _ c.in-Some.is _ c.sensor_of.ensures _
     c.in-Fails.is c.bare_of.ensures c.take_unreadable-done.ensures c.done_by.ensures

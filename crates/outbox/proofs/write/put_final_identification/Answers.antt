@@ -1,6 +1,6 @@
 -- `outbox::write::put_final_identification` meets its contract. Assumes nothing.
+use Rattle.std.specs.Prelude.{None}
 use Rattle.ascii.specs.Text.{bytes}
-use mathlib.Core.Option.{none}
 use mathlib.Core.Path.{refl}
 use Rattle.message.specs.Reply.{identity, reply_line, identification}
 use Rattle.outbox.proofs.Written.{final_0, final_1, final_2, final_3, final_all}
@@ -9,19 +9,19 @@ use Rattle.outbox.proofs.write.put_final_identification.Goals as goal
 pub put_header-line-requires : goal.put_header-line-requires
 unfolding reply_line identity bytes
 put_header-line-requires c = let room = c.requires in
-    (final_1 _ _ _ (identification none) 36 refl room, final_0 _ _ _ (identification none) 36 refl room)
+    (final_1 _ _ _ (identification None) 36 refl room, final_0 _ _ _ (identification None) 36 refl room)
 
 pub put_identification-end-requires : goal.put_identification-end-requires
 unfolding reply_line identity bytes
-put_identification-end-requires c = final_2 _ _ _ (identification none) 36 refl c.requires _ _
+put_identification-end-requires c = final_2 _ _ _ (identification None) 36 refl c.requires _ _
     c.put_header-line.ensures
 
 pub put_byte-requires : goal.put_byte-requires
 unfolding reply_line identity bytes
-put_byte-requires c = final_3 _ _ _ (identification none) 36 refl c.requires _ _ c.put_header-line.ensures _ _
+put_byte-requires c = final_3 _ _ _ (identification None) 36 refl c.requires _ _ c.put_header-line.ensures _ _
     c.put_identification-end.ensures
 
 pub returns : goal.returns
 unfolding reply_line identity bytes
-returns c = final_all _ _ _ (identification none) 36 refl _ _ _ _ _ _ c.put_header-line.ensures c.put_identification-end.ensures
+returns c = final_all _ _ _ (identification None) 36 refl _ _ _ _ _ _ c.put_header-line.ensures c.put_identification-end.ensures
     c.put_byte.ensures

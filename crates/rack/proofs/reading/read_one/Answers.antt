@@ -19,12 +19,12 @@ pub verdict-requires : goal.verdict-requires
 verdict-requires c = search read_info
 
 pub returns-in_default-verdict : goal.returns-in_default-verdict
-returns-in_default-verdict c = read_unfit _ _ _ _ _ _ _ (search rules) (search rules) _ c.parameter_by_number.ensures _ _ c.in-At.is _ c.verdict.ensures
-    c.in_default-verdict.not-Fits c.bare_quiet-in_default-verdict.ensures
+returns-in_default-verdict c = read_unfit _ _ _ _ _ _ _ (search rules) (search rules) _ c.parameter_by_number.ensures _ _ c.in-Some.is _ c.verdict.ensures
+    (c.in_default-verdict.not-Ok tt) c.bare_quiet-in_default-verdict.ensures
 
 pub take_reading-requires : goal.take_reading-requires
 take_reading-requires c = search read_fits
 
 pub returns : goal.returns
-returns c = read_taken _ c.args.state _ _ _ _ _ c.requires (search rules) _ c.parameter_by_number.ensures _ _ c.in-At.is _
-    c.verdict.ensures c.in-Fits.is c.take_reading.ensures
+returns c = read_taken _ c.args.state _ _ _ _ _ c.requires (search rules) _ c.parameter_by_number.ensures _ _ c.in-Some.is _
+    c.verdict.ensures c.in-Ok.is c.take_reading.ensures

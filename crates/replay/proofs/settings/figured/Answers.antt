@@ -9,8 +9,8 @@ returns-then-done-ne0 c = search counts_refused
 pub note-requires : goal.note-requires
 note-requires c = (search chosen_shown, search rules)
 
-pub returns-in-Nothing : goal.returns-in-Nothing
-returns-in-Nothing c = search counts_nothing
+pub returns-in-None : goal.returns-in-None
+returns-in-None c = search counts_nothing
 
-pub returns-in-Of : goal.returns-in-Of
-returns-in-Of c = search counts_set
+pub returns-in-Some : goal.returns-in-Some
+returns-in-Some c = search counts_set

@@ -1,4 +1,6 @@
 -- `search::cursor::next_record` meets its contract. Assumes nothing.
+use Rattle.std.specs.Prelude.{Some}
+use mathlib.Core.Path.{ap, ◌∙◌}
 use borrow.Author.Rules.{rules}
 use Rattle.search.proofs.Lefts.{not_next, so_next, record_parameter, record_command, record_bad}
 use Rattle.search.proofs.cursor.next_record.Goals as goal
@@ -6,11 +8,11 @@ use Rattle.search.proofs.cursor.next_record.Goals as goal
 pub enter-requires : goal.enter-requires
 enter-requires c = (search rules, search not_next)
 
-pub returns-in-Parameter : goal.returns-in-Parameter
-returns-in-Parameter c = search (record_parameter, so_next)
+pub returns-in-Some-Parameter : goal.returns-in-Some-Parameter
+returns-in-Some-Parameter c = search (record_parameter, so_next, c.in-Some-Parameter.is ∙ ap Some c.in-Some-Parameter.field-0-is)
 
-pub returns-in-Command : goal.returns-in-Command
-returns-in-Command c = search (record_command, so_next)
+pub returns-in-Some-Command : goal.returns-in-Some-Command
+returns-in-Some-Command c = search (record_command, so_next, c.in-Some-Command.is ∙ ap Some c.in-Some-Command.field-0-is)
 
-pub returns-in-Bad : goal.returns-in-Bad
-returns-in-Bad c = search (record_bad, so_next)
+pub returns-in-None : goal.returns-in-None
+returns-in-None c = search (record_bad, so_next)

@@ -18,8 +18,8 @@ pub returns-then-part_is : goal.returns-then-part_is
 returns-then-part_is c = search search_found
 
 pub overflow_add-n : goal.overflow_add-n
-overflow_add-n c = let h : c.loop-p.n + 1 ≤ c.in-Read.e = search names_after in
-    let w : c.in-Read.e ≤ length c.args.s.now = search name_within in
+overflow_add-n c = let h : c.loop-p.n + 1 ≤ c.in-Some.e = search names_after in
+    let w : c.in-Some.e ≤ length c.args.s.now = search name_within in
     omega arith
 
 pub loop-p-smaller : goal.loop-p-smaller

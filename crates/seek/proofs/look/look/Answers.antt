@@ -8,8 +8,8 @@ loop-n-init c = search looking_start
 pub returns-then-b : goal.returns-then-b
 returns-then-b c = search look_free
 
-pub returns-in-At : goal.returns-in-At
-returns-in-At c = search look_found
+pub returns-in-Some : goal.returns-in-Some
+returns-in-Some c = search look_found
 
 pub loop-n-preserved : goal.loop-n-preserved
 loop-n-preserved c = search look_more

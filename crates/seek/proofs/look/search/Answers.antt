@@ -6,8 +6,8 @@ use Rattle.seek.proofs.look.search.Goals as goal
 pub look-looked-requires : goal.look-looked-requires
 look-looked-requires c = (search rules, (search rules, search start_fits))
 
-pub returns-in-At : goal.returns-in-At
-returns-in-At c = search search_looked
+pub returns-in-Some : goal.returns-in-Some
+returns-in-Some c = search search_looked
 
 pub overflow_add-result : goal.overflow_add-result
 overflow_add-result c = search search_fits

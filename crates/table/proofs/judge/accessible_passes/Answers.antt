@@ -1,18 +1,20 @@
 -- `table::judge::accessible_passes` meets its contract. Assumes nothing.
+use Rattle.std.specs.Prelude.{Some}
+use mathlib.Core.Path.{ap, ◌∙◌}
 use Rattle.table.proofs.Tests.{parameter_text, parameter_initial, parameter_readable, command_text, command_readable, parameter_passes, command_passes, bad_passes}
 use Rattle.table.proofs.judge.accessible_passes.Goals as goal
 
 pub parameter_passes-requires : goal.parameter_passes-requires
-parameter_passes-requires c = ((search parameter_text, search parameter_initial), search parameter_readable)
+parameter_passes-requires c = ((search (parameter_text, c.in-Some-Parameter.is ∙ ap Some c.in-Some-Parameter.field-0-is), search (parameter_initial, c.in-Some-Parameter.is ∙ ap Some c.in-Some-Parameter.field-0-is)), search (parameter_readable, c.in-Some-Parameter.is ∙ ap Some c.in-Some-Parameter.field-0-is))
 
 pub command_passes-requires : goal.command_passes-requires
-command_passes-requires c = (search command_text, search command_readable)
+command_passes-requires c = (search (command_text, c.in-Some-Command.is ∙ ap Some c.in-Some-Command.field-0-is), search (command_readable, c.in-Some-Command.is ∙ ap Some c.in-Some-Command.field-0-is))
 
-pub returns-in-Parameter : goal.returns-in-Parameter
-returns-in-Parameter c = search parameter_passes
+pub returns-in-Some-Parameter : goal.returns-in-Some-Parameter
+returns-in-Some-Parameter c = search (parameter_passes, c.in-Some-Parameter.is ∙ ap Some c.in-Some-Parameter.field-0-is)
 
-pub returns-in-Command : goal.returns-in-Command
-returns-in-Command c = search command_passes
+pub returns-in-Some-Command : goal.returns-in-Some-Command
+returns-in-Some-Command c = search (command_passes, c.in-Some-Command.is ∙ ap Some c.in-Some-Command.field-0-is)
 
-pub returns-in-Bad : goal.returns-in-Bad
-returns-in-Bad c = search bad_passes
+pub returns-in-None : goal.returns-in-None
+returns-in-None c = search bad_passes

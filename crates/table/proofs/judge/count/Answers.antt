@@ -12,8 +12,8 @@ pub returns-in_default : goal.returns-in_default
 returns-in_default c = search count_bad
 
 pub overflow_add-n : goal.overflow_add-n
-overflow_add-n c = let h : c.loop-kind.n + 1 ≤ c.in-Read.e = search names_after in
-    let w : c.in-Read.e ≤ length c.args.s.now = search name_within in
+overflow_add-n c = let h : c.loop-kind.n + 1 ≤ c.in-Some.e = search names_after in
+    let w : c.in-Some.e ≤ length c.args.s.now = search name_within in
     omega arith
 
 pub loop-kind-smaller : goal.loop-kind-smaller
