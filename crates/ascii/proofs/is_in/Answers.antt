@@ -1,12 +1,14 @@
--- `ascii::is_in` meets its contract. Assumes nothing.
-use borrow.Author.Tests.{le-leb, lt-leb}
+-- `ascii::is_in` meets its contract: what a range contains is told by two comparisons. Assumes nothing.
+use Rattle.std.proofs.Common.{◌∙◌, rules, tests, ℕ, ◌≡◌, refl}
+use Rattle.std.specs.Ordering.{nat_cmp, is_le}
+use lib.Dec.{leb}
 use Rattle.ascii.specs.Bytes.{is_in}
 use Rattle.ascii.proofs.is_in.Goals as goal
 
-pub returns-then-lo-b : goal.returns-then-lo-b
-unfolding is_in
-returns-then-lo-b c = simp (le-leb _ _ c.if-lo-b.true)
+le_is : (a b : ℕ) → is_le (nat_cmp a b) ≡ leb a b
+le_is a b = search (rules, tests)
 
-pub returns-else-lo-b : goal.returns-else-lo-b
+pub returns : goal.returns
 unfolding is_in
-returns-else-lo-b c = simp (lt-leb _ _ c.if-lo-b.false)
+returns c = c.contains.ensures.value
+    ∙ rw (c.new.ensures.start, c.new.ensures.end, c.new.ensures.exhausted, le_is c.args.lo c.args.b, le_is c.args.b c.args.hi) refl

@@ -1,12 +1,6 @@
 -- What the code that reads a number answers: the number with a position in the slice, which stands for the bytes from there on.
 -- Assumes nothing.
-use Rattle.std.specs.Prelude.{ℕ, ◌+◌, ◌-◌, ◌*◌, ◌^◌, ◌≤◌, ◌<◌, ◌≡◌, List, length, take, drop, Option, Some, None}
-use Rattle.ascii.specs.Numbers.{big_endian}
-
--- n is the number of the k bytes of s at a position
-pub record BigEndian (s : List ℕ) (at k n : ℕ) : Type 0 where
-  pub is : n ≡ big_endian (take k (drop at s))
-  pub low : n < 2 ^ (8 * k)
+use Rattle.std.specs.Prelude.{ℕ, ◌+◌, ◌-◌, ◌*◌, ◌^◌, ◌≤◌, ◌≡◌, List, length, drop, Option, Some, None}
 
 -- h is half of the range of k bytes, from which on a signed number is negative
 pub record Half (k h : ℕ) : Type 0 where

@@ -1,9 +1,7 @@
 -- `ascii::names::same` meets its contract. Assumes nothing.
-use mathlib.Core.Path.{ap}
-use Rattle.ascii.specs.declared.names.Compared.{Compared}
-use Rattle.ascii.specs.Clauses.Compared.{compared}
+use Rattle.std.proofs.Common.{◌∙◌}
+use Rattle.ascii.proofs.Walk.{same_pointwise}
 use Rattle.ascii.proofs.names.same.Goals as goal
 
 pub returns : goal.returns
-unfolding compared
-returns c = ap (λ (x : Compared). x.same) c.compare-c.ensures
+returns c = c.eq.ensures ∙ same_pointwise c.args.a.now c.args.b.now

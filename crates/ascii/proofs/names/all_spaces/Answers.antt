@@ -1,0 +1,11 @@
+-- `ascii::names::all_spaces` meets its contract. Assumes nothing.
+use Rattle.std.proofs.Common.{◌∙◌, rules, tests}
+use Rattle.std.proofs.lemmas.Iterator.{YieldsList-from_slice}
+use Rattle.std.proofs.lemmas.Iterator.Search.{all_from_yields_List}
+use Rattle.ascii.specs.Bytes.{is_space}
+use Rattle.ascii.proofs.Walk.{all_is}
+use Rattle.ascii.proofs.names.all_spaces.Goals as goal
+
+pub returns : goal.returns
+returns c = let s = c.args.s.now in
+    all_from_yields_List is_space _ _ c.all.result c.all.ensures.ran (YieldsList-from_slice s cc) (λ x b q k. search (rules, tests)) ∙ all_is is_space s
