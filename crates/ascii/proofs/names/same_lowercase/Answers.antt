@@ -3,4 +3,4 @@ use Rattle.ascii.proofs.Walk.{told_lowercase}
 use Rattle.ascii.proofs.names.same_lowercase.Goals as goal
 
 pub returns : goal.returns
-returns c = told_lowercase _ _ _ c.eq_ignore_ascii_case.ensures.test.0 c.eq_ignore_ascii_case.ensures.test.1
+returns c = search told_lowercase
