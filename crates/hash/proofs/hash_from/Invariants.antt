@@ -1,12 +1,8 @@
--- `hash::hash_from` meets its contract. The loop's invariant: the hash is n with the bytes from i on. Assumes nothing.
-use Prim.Native.Nat.{◌≤◌, ◌-◌}
+-- `hash::hash_from` meets its contract. The loop's invariant: the hash is n with the bytes from the index on. Assumes nothing.
 use mathlib.Core.Path.{◌≡◌}
-use lib.ListN.{length, drop}
+use lib.ListN.{drop}
 use Rattle.hash.specs.Hash.{hash_from}
 use Rattle.hash.proofs.hash_from.Given as goal
 
-abbrev pub invariant-loop-i : goal.invariant-loop-i
-invariant-loop-i l = (l.i ≤ length l.s) × (hash_from l.h l.s ≡ hash_from l.n (drop l.i l.s))
-
-abbrev pub decreases-loop-i : goal.decreases-loop-i
-decreases-loop-i l = length l.s - l.i
+abbrev pub invariant-loop-b : goal.invariant-loop-b
+invariant-loop-b l = hash_from l.h l.s ≡ hash_from l.n (drop l.b-index l.s)
