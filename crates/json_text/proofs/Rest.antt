@@ -1,15 +1,17 @@
 -- What the readers of values leave, whatever the value is: each definition of a value, seen through `rest`. Assumes nothing.
 use Rattle.std.specs.Prelude.{Option, Some, None}
-use Prim.Native.Nat.{ℕ, zero, suc, ◌-◌, ◌<◌}
+use Prim.Native.Nat.{ℕ, zero, suc, ◌-◌, ◌≤◌, ◌<◌}
 use native.Mathlib.Numerals.{sub-one}
 use native.Mathlib.Omega.{arith}
-use mathlib.Core.Path.{◌≡◌, refl}
-use mathlib.Core.Bool.{Bool, true, false, cond}
+use mathlib.Core.Path.{◌≡◌, refl, sym, ◌∙◌}
+use mathlib.Core.Bool.{Bool, true, false, cond, true≢false}
 use mathlib.Core.List.{List}
-use lib.ListN.{length}
+use lib.ListN.{length, length-drop}
+use borrow.Author.Tests.{eq-eqb, ne_eqb, eqb-true}
+use Rattle.std.specs.Option.{option_eq}
 use lib.Dec.{eqb}
 use Rattle.ascii.specs.Bytes.{head, tail, ◌>>=◌, is_some}
-use Rattle.ascii.specs.Clauses.Reader.{rest}
+use Rattle.ascii.specs.Clauses.Reader.{Ends, rest}
 use Rattle.ascii.proofs.Follows.{rest_cond, rest_then, rest_map}
 use Rattle.json_text.specs.Json.{Json, text, giving, skip, spaced, items, array_end, key, members, object_end, bare, scalar, value}
 
@@ -68,3 +70,15 @@ text_ended s = go (value 8 s)
         test : (b : Bool) → is_some (cond b (Some p.0) None) ≡ b
         test true = refl
         test false = refl
+
+same_place : (p n : ℕ) → p ≤ n → eqb p n ≡ eqb (n - p) 0
+same_place p n h = go (eqb p n) refl
+  where
+    go : (t : Bool) → eqb p n ≡ t → t ≡ eqb (n - p) 0
+    go true e = let q = eqb-true p n e in sym (eq-eqb (n - p) 0 (omega arith))
+    go false e = sym (ne_eqb (n - p) 0 (λ z. true≢false (sym (eq-eqb p n (omega arith)) ∙ e)))
+
+-- the value of a text ends where the text does, or there is none
+pub text_told : (s : List ℕ) (r : Option ℕ) → Ends s r (rest (value 8 s)) → option_eq eqb r (Some (length s)) ≡ is_some (text s)
+text_told s None e = sym (text_ended s ∙ rw e)
+text_told s (Some p) e = same_place p (length s) e.1 ∙ sym (text_ended s ∙ rw (e.0, ended, length-drop))

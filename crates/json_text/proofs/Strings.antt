@@ -1,15 +1,17 @@
 -- Laws of the grammar of strings and words, one for each way through a function. Assumes nothing.
 use Rattle.std.specs.Prelude.{Option, Some, None}
 use Prim.Native.Nat.{ℕ, zero, suc, ◌+◌, ◌-◌, ◌≤◌, ◌<◌}
-use native.Mathlib.Numerals.{add-one, sub-one}
+use native.Mathlib.Numerals.{sub-one}
 use native.Mathlib.Omega.{arith}
-use borrow.Author.Tests.{eq-eqb, ne_eqb}
+use borrow.Author.Tests.{eq-eqb, ne_eqb, eqb-true}
+use Rattle.std.specs.List.{starts_with, between}
+use Rattle.std.proofs.lemmas.Slice.{between_to_end}
 use mathlib.Core.Logic.{◌⊎◌, inl, inr}
-use mathlib.Core.Path.{◌≡◌, refl, ◌∙◌}
-use mathlib.Core.Bool.{Bool, true, false, cond}
-use mathlib.Core.List.{List}
-use lib.ListN.{length, get_or, drop, length-drop, drop_of_length-le}
-use lib.Seq.{drop-cons}
+use mathlib.Core.Path.{◌≡◌, refl, sym, ◌∙◌}
+use mathlib.Core.Bool.{Bool, true, false, cond, true≢false}
+use mathlib.Core.List.{List, [], ◌∷◌}
+use lib.ListN.{length, drop, length-drop}
+use lib.Seq.{drop-drop}
 use lib.Dec.{eqb}
 use Rattle.ascii.specs.Bytes.{head, tail, ◌>>=◌, is_in, is_printable, after}
 use Rattle.ascii.specs.Clauses.Reader.{ByteAt, Ends}
@@ -119,27 +121,29 @@ module _ (s : List ℕ) (o : Option (List ℕ)) (n i : ℕ) (e : o ≡ chars n (
       pub chars_bad : r ≡ None → o ≡ None
       chars_bad z = e ∙ simp (chars_step n (drop i s) h, no_byte x q, rw z at k)
 
-      pub chars_more : (j : ℕ) → r ≡ Some j → o ≡ chars (n - 1) (drop j s)
-      chars_more j z = e ∙ simp (chars_step n (drop i s) h, no_byte x q, (rw z at k).0)
+      pub chars_more : (m j : ℕ) → m ≡ n - 1 → r ≡ Some j → o ≡ chars m (drop j s)
+      chars_more m j l z = rw l (e ∙ simp (chars_step n (drop i s) h, no_byte x q, (rw z at k).0))
 
--- a word o of which w from k on is to come, at position i
-module _ (s w : List ℕ) (o : Option (List ℕ)) (i k : ℕ) (e : o ≡ after (drop k w) (drop i s)) where
-  pub word_end : length w ≤ k → i ≤ length s → Ends s (Some i) o
-  unfolding after
-  word_end h g = (e ∙ rw (drop_of_length-le w h), g)
+-- a word, which the bytes begin with or not
+after_is : (w xs : List ℕ) → after w xs ≡ cond (starts_with eqb xs w) (Some (drop (length w) xs)) None
+unfolding after
+after_is [] xs = refl
+after_is (b ∷ w) [] = refl
+after_is (b ∷ w) (x ∷ xs) = go (eqb x b) refl (after_is w xs)
+  where
+    go :
+        (t : Bool) → eqb x b ≡ t → after w xs ≡ cond (starts_with eqb xs w) (Some (drop (length w) xs)) None
+        → cond (eqb x b) (after w xs) None ≡ cond (starts_with eqb (x ∷ xs) (b ∷ w)) (Some (drop (length w) xs)) None
+    go true e h = rw (e, eq-eqb b x (sym (eqb-true x b e))) h
+    go false e h = rw (e, ne_eqb b x (λ q. true≢false (sym (eq-eqb x b (sym q)) ∙ e)))
 
-  module _ (hk : k < length w) where
-    pub word_short : length s ≤ i → o ≡ None
-    unfolding after
-    word_short h = e ∙ rw (drop-cons w k 0 hk, drop_of_length-le s h)
+module _ (s : List ℕ) (at : ℕ) (w : List ℕ) {t : Bool} (e : t ≡ starts_with eqb (between at (length s) s) w) where
+  rest : between at (length s) s ≡ drop at s
+  rest = between_to_end s at (length s) (omega arith)
 
-    module _ (hi : i < length s) where
-      step : after (drop k w) (drop i s) ≡ cond (eqb (get_or s i 0) (get_or w k 0)) (after (drop (k + 1) w) (drop (i + 1) s)) None
-      unfolding after
-      step = rw (add-one k, add-one i, drop-cons w k 0 hk, drop-cons s i 0 hi)
+  pub word_there : t ≡ true → length w ≤ length (between at (length s) s) → at ≤ length s → Ends s (Some (at + length w)) (after w (drop at s))
+  word_there h l k = let room = rw (rest, length-drop) at l in
+      (after_is w (drop at s) ∙ rw (← rest, ← e, h, rest, drop-drop), omega arith)
 
-      pub word_other : (get_or s i 0 ≡ get_or w k 0 → ⊥) → o ≡ None
-      word_other h = e ∙ simp (step, ne_eqb _ _ h)
-
-      pub word_more : get_or s i 0 ≡ get_or w k 0 → o ≡ after (drop (k + 1) w) (drop (i + 1) s)
-      word_more h = e ∙ simp (step, eq-eqb _ _ h)
+  pub word_other : t ≡ false → after w (drop at s) ≡ None
+  word_other h = after_is w (drop at s) ∙ rw (← rest, ← e, h)

@@ -2,7 +2,7 @@
 use Rattle.std.specs.Prelude.{Option, Some, None}
 use Prim.Native.Nat.{ℕ, ◌+◌, ◌-◌, ◌≤◌, ◌<◌}
 use native.Mathlib.Omega.{arith}
-use mathlib.Core.Path.{◌≡◌, ◌∙◌}
+use mathlib.Core.Path.{◌≡◌, sym, ◌∙◌}
 use mathlib.Core.List.{List, [], ◌∷◌}
 use lib.ListN.{length, drop, length-drop}
 use Rattle.ascii.specs.Text.{bytes}
@@ -20,24 +20,22 @@ module _ {s : List ℕ} {at b : ℕ} (x : ByteAt s at b) (r : Option ℕ) where
   unfolding scalar bytes
   scalar_string h k = simp (is_byte x h, tail_drop, rest_giving) k
 
-  module _ (n1 : b ≡ 34 → ⊥) where
-    pub scalar_null : b ≡ 110 → Ends s r (after (110 ∷ 117 ∷ 108 ∷ 108 ∷ []) (drop at s)) → Ends s r (rest (scalar (drop at s)))
-    unfolding scalar bytes
-    scalar_null h k = simp (no_byte x n1, is_byte x h, rest_giving) k
+  pub scalar_null : b ≡ 110 → Ends s r (after (110 ∷ 117 ∷ 108 ∷ 108 ∷ []) (drop at s)) → Ends s r (rest (scalar (drop at s)))
+  unfolding scalar bytes
+  scalar_null h k = simp (sym x.is ∙ h, rest_giving) k
 
-    module _ (n2 : b ≡ 110 → ⊥) where
-      pub scalar_true : b ≡ 116 → Ends s r (after (116 ∷ 114 ∷ 117 ∷ 101 ∷ []) (drop at s)) → Ends s r (rest (scalar (drop at s)))
-      unfolding scalar bytes
-      scalar_true h k = simp (no_byte x n1, no_byte x n2, is_byte x h, rest_giving) k
+  pub scalar_true : b ≡ 116 → Ends s r (after (116 ∷ 114 ∷ 117 ∷ 101 ∷ []) (drop at s)) → Ends s r (rest (scalar (drop at s)))
+  unfolding scalar bytes
+  scalar_true h k = simp (sym x.is ∙ h, rest_giving) k
 
-      module _ (n3 : b ≡ 116 → ⊥) where
-        pub scalar_false : b ≡ 102 → Ends s r (after (102 ∷ 97 ∷ 108 ∷ 115 ∷ 101 ∷ []) (drop at s)) → Ends s r (rest (scalar (drop at s)))
-        unfolding scalar bytes
-        scalar_false h k = simp (no_byte x n1, no_byte x n2, no_byte x n3, is_byte x h, rest_giving) k
+  pub scalar_false : b ≡ 102 → Ends s r (after (102 ∷ 97 ∷ 108 ∷ 115 ∷ 101 ∷ []) (drop at s)) → Ends s r (rest (scalar (drop at s)))
+  unfolding scalar bytes
+  scalar_false h k = simp (sym x.is ∙ h, rest_giving) k
 
-        pub scalar_number : (b ≡ 102 → ⊥) → Ends s r (number (drop at s)) → Ends s r (rest (scalar (drop at s)))
-        unfolding scalar bytes
-        scalar_number h k = simp (no_byte x n1, no_byte x n2, no_byte x n3, no_byte x h, rest_giving) k
+  pub scalar_number :
+      (b ≡ 34 → ⊥) → (b ≡ 110 → ⊥) → (b ≡ 116 → ⊥) → (b ≡ 102 → ⊥) → Ends s r (number (drop at s)) → Ends s r (rest (scalar (drop at s)))
+  unfolding scalar bytes
+  scalar_number n1 n2 n3 n4 k = simp (no_byte x n1, no_byte x n2, no_byte x n3, no_byte x n4, rest_giving) k
 
 -- ## Arrays
 
@@ -72,8 +70,8 @@ module _ (s : List ℕ) (o : Option (List ℕ)) (d n i : ℕ) (e : o ≡ rest (i
         pub items_other : (b ≡ 44 → ⊥) → o ≡ None
         items_other g = e ∙ simp (items_rest (value d) n (drop i s) h, (rw z at k).0, no_byte x q, no_byte x g)
 
-        pub items_more : b ≡ 44 → o ≡ rest (items (value d) (n - 1) (drop (j + 1) s))
-        items_more g = e ∙ simp (items_rest (value d) n (drop i s) h, (rw z at k).0, no_byte x q, is_byte x g, tail_drop)
+        pub items_more : (m : ℕ) → m ≡ n - 1 → b ≡ 44 → o ≡ rest (items (value d) m (drop (j + 1) s))
+        items_more m y g = rw y (e ∙ simp (items_rest (value d) n (drop i s) h, (rw z at k).0, no_byte x q, is_byte x g, tail_drop))
 
 -- ## Objects
 
@@ -118,8 +116,8 @@ module _ (s : List ℕ) (o : Option (List ℕ)) (d n i : ℕ) (e : o ≡ rest (m
           pub members_other : (b ≡ 44 → ⊥) → o ≡ None
           members_other f = e ∙ simp (members_rest (value d) n (drop i s) h, (rw z at k).0, (rw z2 at k2).0, no_byte x g, no_byte x f)
 
-          pub members_more : b ≡ 44 → o ≡ rest (members (value d) (n - 1) (drop (j + 1) s))
-          members_more f = e ∙ simp (members_rest (value d) n (drop i s) h, (rw z at k).0, (rw z2 at k2).0, no_byte x g, is_byte x f, tail_drop)
+          pub members_more : (m : ℕ) → m ≡ n - 1 → b ≡ 44 → o ≡ rest (members (value d) m (drop (j + 1) s))
+          members_more m y f = rw y (e ∙ simp (members_rest (value d) n (drop i s) h, (rw z at k).0, (rw z2 at k2).0, no_byte x g, is_byte x f, tail_drop))
 
 -- ## Values
 
@@ -135,12 +133,11 @@ module _ (s : List ℕ) (at : ℕ) (r : Option ℕ) where
     pub bare_array : b ≡ 91 → Ends s r (rest (array_end (value (d - 1)) (drop (at + 1) s))) → Ends s r (rest (bare d (drop at s)))
     bare_array h k = simp (bare_rest d (drop at s) deep, is_byte x h, tail_drop) k
 
-    module _ (g : b ≡ 91 → ⊥) where
-      pub bare_object : b ≡ 123 → Ends s r (rest (object_end (value (d - 1)) (drop (at + 1) s))) → Ends s r (rest (bare d (drop at s)))
-      bare_object h k = simp (bare_rest d (drop at s) deep, no_byte x g, is_byte x h, tail_drop) k
+    pub bare_object : b ≡ 123 → Ends s r (rest (object_end (value (d - 1)) (drop (at + 1) s))) → Ends s r (rest (bare d (drop at s)))
+    bare_object h k = simp (bare_rest d (drop at s) deep, sym x.is ∙ h, tail_drop) k
 
-      pub bare_scalar : (b ≡ 123 → ⊥) → Ends s r (rest (scalar (drop at s))) → Ends s r (rest (bare d (drop at s)))
-      bare_scalar h k = simp (bare_rest d (drop at s) deep, no_byte x g, no_byte x h) k
+    pub bare_scalar : (b ≡ 91 → ⊥) → (b ≡ 123 → ⊥) → Ends s r (rest (scalar (drop at s))) → Ends s r (rest (bare d (drop at s)))
+    bare_scalar g h k = simp (bare_rest d (drop at s) deep, no_byte x g, no_byte x h) k
 
 module _ (s : List ℕ) (at d p : ℕ) (l : Left s p (skip (drop at s))) (r : Option ℕ) (k : Ends s r (rest (bare d (drop p s)))) where
   pub value_bad : r ≡ None → rest (value d (drop at s)) ≡ None

@@ -11,12 +11,12 @@ fn width(s: &[u8], at: usize) -> usize
     ensures { (result ≡ extra (head (drop at s.now)) (tail (drop at s.now)) + 1) × (result ≤ 6) }
 {
     if byte(s, at) != b'\\' {
-        return 1;
+        1
+    } else if byte(s, at + 1) == b'u' {
+        6
+    } else {
+        2
     }
-    if byte(s, at + 1) == b'u' {
-        return 6;
-    }
-    2
 }
 
 pub fn count(s: &[u8]) -> usize
@@ -32,20 +32,16 @@ pub fn count(s: &[u8]) -> usize
 }
 
 // A byte other than a hexadecimal digit has a value too, so that every string has its characters.
+#[tactic(auto, unfolding(crate::specs::Characters::hex_digit))]
 fn hex_digit(b: u8) -> usize
     ensures { (result ≡ hex_digit b) × (result ≤ 255) }
 {
-    let n = b as usize;
-    if 97 <= n {
-        return n - 87;
+    let n = usize::from(b);
+    match b {
+        b'a'..=255 => n - 87,
+        b'A'..=b'`' => n - 55,
+        _ => n.saturating_sub(48),
     }
-    if 65 <= n {
-        return n - 55;
-    }
-    if 48 <= n {
-        return n - 48;
-    }
-    0
 }
 
 // The number n with one more digit, if one stands at a position.
@@ -53,10 +49,10 @@ fn with_digit(n: usize, s: &[u8], at: usize) -> usize
     requires { n ≤ 100000 }
     ensures { (result ≡ hex_from n (take 1 (drop at s.now))) × (result ≤ n * 16 + 255) }
 {
-    if s.len() <= at {
-        return n;
+    match s.get(at) {
+        Some(b) => n * 16 + hex_digit(*b),
+        None => n,
     }
-    n * 16 + hex_digit(s[at])
 }
 
 fn hex_value(s: &[u8], at: usize) -> usize
@@ -74,15 +70,14 @@ fn escaped_at(s: &[u8], at: usize) -> usize
     requires { at ≤ length s.now }
     ensures { result ≡ escaped (drop at s.now) }
 {
-    let b = byte(s, at);
-    match b {
+    match byte(s, at) {
         b'u' => hex_value(s, at + 1),
         b'b' => 8,
         b'f' => 12,
         b'n' => 10,
         b'r' => 13,
         b't' => 9,
-        _ => b as usize,
+        b => usize::from(b),
     }
 }
 
@@ -90,11 +85,10 @@ fn character_at(s: &[u8], at: usize) -> usize
     requires { at < length s.now }
     ensures { result ≡ character (head (drop at s.now)) (tail (drop at s.now)) }
 {
-    let b = byte(s, at);
-    if b == b'\\' {
-        return escaped_at(s, at + 1);
+    match byte(s, at) {
+        b'\\' => escaped_at(s, at + 1),
+        b => usize::from(b),
     }
-    b as usize
 }
 
 // Whether each character is within 0 to 127.

@@ -2,31 +2,16 @@
 ghost use Rattle.std.specs.Prelude.{◌≡◌, ◌≤◌, length, drop};
 ghost use Rattle.ascii.specs.Bytes.{after, is_some};
 ghost use Rattle.ascii.specs.Clauses.Reader.{Left, Ends, rest};
-ghost use Rattle.json_text.specs.Json.{is_hex, is_escape, hex, hex4, escape, char, string_end, skip, scalar, array_end, key, object_end, bare, value, text};
+ghost use Rattle.json_text.specs.Json.{is_escape, hex, hex4, escape, char, string_end, skip, scalar, array_end, key, object_end, bare, value, text};
 
-use ascii::{byte, is_in, is_printable};
+use ascii::{byte, is_printable};
 use decimal::token::number_end;
 use limits::JSON_LEVELS;
-
-fn is_hex(b: u8) -> bool
-    ensures { result ≡ is_hex b }
-{
-    if is_in(b'0', b'9', b) {
-        return true;
-    }
-    if is_in(b'A', b'F', b) {
-        return true;
-    }
-    is_in(b'a', b'f', b)
-}
 
 fn is_escape(b: u8) -> bool
     ensures { result ≡ is_escape b }
 {
-    match b {
-        b'"' | b'/' | b'\\' | b'b' | b'f' | b'n' | b'r' | b't' => true,
-        _ => false,
-    }
+    matches!(b, b'"' | b'/' | b'\\' | b'b' | b'f' | b'n' | b'r' | b't')
 }
 
 // Past the spaces at a position.
@@ -45,25 +30,20 @@ fn hex_end(s: &[u8], at: usize) -> Option<usize>
     requires { at ≤ length s.now }
     ensures { Ends s.now result (hex (drop at s.now)) }
 {
-    if is_hex(byte(s, at)) {
-        return Some(at + 1);
+    if byte(s, at).is_ascii_hexdigit() {
+        Some(at + 1)
+    } else {
+        None
     }
-    None
 }
 
 fn hex4_end(s: &[u8], at: usize) -> Option<usize>
     requires { at ≤ length s.now }
     ensures { Ends s.now result (hex4 (drop at s.now)) }
 {
-    let Some(i) = hex_end(s, at) else {
-        return None;
-    };
-    let Some(j) = hex_end(s, i) else {
-        return None;
-    };
-    let Some(k) = hex_end(s, j) else {
-        return None;
-    };
+    let i = hex_end(s, at)?;
+    let j = hex_end(s, i)?;
+    let k = hex_end(s, j)?;
     hex_end(s, k)
 }
 
@@ -72,14 +52,11 @@ fn escape_end(s: &[u8], at: usize) -> Option<usize>
     requires { at ≤ length s.now }
     ensures { Ends s.now result (escape (drop at s.now)) }
 {
-    let b = byte(s, at);
-    if b == b'u' {
-        return hex4_end(s, at + 1);
+    match byte(s, at) {
+        b'u' => hex4_end(s, at + 1),
+        b if is_escape(b) => Some(at + 1),
+        _ => None,
     }
-    if is_escape(b) {
-        return Some(at + 1);
-    }
-    None
 }
 
 // Past one character of a string.
@@ -87,14 +64,11 @@ fn char_end(s: &[u8], at: usize) -> Option<usize>
     requires { at ≤ length s.now }
     ensures { Ends s.now result (char (drop at s.now)) }
 {
-    let b = byte(s, at);
-    if b == b'\\' {
-        return escape_end(s, at + 1);
+    match byte(s, at) {
+        b'\\' => escape_end(s, at + 1),
+        b if is_printable(b) => Some(at + 1),
+        _ => None,
     }
-    if is_printable(b) {
-        return Some(at + 1);
-    }
-    None
 }
 
 // Past a string, at the byte after its opening quote.
@@ -103,16 +77,11 @@ pub fn string_end(s: &[u8], at: usize) -> Option<usize>
     ensures { Ends s.now result (string_end (drop at s.now)) }
 {
     let mut i = at;
-    let mut left = s.len() - at;
-    while 0 < left {
+    for _ in at..s.len() {
         if byte(s, i) == b'"' {
             return Some(i + 1);
         }
-        let Some(e) = char_end(s, i) else {
-            return None;
-        };
-        i = e;
-        left -= 1;
+        i = char_end(s, i)?;
     }
     None
 }
@@ -122,19 +91,11 @@ fn word_end(s: &[u8], at: usize, w: &[u8]) -> Option<usize>
     requires { at ≤ length s.now }
     ensures { Ends s.now result (after w.now (drop at s.now)) }
 {
-    let mut i = at;
-    let mut k = 0;
-    while k < w.len() {
-        if s.len() <= i {
-            return None;
-        }
-        if s[i] != w[k] {
-            return None;
-        }
-        i += 1;
-        k += 1;
+    if s[at..].starts_with(w) {
+        Some(at + w.len())
+    } else {
+        None
     }
-    Some(i)
 }
 
 // Past a value that is neither an array nor an object.
@@ -142,20 +103,13 @@ pub fn scalar_end(s: &[u8], at: usize) -> Option<usize>
     requires { at ≤ length s.now }
     ensures { Ends s.now result (rest (scalar (drop at s.now))) }
 {
-    let b = byte(s, at);
-    if b == b'"' {
-        return string_end(s, at + 1);
+    match byte(s, at) {
+        b'"' => string_end(s, at + 1),
+        b'n' => word_end(s, at, b"null"),
+        b't' => word_end(s, at, b"true"),
+        b'f' => word_end(s, at, b"false"),
+        _ => number_end(s, at),
     }
-    if b == b'n' {
-        return word_end(s, at, b"null");
-    }
-    if b == b't' {
-        return word_end(s, at, b"true");
-    }
-    if b == b'f' {
-        return word_end(s, at, b"false");
-    }
-    number_end(s, at)
 }
 
 // Past the values of an array, at the byte after its '['.
@@ -169,11 +123,8 @@ fn array_end(s: &[u8], at: usize, depth: usize) -> Option<usize>
         return Some(first + 1);
     }
     let mut i = at;
-    let mut left = s.len() - at;
-    while 0 < left {
-        let Some(e) = value_end(s, i, depth) else {
-            return None;
-        };
+    for _ in at..s.len() {
+        let e = value_end(s, i, depth)?;
         let b = byte(s, e);
         if b == b']' {
             return Some(e + 1);
@@ -182,7 +133,6 @@ fn array_end(s: &[u8], at: usize, depth: usize) -> Option<usize>
             return None;
         }
         i = e + 1;
-        left -= 1;
     }
     None
 }
@@ -196,14 +146,13 @@ pub fn key_end(s: &[u8], at: usize) -> Option<usize>
     if byte(s, i) != b'"' {
         return None;
     }
-    let Some(e) = string_end(s, i + 1) else {
-        return None;
-    };
+    let e = string_end(s, i + 1)?;
     let c = spaces_end(s, e);
-    if byte(s, c) != b':' {
-        return None;
+    if byte(s, c) == b':' {
+        Some(c + 1)
+    } else {
+        None
     }
-    Some(c + 1)
 }
 
 // Past the members of an object, at the byte after its '{'.
@@ -217,14 +166,9 @@ fn object_end(s: &[u8], at: usize, depth: usize) -> Option<usize>
         return Some(first + 1);
     }
     let mut i = at;
-    let mut left = s.len() - at;
-    while 0 < left {
-        let Some(v) = key_end(s, i) else {
-            return None;
-        };
-        let Some(e) = value_end(s, v, depth) else {
-            return None;
-        };
+    for _ in at..s.len() {
+        let v = key_end(s, i)?;
+        let e = value_end(s, v, depth)?;
         let b = byte(s, e);
         if b == b'}' {
             return Some(e + 1);
@@ -233,7 +177,6 @@ fn object_end(s: &[u8], at: usize, depth: usize) -> Option<usize>
             return None;
         }
         i = e + 1;
-        left -= 1;
     }
     None
 }
@@ -247,14 +190,11 @@ fn bare_end(s: &[u8], at: usize, depth: usize) -> Option<usize>
     if depth == 0 {
         return scalar_end(s, at);
     }
-    let b = byte(s, at);
-    if b == b'[' {
-        return array_end(s, at + 1, depth - 1);
+    match byte(s, at) {
+        b'[' => array_end(s, at + 1, depth - 1),
+        b'{' => object_end(s, at + 1, depth - 1),
+        _ => scalar_end(s, at),
     }
-    if b == b'{' {
-        return object_end(s, at + 1, depth - 1);
-    }
-    scalar_end(s, at)
 }
 
 // Past a value and the spaces around it.
@@ -263,9 +203,7 @@ pub fn value_end(s: &[u8], at: usize, depth: usize) -> Option<usize>
     requires { at ≤ length s.now }
     ensures { Ends s.now result (rest (value depth (drop at s.now))) }
 {
-    let Some(e) = bare_end(s, spaces_end(s, at), depth) else {
-        return None;
-    };
+    let e = bare_end(s, spaces_end(s, at), depth)?;
     Some(spaces_end(s, e))
 }
 
@@ -273,8 +211,5 @@ pub fn value_end(s: &[u8], at: usize, depth: usize) -> Option<usize>
 pub fn is_text(s: &[u8]) -> bool
     ensures { result ≡ is_some (text s.now) }
 {
-    let Some(e) = value_end(s, 0, JSON_LEVELS) else {
-        return false;
-    };
-    s.len() - e == 0
+    value_end(s, 0, JSON_LEVELS) == Some(s.len())
 }

@@ -1,4 +1,4 @@
--- `json::counts_never_cut` promises the theorem of `Enough`. Assumes nothing.
+-- `json_text::counts_never_cut` promises the theorem of `Enough`. Assumes nothing.
 use mathlib.Core.Path.{refl}
 use Rattle.json_text.proofs.Enough.{string_enough, items_enough, members_enough}
 use Rattle.json_text.proofs.counts_never_cut.Goals as goal

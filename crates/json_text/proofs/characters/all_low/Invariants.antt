@@ -1,4 +1,4 @@
--- `json::characters::all_low` meets its contract: all are low if those from `i` on are. Assumes nothing.
+-- `json_text::characters::all_low` meets its contract: all are low if those from `i` on are. Assumes nothing.
 use Prim.Native.Nat.{◌+◌, ◌-◌, ◌≤◌}
 use mathlib.Core.Path.{◌≡◌}
 use lib.ListN.{length, drop}

@@ -1,4 +1,4 @@
--- `json::characters::count` meets its contract: `n` characters were counted, and those from `i` on are to come. Assumes nothing.
+-- `json_text::characters::count` meets its contract: `n` characters were counted, and those from `i` on are to come. Assumes nothing.
 use Prim.Native.Nat.{◌+◌, ◌-◌, ◌≤◌}
 use mathlib.Core.Path.{◌≡◌}
 use lib.ListN.{length, drop}

@@ -1,4 +1,4 @@
--- `json::characters::escaped_at` meets its contract. Assumes nothing.
+-- `json_text::characters::escaped_at` meets its contract. Assumes nothing.
 use Rattle.json_text.proofs.Escapes.{escaped_u, escaped_b, escaped_f, escaped_n, escaped_r, escaped_t, escaped_other}
 use Rattle.json_text.proofs.characters.escaped_at.Goals as goal
 
@@ -21,4 +21,4 @@ pub returns-in-116 : goal.returns-in-116
 returns-in-116 c = search escaped_t
 
 pub returns-in_default : goal.returns-in_default
-returns-in_default c = search escaped_other
+returns-in_default c = rw c.from.ensures (search escaped_other)

@@ -1,4 +1,4 @@
--- `json::characters::hex_value` meets its contract. Assumes nothing.
+-- `json_text::characters::hex_value` meets its contract. Assumes nothing.
 use Rattle.json_text.proofs.Escapes.{hex_value}
 use Rattle.json_text.proofs.characters.hex_value.Goals as goal
 

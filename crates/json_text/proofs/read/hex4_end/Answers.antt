@@ -1,25 +1,15 @@
--- `json::read::hex4_end` meets its contract. Assumes nothing.
+-- `json_text::read::hex4_end` meets its contract. Assumes nothing.
 use Rattle.json_text.proofs.Strings.{hex4_bad, hex4_bad_2, hex4_bad_3, hex4_more}
-use Rattle.ascii.proofs.Bytes.{ended_within}
 use Rattle.json_text.proofs.read.hex4_end.Goals as goal
 
-pub returns-in_default : goal.returns-in_default
-returns-in_default c = search hex4_bad
+pub returns-in_err-i : goal.returns-in_err-i
+returns-in_err-i c = rw c.from_residual.ensures (search (hex4_bad, c.in_err-i.was))
 
-pub hex_end-requires-2 : goal.hex_end-requires-2
-hex_end-requires-2 c = search ended_within
+pub returns-in_err-j : goal.returns-in_err-j
+returns-in_err-j c = rw c.from_residual-in_err-j.ensures (search (hex4_bad_2, c.in_ok-i.was, c.in_err-j.was))
 
-pub returns-in_default-hex_end : goal.returns-in_default-hex_end
-returns-in_default-hex_end c = search hex4_bad_2
-
-pub hex_end-requires-3 : goal.hex_end-requires-3
-hex_end-requires-3 c = search ended_within
-
-pub returns-in_default-hex_end-2 : goal.returns-in_default-hex_end-2
-returns-in_default-hex_end-2 c = search hex4_bad_3
-
-pub hex_end-requires-4 : goal.hex_end-requires-4
-hex_end-requires-4 c = search ended_within
+pub returns-in_err-k : goal.returns-in_err-k
+returns-in_err-k c = rw c.from_residual-in_err-k.ensures (search (hex4_bad_3, c.in_ok-i.was, c.in_ok-j.was, c.in_err-k.was))
 
 pub returns : goal.returns
-returns c = search hex4_more
+returns c = search (hex4_more, c.in_ok-i.was, c.in_ok-j.was, c.in_ok-k.was)

@@ -1,4 +1,4 @@
--- `json::read::spaces_end` meets its contract: what `skip` leaves from `i` on is what it leaves from `at` on. Assumes nothing.
+-- `json_text::read::spaces_end` meets its contract: what `skip` leaves from `i` on is what it leaves from `at` on. Assumes nothing.
 use Prim.Native.Nat.{◌≤◌, ◌-◌}
 use mathlib.Core.Path.{◌≡◌}
 use lib.ListN.{length, drop}

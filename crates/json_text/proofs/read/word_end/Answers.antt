@@ -1,19 +1,11 @@
-use native.Mathlib.Omega.{arith}
-use mathlib.Core.Path.{refl}
-use Rattle.json_text.proofs.Strings.{word_end, word_short, word_other, word_more}
+-- `json_text::read::word_end` meets its contract. Assumes nothing.
+use Rattle.json_text.proofs.Strings.{word_there, word_other}
 use Rattle.json_text.proofs.read.word_end.Goals as goal
 
-pub loop-k-init : goal.loop-k-init
-loop-k-init c = (omega arith, omega arith, refl)
+pub returns-then-starts_with : goal.returns-then-starts_with
+returns-then-starts_with c =
+    let word = c.starts_with.ensures in
+    word_there c.args.s.now c.args.at c.args.w.now word.value c.if-starts_with.true (word.bound c.if-starts_with.true) c.requires
 
-pub returns-then-s-i : goal.returns-then-s-i
-returns-then-s-i c = search word_short
-
-pub returns-then-s-i-2 : goal.returns-then-s-i-2
-returns-then-s-i-2 c = search word_other
-
-pub loop-k-preserved : goal.loop-k-preserved
-loop-k-preserved c = (omega arith, omega arith, search word_more)
-
-pub returns : goal.returns
-returns c = search word_end
+pub returns-else-starts_with : goal.returns-else-starts_with
+returns-else-starts_with c = word_other c.args.s.now c.args.at c.args.w.now c.starts_with.ensures.value c.if-starts_with.false
