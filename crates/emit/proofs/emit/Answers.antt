@@ -5,5 +5,5 @@ use Rattle.emit.proofs.emit.Goals as goal
 pub put-requires : goal.put-requires
 put-requires c = search has_room
 
-pub returns : goal.returns
-returns c = search left_out_lem
+pub returns-else-has_room : goal.returns-else-has_room
+returns-else-has_room c = search left_out_lem

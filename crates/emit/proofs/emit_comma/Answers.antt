@@ -7,5 +7,5 @@ use Rattle.emit.proofs.emit_comma.Goals as goal
 pub returns-then-first : goal.returns-then-first
 returns-then-first c = comma_none _ _ _ (omega arith) (search rules)
 
-pub returns : goal.returns
-returns c = search comma_some
+pub returns-else-first : goal.returns-else-first
+returns-else-first c = search comma_some

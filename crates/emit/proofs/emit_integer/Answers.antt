@@ -10,5 +10,5 @@ put_integer-requires c = search has_room
 pub returns-then-has_room : goal.returns-then-has_room
 returns-then-has_room c = integer_in _ (omega arith) _ _ _ _ (omega arith) (search has_room) (search rules)
 
-pub returns : goal.returns
-returns c = search integer_out
+pub returns-else-has_room : goal.returns-else-has_room
+returns-else-has_room c = search integer_out
