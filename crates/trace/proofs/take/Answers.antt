@@ -29,13 +29,13 @@ pub loop-used-preserved : goal.loop-used-preserved
 loop-used-preserved c = goes_further c.loop-used.invariant c.loop-used-test.true c.judge-found.ensures c.in-More.is
 
 pub returns-in-Wrong : goal.returns-in-Wrong
-returns-in-Wrong c = rw c.taken_so.ensures (is_wrong c.loop-used.invariant c.loop-used-test.true c.judge-found.ensures c.args.reader
+returns-in-Wrong c = (is_wrong c.loop-used.invariant c.loop-used-test.true c.judge-found.ensures c.args.reader
     (begins_so c.args.reader c.if-reader.false) c.in-Wrong.is)
 
 pub returns-in-Whole : goal.returns-in-Whole
-returns-in-Whole c = rw c.taken_so-in-Whole.ensures (is_whole c.loop-used.invariant c.loop-used-test.true c.judge-found.ensures c.args.reader
-    (begins_so c.args.reader c.if-reader.false) _ _ c.in-Whole.is c.plus-next.ensures)
+returns-in-Whole c = (is_whole c.loop-used.invariant c.loop-used-test.true c.judge-found.ensures c.args.reader
+    (begins_so c.args.reader c.if-reader.false) _ _ c.in-Whole.is c.plus.ensures)
 
 pub returns : goal.returns
-returns c = rw c.taken_so-2.ensures (all_used c.loop-used.invariant c.args.reader
+returns c = (all_used c.loop-used.invariant c.args.reader
     (begins_so c.args.reader c.if-reader.false) c.loop-used-test.false)
