@@ -1,7 +1,7 @@
 // Reading from whatever gives bytes.
 #![tactic(auto)]
 
-ghost use Rattle.std.specs.Prelude.{◌≤◌, ◌<◌, IfOk, length, take};
+ghost use Rattle.std.specs.Prelude.{◌≡◌, ◌≤◌, ◌<◌, ◌⊎◌, [], ◌∷◌, IfOk, length, take};
 ghost use Rattle.std.specs.Io.KnownBytes.{Consumes, IsAtEnd};
 
 use std::io;
@@ -26,8 +26,10 @@ pub fn read_full<R: Read>(input: &mut R, space: &mut [u8]) -> io::Result<usize>
 }
 
 // The next byte, or 0 at the end of the input.
-pub fn read_byte<R: Read>(input: &mut R) -> io::Result<u8> {
-    let mut space = [0u8; 1];
-    read_full(input, &mut space)?;
-    Ok(space[0])
+pub fn read_byte<R: Read>(input: &mut R) -> io::Result<u8>
+    ensures byte { IfOk result (λ b. Consumes (R.remaining input.old) (R.remaining input.new) (b ∷ []) ⊎ (Consumes (R.remaining input.old) (R.remaining input.new) [] × IsAtEnd (R.remaining input.new) × (b ≡ 0))) }
+{
+    let mut space = [0; 1];
+    let n = read_full(input, &mut space)?;
+    if n == 0 { Ok(0) } else { Ok(space[0]) }
 }
