@@ -13,7 +13,7 @@
 //   w        the values area has the bytes from the place number on
 //   E        write the state, with so many parameters
 //   N        write the bytes as a line
-ghost use Rattle.std.specs.Prelude.{◌≡◌, ◌⊎◌, ◌≤◌, IfOk, get_or};
+ghost use Rattle.std.specs.Prelude.{◌≡◌, ◌⊎◌, ◌≤◌, IfOk, length, get_or};
 ghost use Rattle.script.specs.Clauses.Head.{number_at, FromHead};
 
 use ascii::numbers::unsigned;
@@ -32,34 +32,29 @@ pub struct Operation {
     pub size: usize,
 }
 
-fn number_at(head: &[u8; 23], at: usize, k: usize) -> u64
-    requires { (at ≤ 23) × (k ≤ 8) }
-    ensures { result ≡ number_at head.now at k }
+// The number of k bytes at a place, 0 where they are not all there.
+fn number_at(bytes: &[u8], at: usize, k: usize) -> u64
+    requires { (at ≤ length bytes.now) × (k ≤ 8) }
+    ensures { result ≡ number_at bytes.now at k }
 {
-    let Some((n, _)) = unsigned(head, at, k) else {
-        return 0;
-    };
-    n
+    match unsigned(bytes, at, k) {
+        Some((n, _)) => n,
+        None => 0,
+    }
 }
 
 // The class of an error, by an operation's bytes.
 pub fn class_of(bytes: &[u8]) -> u64
     ensures { result ≡ number_at bytes.now 0 8 }
 {
-    let Some((n, _)) = unsigned(bytes, 0, 8) else {
-        return 0;
-    };
-    n
+    number_at(bytes, 0, 8)
 }
 
 // The code of a head of which so many bytes were read.
 fn code_of(head: &[u8; 23], count: usize) -> u8
     ensures { (result ≡ 0) ⊎ (result ≡ get_or head.now 0 0) }
 {
-    if count == 23 {
-        return head[0];
-    }
-    0
+    if count == head.len() { head[0] } else { 0 }
 }
 
 // The next head, read into a lent buffer. Which bytes come from standard input no promise can say.

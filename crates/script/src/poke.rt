@@ -2,7 +2,7 @@
 ghost use Rattle.std.specs.Prelude.{◌≡◌};
 ghost use Rattle.promise.specs.Promise as Promise;
 ghost use Rattle.script.specs.Clauses.Within.{within};
-ghost use Rattle.script.specs.Clauses.Poke.{with_number, with_lines, with_length, with_time, with_error, with_counts, part_poked, poked_by};
+ghost use Rattle.script.specs.Clauses.Poke.{with_number, with_lines, with_length, with_time, with_error, with_counts, poked_by};
 
 use crate::operation::Operation;
 use ascii::write::put;
@@ -39,38 +39,25 @@ pub fn blank() -> State
 pub fn put_within(area: &mut [u8], place: u64, bytes: &[u8])
     ensures { area.new ≡ within area.old place bytes.now }
 {
-    let most = area.len();
-    if place > most as u64 {
-        return;
+    let size = area.len();
+    if place <= size as u64 && bytes.len() <= size - place as usize {
+        put(area, place as usize, bytes);
     }
-    let at = place as usize;
-    if most - at < bytes.len() {
-        return;
-    }
-    put(area, at, bytes);
 }
 
 fn with_number(s: Clients, code: u8, client: u64, value: u64) -> Clients
     ensures { result ≡ with_number s code client value }
 {
-    let mut next = s;
     if client > LAST_CLIENT {
         return s;
     }
     let c = client as usize;
+    let mut next = s;
     match code {
-        b'o' => {
-            next.open[c] = (value % 256) as u8;
-        }
-        b'v' => {
-            next.overlong[c] = (value % 256) as u8;
-        }
-        b'a' => {
-            next.active[c] = (value % 65536) as u16;
-        }
-        b'n' => {
-            next.length[c] = (value % 65536) as u16;
-        }
+        b'o' => next.open[c] = (value % 256) as u8,
+        b'v' => next.overlong[c] = (value % 256) as u8,
+        b'a' => next.active[c] = (value % 65536) as u16,
+        b'n' => next.length[c] = (value % 65536) as u16,
         _ => {}
     }
     next
@@ -80,9 +67,7 @@ fn with_lines(s: Clients, place: u64, bytes: &[u8]) -> Clients
     ensures { result ≡ with_lines s place bytes.now }
 {
     let mut next = s;
-    let mut lines = s.lines;
-    put_within(&mut lines, place, bytes);
-    next.lines = lines;
+    put_within(&mut next.lines, place, bytes);
     next
 }
 
@@ -129,67 +114,41 @@ fn with_counts(s: State, client: u64, value: u64) -> State
     if client > LAST_CLIENT {
         return s;
     }
-    let c = client as usize;
     let n = (value % 4294967296) as u32;
-    let clients = s.clients;
-    let settings = s.settings;
-    let mut counts = s.counts;
-    counts[c] = Counts {
+    let mut next = s;
+    next.counts[client as usize] = Counts {
         lines: n,
         errors: n,
         updates: n,
     };
-    State {
-        clients,
-        settings,
-        counts,
-    }
-}
-
-// The state with a change of its clients or its settings.
-fn poked_part(state: State, o: Operation, bytes: &[u8]) -> State
-    ensures { result ≡ part_poked state o bytes.now }
-{
-    let clients = state.clients;
-    let settings = state.settings;
-    let counts = state.counts;
-    let code = o.code;
-    match code {
-        b'z' => State {
-            clients,
-            settings: with_length(settings, o.number, o.time),
-            counts,
-        },
-        b't' => State {
-            clients,
-            settings: with_time(settings, o.number, o.time),
-            counts,
-        },
-        b'e' => State {
-            clients,
-            settings: with_error(settings, o.number, o.time),
-            counts,
-        },
-        b'l' => State {
-            clients: with_lines(clients, o.number, bytes),
-            settings,
-            counts,
-        },
-        _ => State {
-            clients: with_number(clients, code, o.number, o.time),
-            settings,
-            counts,
-        },
-    }
+    next
 }
 
 // The state with the change that an operation names.
 pub fn poked(state: State, o: Operation, bytes: &[u8]) -> State
     ensures { result ≡ poked_by state o bytes.now }
 {
-    let code = o.code;
-    if code == b'k' {
-        return with_counts(state, o.number, o.time);
+    match o.code {
+        b'k' => with_counts(state, o.number, o.time),
+        b'z' => State {
+            settings: with_length(state.settings, o.number, o.time),
+            ..state
+        },
+        b't' => State {
+            settings: with_time(state.settings, o.number, o.time),
+            ..state
+        },
+        b'e' => State {
+            settings: with_error(state.settings, o.number, o.time),
+            ..state
+        },
+        b'l' => State {
+            clients: with_lines(state.clients, o.number, bytes),
+            ..state
+        },
+        code => State {
+            clients: with_number(state.clients, code, o.number, o.time),
+            ..state
+        },
     }
-    poked_part(state, o, bytes)
 }

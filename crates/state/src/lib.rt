@@ -13,7 +13,7 @@ use limits::{ACCESSIBLES, CLIENTS, LINE};
 // Of each of the eight clients: whether it is open and inside an overlong line (0: no, anything else: yes), a bit for each active module
 // (the lowest for the first), the length of its unfinished line, and the lines, 1,024 bytes for each client.
 #[repr(C)]
-#[derive(Clone, Copy)]
+#[derive(Clone, Copy, PartialEq, Eq)]
 pub struct Clients {
     pub open: [u8; CLIENTS],
     pub overlong: [u8; CLIENTS],
@@ -34,7 +34,7 @@ pub struct Brief {
 // Of each parameter: the length of its stored value (0: never set), the class of the error in the value's place (0: none), and the time of the
 // value or of the error.
 #[repr(C)]
-#[derive(Clone, Copy)]
+#[derive(Clone, Copy, PartialEq, Eq)]
 pub struct Settings {
     pub length: [u16; ACCESSIBLES],
     pub error: [u8; ACCESSIBLES],
@@ -43,7 +43,7 @@ pub struct Settings {
 
 // Counts of each of the eight clients, of one that is closed too.
 #[repr(C)]
-#[derive(Clone, Copy)]
+#[derive(Clone, Copy, PartialEq, Eq)]
 pub struct State {
     pub clients: Clients,
     pub settings: Settings,

@@ -2,8 +2,8 @@
 use Rattle.script.proofs.Head.{number_short, number_read}
 use Rattle.script.proofs.operation.number_at.Goals as goal
 
-pub returns-in_default : goal.returns-in_default
-returns-in_default c = search number_short
+pub returns-in-Some : goal.returns-in-Some
+returns-in-Some c = search number_read
 
-pub returns : goal.returns
-returns c = search number_read
+pub returns-in-None : goal.returns-in-None
+returns-in-None c = search number_short

@@ -1,18 +1,14 @@
 -- `script::poke::put_within` meets its contract. Assumes nothing.
--- src/poke.rt:36:9
--- src/poke.rt:39:8
--- src/poke.rt:40:9
--- src/poke.rt:42:5
--- src/poke.rt:31:1
--- src/poke.rt:31:1
 use Rattle.script.proofs.Within.{within_past, within_over, within_put}
 use Rattle.script.proofs.poke.put_within.Goals as goal
+use Rattle.script.proofs.poke.put_within.Goals.{else-place-size-via-then-place-size+else-bytes-size, else-place-size-via-else-place-size}
 
-pub returns-then-place-most : goal.returns-then-place-most
-returns-then-place-most c = search within_past
+pub returns-then-bytes-size : goal.returns-then-bytes-size
+returns-then-bytes-size c = within_put _ _ _ c.if-place-size.true c.if-bytes-size.true c.put.ensures
 
-pub returns-then-most-at : goal.returns-then-most-at
-returns-then-most-at c = search within_over
-
-pub returns : goal.returns
-returns c = search within_put
+pub returns-else-place-size : goal.returns-else-place-size
+returns-else-place-size c =
+    elim c.else-place-size.branch [
+      | else-place-size-via-then-place-size+else-bytes-size w ↦ within_over _ _ _ w.if-place-size.true w.if-bytes-size.false
+      | else-place-size-via-else-place-size w ↦ within_past _ _ _ w.if-place-size.false
+    ]
