@@ -12,52 +12,30 @@ use limits::{DATAINFO_LEVELS, PLACE};
 use std::io;
 use std::io::{BufReader, BufWriter, Read, Write};
 
-fn number(high: u8, low: u8) -> usize {
-    high as usize * 256 + low as usize
-}
-
-// The buffer has room for the 256 bytes of a stored form, so the test passes.
-fn write_fit<W: Write>(
-    output: &mut W,
-    info: &[u8],
-    text: &[u8],
-    stored: &mut [u8],
-) -> io::Result<()>
+fn write_fit<W: Write>(output: &mut W, info: &[u8], text: &[u8]) -> io::Result<()>
     requires { FitsAt info.now 0 text.now }
 {
-    if PLACE <= stored.len() {
-        let n = form::put_form(info, 0, stored, 0, text);
-        output.write_all(b"fits ")?;
-        output.write_all(&stored[..n])?;
-        output.write_all(b"\n")?;
-    }
-    Ok(())
+    let mut stored = [0; PLACE];
+    let n = form::put_form(info, 0, &mut stored, 0, text);
+    output.write_all(b"fits ")?;
+    output.write_all(&stored[..n])?;
+    output.write_all(b"\n")
 }
 
-fn write_verdict<W: Write>(
-    output: &mut W,
-    info: &[u8],
-    text: &[u8],
-    stored: &mut [u8],
-) -> io::Result<()>
+fn write_verdict<W: Write>(output: &mut W, info: &[u8], text: &[u8]) -> io::Result<()>
     requires { ReadableAt info.now 0 4 }
 {
     match form::verdict(info, 0, text) {
-        Ok(()) => write_fit(output, info, text, stored),
+        Ok(()) => write_fit(output, info, text),
         Err(Misfit::RangeError) => output.write_all(b"RangeError\n"),
         Err(Misfit::WrongType) => output.write_all(b"WrongType\n"),
         Err(Misfit::BadJson) => output.write_all(b"BadJSON\n"),
     }
 }
 
-fn judge_case<W: Write>(
-    output: &mut W,
-    info: &[u8],
-    text: &[u8],
-    stored: &mut [u8],
-) -> io::Result<()> {
+fn judge_case<W: Write>(output: &mut W, info: &[u8], text: &[u8]) -> io::Result<()> {
     match datainfo::layout::datainfo_end(info, 0, DATAINFO_LEVELS) {
-        Some(_) => write_verdict(output, info, text, stored),
+        Some(_) => write_verdict(output, info, text),
         None => output.write_all(b"no datainfo\n"),
     }
 }
@@ -68,46 +46,28 @@ fn read_case<R: Read, W: Write>(
     output: &mut W,
     info: &mut [u8],
     text: &mut [u8],
-    stored: &mut [u8],
 ) -> io::Result<()> {
     read_full(input, info)?;
     read_full(input, text)?;
-    judge_case(output, info, text, stored)
+    judge_case(output, info, text)
 }
 
-// A case, read into lent buffers; whether there was one.
-fn case_in<R: Read, W: Write>(
-    input: &mut R,
-    output: &mut W,
-    head: &mut [u8],
-    info: &mut [u8],
-    text: &mut [u8],
-    stored: &mut [u8],
-) -> io::Result<bool> {
-    if head.len() < 4 {
-        return Ok(false);
-    }
-    if read_full(input, head)? < 4 {
-        return Ok(false);
-    }
-    let n = number(head[0], head[1]);
-    let m = number(head[2], head[3]);
-    if info.len() < n {
-        return Ok(false);
-    }
-    if text.len() < m {
-        return Ok(false);
-    }
-    read_case(input, output, &mut info[..n], &mut text[..m], stored)?;
-    Ok(true)
-}
-
+// A case; whether there was one for which the buffers have room.
 fn one_case<R: Read, W: Write>(input: &mut R, output: &mut W) -> io::Result<bool> {
-    let mut head = [0u8; 4];
-    let mut info = [0u8; 4096];
-    let mut text = [0u8; 4096];
-    let mut stored = [0u8; 4096];
-    case_in(input, output, &mut head, &mut info, &mut text, &mut stored)
+    let mut head = [0; 4];
+    let mut info = [0; 4096];
+    let mut text = [0; 4096];
+    if read_full(input, &mut head)? < head.len() {
+        return Ok(false);
+    }
+    let [a, b, c, d] = head;
+    let n = usize::from(u16::from_be_bytes([a, b]));
+    let m = usize::from(u16::from_be_bytes([c, d]));
+    if info.len() < n || text.len() < m {
+        return Ok(false);
+    }
+    read_case(input, output, &mut info[..n], &mut text[..m])?;
+    Ok(true)
 }
 
 // A proved loop has to end: there are far fewer cases.
