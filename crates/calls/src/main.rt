@@ -16,21 +16,13 @@ use state::State;
 use std::io;
 use std::io::{BufReader, BufWriter, Read, Write};
 
-// What is handed on from operation to operation: the lengths of the table and of the index that calls are lent, and the state. `more` says whether the
-// script may go on.
+// What is handed on from operation to operation: the lengths of the table and of the index that calls are lent, and the state. Nothing is handed on at the
+// script's end, and after an operation that the buffers have no room for.
 #[derive(Clone, Copy)]
 struct HandedOn {
-    more: bool,
     table: usize,
     index: usize,
     state: State,
-}
-
-fn is_call(code: u8) -> bool {
-    match code {
-        b'S' | b'O' | b'C' | b'P' | b'R' | b'U' => true,
-        _ => false,
-    }
 }
 
 // The call that an operation names.
@@ -43,8 +35,7 @@ fn call(
     bytes: &[u8],
     index: &[u8],
 ) -> Done {
-    let code = o.code;
-    match code {
+    match o.code {
         b'S' => jihfasul_start(table, values, o.time),
         b'O' => jihfasul_open(table, values, state, o.number, o.time, index),
         b'C' => jihfasul_close(table, values, state, o.number, o.time, index),
@@ -74,18 +65,13 @@ fn answered<W: Write>(
     bytes: &[u8],
     index: &[u8],
 ) -> io::Result<State> {
-    let most = o.values;
-    let room = o.outbox;
-    if values.len() < most {
-        return Ok(state);
-    }
-    if outbox.len() < room {
+    if values.len() < o.values || outbox.len() < o.outbox {
         return Ok(state);
     }
     let done = call(
         table,
-        &mut values[..most],
-        &mut outbox[..room],
+        &mut values[..o.values],
+        &mut outbox[..o.outbox],
         state,
         o,
         bytes,
@@ -107,32 +93,16 @@ fn carried_out<W: Write>(
     bytes: &[u8],
     index: &[u8],
 ) -> io::Result<State> {
-    let code = o.code;
-    if is_call(code) {
-        return answered(output, table, values, outbox, state, o, bytes, index);
+    match o.code {
+        b'S' | b'O' | b'C' | b'P' | b'R' | b'U' => {
+            return answered(output, table, values, outbox, state, o, bytes, index);
+        }
+        b'N' => write_note(output, bytes)?,
+        b'E' => write_state(output, state, o.number)?,
+        b'w' => put_within(values, o.number, bytes),
+        _ => return Ok(poked(state, o, bytes)),
     }
-    match code {
-        b'N' => {
-            write_note(output, bytes)?;
-            Ok(state)
-        }
-        b'E' => {
-            write_state(output, state, o.number)?;
-            Ok(state)
-        }
-        b'w' => {
-            put_within(values, o.number, bytes);
-            Ok(state)
-        }
-        _ => Ok(poked(state, o, bytes)),
-    }
-}
-
-// The script's end, or an operation that the buffers have no room for.
-fn ended(handed: HandedOn) -> HandedOn {
-    let mut last = handed;
-    last.more = false;
-    last
+    Ok(state)
 }
 
 // A table, read into a lent buffer.
@@ -141,24 +111,24 @@ fn with_table<R: Read>(
     table: &mut [u8],
     handed: HandedOn,
     size: usize,
-) -> io::Result<HandedOn> {
+) -> io::Result<Option<HandedOn>> {
     if table.len() < size {
-        return Ok(ended(handed));
+        return Ok(None);
     }
-    let mut next = handed;
-    next.table = read_full(input, &mut table[..size])?;
-    Ok(next)
+    let table = read_full(input, &mut table[..size])?;
+    Ok(Some(HandedOn { table, ..handed }))
 }
 
 // The index that calls are lent from here on, put into a lent buffer.
-fn with_index(index: &mut [u8], handed: HandedOn, bytes: &[u8]) -> HandedOn {
+fn with_index(index: &mut [u8], handed: HandedOn, bytes: &[u8]) -> Option<HandedOn> {
     if index.len() < bytes.len() {
-        return ended(handed);
+        return None;
     }
     put_within(index, 0, bytes);
-    let mut next = handed;
-    next.index = bytes.len();
-    next
+    Some(HandedOn {
+        index: bytes.len(),
+        ..handed
+    })
 }
 
 // Another operation, its bytes read into a lent buffer.
@@ -172,39 +142,25 @@ fn operate<R: Read, W: Write>(
     bytes: &mut [u8],
     handed: HandedOn,
     o: Operation,
-) -> io::Result<HandedOn> {
-    let size = o.size;
-    let held = handed.table;
-    let lent = handed.index;
-    if bytes.len() < size {
-        return Ok(ended(handed));
+) -> io::Result<Option<HandedOn>> {
+    if bytes.len() < o.size || table.len() < handed.table || index.len() < handed.index {
+        return Ok(None);
     }
-    if table.len() < held {
-        return Ok(ended(handed));
-    }
-    if index.len() < lent {
-        return Ok(ended(handed));
-    }
-    read_full(input, &mut bytes[..size])?;
+    read_full(input, &mut bytes[..o.size])?;
     if o.code == b'I' {
-        return Ok(with_index(index, handed, &bytes[..size]));
+        return Ok(with_index(index, handed, &bytes[..o.size]));
     }
     let state = carried_out(
         output,
-        &table[..held],
+        &table[..handed.table],
         values,
         outbox,
         handed.state,
         o,
-        &bytes[..size],
-        &index[..lent],
+        &bytes[..o.size],
+        &index[..handed.index],
     )?;
-    Ok(HandedOn {
-        more: true,
-        table: held,
-        index: lent,
-        state,
-    })
+    Ok(Some(HandedOn { state, ..handed }))
 }
 
 // The next operation. It is lent arrays, since a loop that lends slices has to keep account of their lengths.
@@ -218,11 +174,10 @@ fn step<R: Read, W: Write>(
     index: &mut [u8; 256],
     bytes: &mut [u8; 65536],
     handed: HandedOn,
-) -> io::Result<HandedOn> {
+) -> io::Result<Option<HandedOn>> {
     let o = read_operation(input, head)?;
-    let code = o.code;
-    match code {
-        0 => Ok(ended(handed)),
+    match o.code {
+        0 => Ok(None),
         b'T' => with_table(input, table, handed, o.size),
         _ => operate(
             input, output, table, values, outbox, index, bytes, handed, o,
@@ -242,16 +197,12 @@ fn main(rt: HostRuntime) -> io::Result<()> {
     let mut bytes = [0u8; 65536];
     fill(&mut outbox);
     let mut handed = HandedOn {
-        more: true,
         table: 0,
         index: 0,
         state: blank(),
     };
     for _ in 0..1000000u32 {
-        if !handed.more {
-            break;
-        }
-        handed = step(
+        let Some(next) = step(
             &mut input,
             &mut output,
             &mut head,
@@ -261,7 +212,11 @@ fn main(rt: HostRuntime) -> io::Result<()> {
             &mut index,
             &mut bytes,
             handed,
-        )?;
+        )?
+        else {
+            break;
+        };
+        handed = next;
     }
     output.flush()
 }
