@@ -1,5 +1,6 @@
 -- Laws of the members of an enum: sought by name, and a value that is one by its name or by its number. Assumes nothing.
-use Rattle.std.specs.Prelude.{Option, Some, None, Result, Ok, Err}
+use Rattle.std.specs.Prelude.{Option, Some, None, Result, Err}
+use Rattle.std.specs.Option.{is_some}
 use Prim.Native.Nat.{ℕ, ◌-◌, ◌≤◌, ◌<◌}
 use native.Mathlib.Omega.{arith}
 use mathlib.Core.Path.{◌≡◌, refl, sym, ap, ◌∙◌}
@@ -17,14 +18,14 @@ use Rattle.datainfo.specs.Datainfo.{Variant, enum}
 use Rattle.datainfo.specs.Clauses.Obeyed.{name_of}
 use Rattle.datainfo.specs.Layout.{counted, variants, enum_at}
 use Rattle.fit.specs.Fit.{in_range, expect, expect_or, as_string, member_number, fit}
-use Rattle.fit.specs.Clauses.Verdict.{Judges}
-use Rattle.fit.specs.Clauses.Walk.{Quoted, NumberOf}
+use Rattle.fit.specs.Clauses.Verdict.{meaning, Judges}
+use Rattle.fit.specs.Clauses.Walk.{Quoted, Answers, NumberOf}
 use Rattle.fit.proofs.Judged.{judges_of, same_read, same_left}
 use Rattle.fit.proofs.Shapes.{nothing, just, shape, tells_yes, tells_no, as_string_lem}
 use Rattle.fit.proofs.Objects.{name_reads}
 use Rattle.fit.proofs.Figures.{variants_some, enum_some, no_number}
 use Rattle.fit.specs.declared.Misfit.{Misfit}
-use Rattle.fit.specs.declared.Misfit.TheVariants.{RangeError, WrongType}
+use Rattle.fit.specs.declared.Misfit.TheVariants.{WrongType}
 
 -- ## The number of a member
 
@@ -102,14 +103,14 @@ module _ (s : List ℕ) (i : ℕ) (name : List ℕ) (member left : ℕ) (c : Num
 
 -- ## A member by its name
 
-module _ (xs t : List ℕ) (n : Option (ℤ × ℕ)) (g : NumberOf (enum_at xs) t n) where
-  pub named_none : n ≡ None → Judges (enum_at xs) (Some (Json.string t, [])) (Err RangeError)
-  unfolding fit expect_or as_string in_range
-  named_none z = judges_of refl λ d x e. enum_some xs e λ m r vs a b o. rw (o, (rw z at g).is (rw o at e))
+told : (vs : List Variant) (t : List ℕ) (n : Option (ℤ × ℕ)) → Answers n (member_number vs t) → in_range (is_some n) ≡ fit (enum vs) (Json.string t)
+unfolding fit expect_or as_string in_range
+told vs t None k = rw k refl
+told vs t (Some (v, i)) k = rw k refl
 
-  pub named_some : (v : ℤ) (i : ℕ) → n ≡ Some (v, i) → Judges (enum_at xs) (Some (Json.string t, [])) (Ok tt)
-  unfolding fit expect_or as_string in_range
-  named_some v i z = judges_of refl λ d x e. enum_some xs e λ m r vs a b o. rw (o, (rw z at g).is (rw o at e))
+module _ (xs t : List ℕ) (n : Option (ℤ × ℕ)) (g : NumberOf (enum_at xs) t n) where
+  pub named_told : (b : Bool) (r : Result Unit Misfit) → b ≡ is_some n → meaning r ≡ in_range b → Judges (enum_at xs) (Some (Json.string t, [])) r
+  named_told b r e h = judges_of refl λ d x f. enum_some xs f λ m r' vs a b' o. h ∙ rw (e, o) (told vs t n (g.is (rw o at f)))
 
 -- ## A member by its name or by its number
 

@@ -1,3 +1,4 @@
+pub mod Asked
 pub mod Walks
 pub mod Judged
 pub mod Shapes

@@ -17,9 +17,9 @@ use super::Misfit;
 use super::member::number_of;
 use super::object::{each_once, find_key};
 use super::walk::{first, next, quoted};
+use ascii::byte;
 use ascii::numbers::{signed, unsigned};
-use ascii::{byte};
-use base64_text::{blob_size};
+use base64_text::blob_size;
 use datainfo::layout::{counted_end, datainfo_end, named_end, part_end};
 use datainfo::rules::{limit_at, named_at};
 use decimal::compare::{is_between, is_whole, lies_between, value_of};
@@ -37,14 +37,7 @@ fn worse(a: Result<(), Misfit>, b: Result<(), Misfit>) -> Result<(), Misfit>
 fn count_fit(lo: u64, hi: u64, n: usize) -> Result<(), Misfit>
     ensures { meaning result ≡ in_range (is_between lo hi n) }
 {
-    let count = n as u64;
-    if count < lo {
-        return Err(Misfit::RangeError);
-    }
-    if hi < count {
-        return Err(Misfit::RangeError);
-    }
-    Ok(())
+    range_fit((lo..=hi).contains(&(n as u64)))
 }
 
 // RangeError for a count n outside the two limits at a position.
@@ -52,12 +45,8 @@ fn limits_fit(s: &[u8], at: usize, n: usize) -> Result<(), Misfit>
     requires { at ≤ length s.now }
     ensures { Limits (drop at s.now) n result }
 {
-    let Some((lo, a)) = unsigned(s, at, 2) else {
-        return Err(Misfit::WrongType);
-    };
-    let Some((hi, _)) = unsigned(s, a, 2) else {
-        return Err(Misfit::WrongType);
-    };
+    let (lo, a) = unsigned(s, at, 2).ok_or(Misfit::WrongType)?;
+    let (hi, _) = unsigned(s, a, 2).ok_or(Misfit::WrongType)?;
     count_fit(lo, hi, n)
 }
 
@@ -76,12 +65,8 @@ fn double_fit(s: &[u8], at: usize, t: &[u8]) -> Result<(), Misfit>
     requires { at ≤ length s.now }
     ensures { Judges (double_at (drop at s.now)) (Some (Json.number t.now, [])) result }
 {
-    let Some((lo, lo_power, a)) = limit_at(s, at) else {
-        return Err(Misfit::WrongType);
-    };
-    let Some((hi, hi_power, _)) = limit_at(s, a) else {
-        return Err(Misfit::WrongType);
-    };
+    let (lo, lo_power, a) = limit_at(s, at).ok_or(Misfit::WrongType)?;
+    let (hi, hi_power, _) = limit_at(s, a).ok_or(Misfit::WrongType)?;
     range_fit(is_between(lo, lo_power, hi, hi_power, t))
 }
 
@@ -99,12 +84,8 @@ fn int_fit(s: &[u8], at: usize, t: &[u8]) -> Result<(), Misfit>
     requires { at ≤ length s.now }
     ensures { Judges (int_at (drop at s.now)) (Some (Json.number t.now, [])) result }
 {
-    let Some((lo, a)) = signed(s, at, 8) else {
-        return Err(Misfit::WrongType);
-    };
-    let Some((hi, _)) = signed(s, a, 8) else {
-        return Err(Misfit::WrongType);
-    };
+    let (lo, a) = signed(s, at, 8).ok_or(Misfit::WrongType)?;
+    let (hi, _) = signed(s, a, 8).ok_or(Misfit::WrongType)?;
     whole_fit(lo, hi, t)
 }
 
@@ -113,9 +94,7 @@ fn scaled_fit(s: &[u8], at: usize, t: &[u8]) -> Result<(), Misfit>
     requires { at ≤ length s.now }
     ensures { Judges (scaled_at (drop at s.now)) (Some (Json.number t.now, [])) result }
 {
-    let Some((_, _, limits)) = limit_at(s, at) else {
-        return Err(Misfit::WrongType);
-    };
+    let (_, _, limits) = limit_at(s, at).ok_or(Misfit::WrongType)?;
     int_fit(s, limits, t)
 }
 
@@ -124,24 +103,16 @@ fn member_fit(s: &[u8], at: usize, t: &[u8]) -> Result<(), Misfit>
     requires { at ≤ length s.now }
     ensures { is_whole t.now ≡ true → Judges (enum_at (drop at s.now)) (Some (Json.number t.now, [])) result }
 {
-    let Some((members, from)) = unsigned(s, at, 1) else {
-        return Err(Misfit::WrongType);
-    };
+    let (members, from) = unsigned(s, at, 1).ok_or(Misfit::WrongType)?;
     let sent = value_of(t);
     let mut i = from;
-    let mut left = members;
-    while 0 < left {
-        let Some(n) = counted_end(s, i) else {
-            return Err(Misfit::WrongType);
-        };
-        let Some((value, e)) = signed(s, n, 4) else {
-            return Err(Misfit::WrongType);
-        };
+    for _ in 0..members {
+        let n = counted_end(s, i).ok_or(Misfit::WrongType)?;
+        let (value, e) = signed(s, n, 4).ok_or(Misfit::WrongType)?;
         if lies_between(value, 0, value, 0, sent) {
             return Ok(());
         }
         i = e;
-        left -= 1;
     }
     Err(Misfit::RangeError)
 }
@@ -174,9 +145,7 @@ fn number_fit(s: &[u8], at: usize, k: u64, v: &[u8], p: usize) -> Result<(), Mis
     requires { (at ≤ length s.now) × (p ≤ length v.now) }
     ensures { (depth : ℕ) → Judges (numeric k (drop at s.now)) (bare depth (drop p v.now)) result }
 {
-    let Some(e) = number_end(v, p) else {
-        return Err(Misfit::WrongType);
-    };
+    let e = number_end(v, p).ok_or(Misfit::WrongType)?;
     token_fit(s, at, k, &v[p..e])
 }
 
@@ -185,10 +154,7 @@ fn named_fit(s: &[u8], at: usize, name: &[u8]) -> Result<(), Misfit>
     requires { at ≤ length s.now }
     ensures { Judges (enum_at (drop at s.now)) (Some (Json.string name.now, [])) result }
 {
-    let Some((_, _)) = number_of(s, at, name) else {
-        return Err(Misfit::RangeError);
-    };
-    Ok(())
+    range_fit(number_of(s, at, name).is_some())
 }
 
 // A member of an enum, by its name or by its number.
@@ -199,9 +165,7 @@ fn choice_fit(s: &[u8], at: usize, v: &[u8], p: usize) -> Result<(), Misfit>
     if byte(v, p) == b'"' {
         return named_fit(s, at, quoted(v, p));
     }
-    let Some(e) = number_end(v, p) else {
-        return Err(Misfit::WrongType);
-    };
+    let e = number_end(v, p).ok_or(Misfit::WrongType)?;
     enum_fit(s, at, &v[p..e])
 }
 
@@ -245,9 +209,7 @@ fn base64_fit(s: &[u8], at: usize, t: &[u8]) -> Result<(), Misfit>
     requires { at ≤ length s.now }
     ensures { Judges (blob_at (drop at s.now)) (Some (Json.string t.now, [])) result }
 {
-    let Some(n) = blob_size(t) else {
-        return Err(Misfit::WrongType);
-    };
+    let n = blob_size(t).ok_or(Misfit::WrongType)?;
     limits_fit(s, at, n)
 }
 
@@ -284,7 +246,14 @@ fn plain_fit(s: &[u8], at: usize, k: u64, v: &[u8], p: usize) -> Result<(), Misf
 // The items of an array are judged by one datainfo, behind the two limits of their count. An item takes a byte at least, so of a JSON text
 // none is left when the bytes are.
 #[cycle(array_fit_fields_fit_fit_struct_fit_tuple_fit)]
-fn array_fit(s: &[u8], at: usize, levels: usize, v: &[u8], p: usize, depth: usize) -> Result<(), Misfit>
+fn array_fit(
+    s: &[u8],
+    at: usize,
+    levels: usize,
+    v: &[u8],
+    p: usize,
+    depth: usize,
+) -> Result<(), Misfit>
     requires { (at ≤ length s.now) × (p ≤ length v.now) }
     ensures { Judges (array_at (datainfo_in levels) (drop at s.now)) (bare depth (drop p v.now)) result }
 {
@@ -294,28 +263,31 @@ fn array_fit(s: &[u8], at: usize, levels: usize, v: &[u8], p: usize, depth: usiz
     if byte(v, p) != b'[' {
         return Err(Misfit::WrongType);
     }
-    let Some(inner) = part_end(s, at, 4) else {
-        return Err(Misfit::WrongType);
-    };
+    let inner = part_end(s, at, 4).ok_or(Misfit::WrongType)?;
     let mut worst = Ok(());
     let mut n = 0;
     let mut item = first(v, p + 1, b']');
-    let mut left = v.len() - p;
-    while 0 < left {
+    for _ in p..v.len() {
         let Some(i) = item else {
             return worse(limits_fit(s, at, n), worst);
         };
         worst = worse(worst, fit(s, inner, levels, v, spaces_end(v, i), depth - 1));
         n += 1;
         item = next(v, i, depth - 1);
-        left -= 1;
     }
     Err(Misfit::WrongType)
 }
 
 // The items of a tuple are judged by its datainfos in turn.
 #[cycle(array_fit_fields_fit_fit_struct_fit_tuple_fit)]
-fn tuple_fit(s: &[u8], at: usize, levels: usize, v: &[u8], p: usize, depth: usize) -> Result<(), Misfit>
+fn tuple_fit(
+    s: &[u8],
+    at: usize,
+    levels: usize,
+    v: &[u8],
+    p: usize,
+    depth: usize,
+) -> Result<(), Misfit>
     requires { (at ≤ length s.now) × (p ≤ length v.now) }
     ensures { Judges (tuple_at (datainfo_in levels) (drop at s.now)) (bare depth (drop p v.now)) result }
 {
@@ -325,32 +297,26 @@ fn tuple_fit(s: &[u8], at: usize, levels: usize, v: &[u8], p: usize, depth: usiz
     if byte(v, p) != b'[' {
         return Err(Misfit::WrongType);
     }
-    let Some((count, from)) = unsigned(s, at, 1) else {
-        return Err(Misfit::WrongType);
-    };
+    let (count, from) = unsigned(s, at, 1).ok_or(Misfit::WrongType)?;
     let mut worst = Ok(());
     let mut element = from;
-    let mut left = count;
     let mut item = first(v, p + 1, b']');
-    while 0 < left {
+    for _ in 0..count {
         let Some(i) = item else {
             return worse(worst, Err(Misfit::WrongType));
         };
-        let Some(e) = datainfo_end(s, element, levels) else {
-            return Err(Misfit::WrongType);
-        };
+        let e = datainfo_end(s, element, levels).ok_or(Misfit::WrongType)?;
         worst = worse(
             worst,
             fit(s, element, levels, v, spaces_end(v, i), depth - 1),
         );
         item = next(v, i, depth - 1);
         element = e;
-        left -= 1;
     }
-    let Some(_) = item else {
-        return worst;
-    };
-    worse(worst, Err(Misfit::WrongType))
+    if item.is_some() {
+        return worse(worst, Err(Misfit::WrongType));
+    }
+    worst
 }
 
 // The values of an object, past its '{', at the names of a struct, past its type byte k; each name is exactly once among the keys.
@@ -367,25 +333,15 @@ fn fields_fit(
     requires { (at ≤ length s.now) × (p ≤ length v.now) }
     ensures { JudgesFields (members_at (datainfo_in levels) k (drop at s.now)) (object_end (value depth) (drop p v.now)) result }
 {
-    let Some((count, from)) = unsigned(s, at, 1) else {
-        return Err(Misfit::WrongType);
-    };
+    let (count, from) = unsigned(s, at, 1).ok_or(Misfit::WrongType)?;
     let mut worst = Ok(());
     let mut field = from;
-    let mut left = count;
-    while 0 < left {
-        let Some(inner) = named_end(s, field, k) else {
-            return Err(Misfit::WrongType);
-        };
-        let Some(q) = find_key(v, p, depth, named_at(s, field, k)) else {
-            return Err(Misfit::WrongType);
-        };
-        let Some(e) = datainfo_end(s, inner, levels) else {
-            return Err(Misfit::WrongType);
-        };
+    for _ in 0..count {
+        let inner = named_end(s, field, k).ok_or(Misfit::WrongType)?;
+        let q = find_key(v, p, depth, named_at(s, field, k)).ok_or(Misfit::WrongType)?;
+        let e = datainfo_end(s, inner, levels).ok_or(Misfit::WrongType)?;
         worst = worse(worst, fit(s, inner, levels, v, q, depth));
         field = e;
-        left -= 1;
     }
     worst
 }
@@ -417,16 +373,21 @@ fn struct_fit(
 
 // The value at p, without spaces before it, and the datainfo at a position, of at most `levels` levels.
 #[cycle(array_fit_fields_fit_fit_struct_fit_tuple_fit)]
-pub fn fit(s: &[u8], at: usize, levels: usize, v: &[u8], p: usize, depth: usize) -> Result<(), Misfit>
+pub fn fit(
+    s: &[u8],
+    at: usize,
+    levels: usize,
+    v: &[u8],
+    p: usize,
+    depth: usize,
+) -> Result<(), Misfit>
     requires { (at ≤ length s.now) × (p ≤ length v.now) }
     ensures { Judges (datainfo_in levels (drop at s.now)) (bare depth (drop p v.now)) result }
 {
     if levels == 0 {
         return Err(Misfit::WrongType);
     }
-    let Some((k, inner)) = unsigned(s, at, 1) else {
-        return Err(Misfit::WrongType);
-    };
+    let (k, inner) = unsigned(s, at, 1).ok_or(Misfit::WrongType)?;
     if k == 6 {
         return array_fit(s, inner, levels - 1, v, p, depth);
     }

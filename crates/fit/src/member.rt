@@ -8,29 +8,20 @@ use ascii::numbers::{signed, unsigned};
 use datainfo::layout::counted_end;
 use datainfo::rules::name_at;
 
-// The number of the member of a name, with the position after it; `Short` where none has the name.
+// The number of the member of a name, with the position after it, or that none has the name.
 pub fn number_of(s: &[u8], i: usize, name: &[u8]) -> Option<(i64, usize)>
     requires { i ≤ length s.now }
     ensures { NumberOf (enum_at (drop i s.now)) name.now result }
 {
-    let Some((count, from)) = unsigned(s, i, 1) else {
-        return None;
-    };
+    let (count, from) = unsigned(s, i, 1)?;
     let mut member = from;
-    let mut left = count;
-    while 0 < left {
-        let Some(n) = counted_end(s, member) else {
-            return None;
-        };
-        let number = signed(s, n, 4);
-        let Some((_, e)) = number else {
-            return None;
-        };
+    for _ in 0..count {
+        let n = counted_end(s, member)?;
+        let (number, e) = signed(s, n, 4)?;
         if same(name_at(s, member), name) {
-            return number;
+            return Some((number, e));
         }
         member = e;
-        left -= 1;
     }
     None
 }

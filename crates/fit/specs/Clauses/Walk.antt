@@ -63,7 +63,7 @@ pub record OfEntry (o : Option ((Bool × List ℕ) × List ℕ)) (name : List �
 abbrev pub value_of : Option (Json × List ℕ) → Option Json
 value_of o = o >>= λ p. Some p.0
 
--- position r of v, at the value of a key of one of these members; `Bad` where none has the key
+-- position r of v, at the value of a key of one of these members; none where none has the key
 abbrev pub Found : ℕ → List ℕ → List ℕ → Members → Option ℕ → Type 0
 Found d v name ms (Some i) = value_of (bare d (drop i v)) ≡ Some (value_at name ms)
 Found d v name ms None = count (same name) (keys ms) ≡ 0

@@ -5,5 +5,5 @@ use Rattle.fit.proofs.object.each_once.Goals as goal
 pub returns-then-names_once : goal.returns-then-names_once
 returns-then-names_once c = search each_yes
 
-pub returns : goal.returns
-returns c = search each_no
+pub returns-else-names_once : goal.returns-else-names_once
+returns-else-names_once c = rw c.if-names_once.false (search each_no)

@@ -1,4 +1,6 @@
 use mathlib.Core.Bool.{true}
+use Prim.Native.Nat.{◌+◌, ◌-◌, ◌≤◌, ◌<◌}
+use mathlib.Core.Path.{◌≡◌}
 use Rattle.ascii.proofs.Bytes.{ended_within}
 use Rattle.datainfo.proofs.Own.{unsigned_within}
 use native.Mathlib.Omega.{arith}
@@ -11,17 +13,17 @@ unsigned-requires c = (omega arith, omega arith)
 pub returns-in_default : goal.returns-in_default
 returns-in_default c = search fields_short
 
-pub loop-left-init : goal.loop-left-init
-loop-left-init c = (search unsigned_within, search fields_first)
+pub loop-init : goal.loop-init
+loop-init c = let z : c.in-Some.count - 0 ≡ c.in-Some.count = omega arith in (search unsigned_within, rw z (search fields_first))
 
 pub returns-then-is_optional_here : goal.returns-then-is_optional_here
-returns-then-is_optional_here c = fields_decided _ _ _ _ _ _ _ c.loop-left.invariant.1 c.loop-left-test.true true (optional_here _ _ _ c.is_optional_here.ensures c.if-is_optional_here.true)
+returns-then-is_optional_here c = let h : 0 < c.in-Some.count - c.loop.counter = omega arith in fields_decided _ _ _ _ _ _ _ c.loop.invariant.1 h true (optional_here _ _ _ c.is_optional_here.ensures c.if-is_optional_here.true)
 
 pub returns-in_default-field_end : goal.returns-in_default-field_end
-returns-in_default-field_end c = search fields_bad
+returns-in_default-field_end c = let h : 0 < c.in-Some.count - c.loop.counter = omega arith in search fields_bad
 
-pub loop-left-preserved : goal.loop-left-preserved
-loop-left-preserved c = (search ended_within, fields_more _ _ _ _ _ _ _ c.loop-left.invariant.1 c.loop-left-test.true _ c.field_end.ensures _ c.in-Some-field_end.is (optional_later _ _ _ c.is_optional_here.ensures c.if-is_optional_here.false))
+pub loop-preserved : goal.loop-preserved
+loop-preserved c = let h : 0 < c.in-Some.count - c.loop.counter = omega arith in let e : c.in-Some.count - (c.loop.counter + 1) ≡ c.in-Some.count - c.loop.counter - 1 = omega arith in (search ended_within, rw e (fields_more _ _ _ _ _ _ _ c.loop.invariant.1 h _ c.field_end.ensures _ c.in-Some-field_end.is (optional_later _ _ _ c.is_optional_here.ensures c.if-is_optional_here.false)))
 
 pub returns : goal.returns
-returns c = fields_over _ _ _ _ _ _ _ c.loop-left.invariant.1 c.loop-left-test.false _ (optional_none _)
+returns c = let z : c.in-Some.count - c.loop.counter ≤ 0 = omega arith in fields_over _ _ _ _ _ _ _ c.loop.invariant.1 z _ (optional_none _)

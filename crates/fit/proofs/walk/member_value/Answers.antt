@@ -3,11 +3,11 @@ use Rattle.ascii.proofs.Bytes.{ended_within}
 use Rattle.fit.proofs.Walks.{value_bad, value_good}
 use Rattle.fit.proofs.walk.member_value.Goals as goal
 
-pub returns-in_default : goal.returns-in_default
-returns-in_default c = search value_bad
+pub returns-in_err-key_end : goal.returns-in_err-key_end
+returns-in_err-key_end c = rw c.from_residual.ensures (search (value_bad, c.in_err-key_end.was))
 
 pub spaces_end-requires : goal.spaces_end-requires
-spaces_end-requires c = search ended_within
+spaces_end-requires c = search (ended_within, c.in_ok-key_end.was)
 
 pub returns : goal.returns
-returns c = search value_good
+returns c = search (value_good, c.in_ok-key_end.was)
