@@ -63,7 +63,7 @@ pub record Ordered (r : Bool) (xs : List ℕ) : Type 0 where
   pub blob : Decides false r (blob_at xs)
   pub array : (f : List ℕ → Option (Datainfo × List ℕ)) → Decides false r (array_at f xs)
 
--- the answer of a reader of a double's limits and of a scale: `Read m p e` where it reads m times ten to the power p and leaves the bytes from e on
+-- the answer of a reader of a double's limits and of a scale: `Some (m, p, e)` where it reads m times ten to the power p and leaves the bytes from e on
 abbrev pub ReadsLimit : List ℕ → Option (ℤ × ℤ × ℕ) → Option (Decimal × List ℕ) → Type 0
 ReadsLimit s (Some (m, p, e)) o = (o ≡ Some (record { whole = m; power = p }, drop e s)) × (e ≤ length s)
 ReadsLimit s None o = o ≡ None

@@ -9,8 +9,8 @@ same_key-requires c = (search rules, c.requires.1 _)
 pub returns-then-same_key : goal.returns-then-same_key
 returns-then-same_key c = search repeated_found
 
-pub loop-j-preserved : goal.loop-j-preserved
-loop-j-preserved c = (omega arith, search repeated_more)
+pub loop-at-preserved : goal.loop-at-preserved
+loop-at-preserved c = (omega arith, search repeated_more)
 
 pub returns : goal.returns
 returns c = search repeated_none

@@ -2,7 +2,7 @@ use borrow.Author.Rules.{rules}
 use native.Mathlib.Omega.{arith}
 use mathlib.Core.Path.{refl}
 use lib.ListN.{length-set}
-use Rattle.datainfo.proofs.Keys.{noting_start, noted_last, noted_more, noted_all}
+use Rattle.datainfo.proofs.Keys.{noting_start, noted_last, noted_more, noted_full}
 use Rattle.datainfo.proofs.rules.note_starts.Goals as goal
 
 pub loop-m-init : goal.loop-m-init
@@ -21,4 +21,4 @@ pub shape_of-notes : goal.shape_of-notes
 shape_of-notes c = c.loop-m.invariant.0
 
 pub returns : goal.returns
-returns c = search noted_all
+returns c = search noted_full
