@@ -1,3 +1,5 @@
+use mathlib.Core.Path.{◌≡◌, ◌∙◌}
+use lib.ListN.{length}
 use native.Mathlib.Omega.{arith}
 use borrow.Author.Rules.{rules}
 use Rattle.decimal.proofs.Values.{other, first, second, none, run_more, run_stop, run_over}
@@ -24,4 +26,5 @@ loop-i-preserved c = let a = c.args in (
 
 pub returns : goal.returns
 returns c = let a = c.args in
-    run_over (other a.x a.y) a.s.now c.loop-i.i _ c.loop-i-test.false c.loop-i.invariant.1
+    let e : length a.s.now ≡ c.loop-i.i = omega arith in
+    e ∙ run_over (other a.x a.y) a.s.now c.loop-i.i _ c.loop-i-test.false c.loop-i.invariant.1

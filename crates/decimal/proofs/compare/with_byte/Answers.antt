@@ -11,7 +11,7 @@ pub overflow_sub-b : goal.overflow_sub-b
 overflow_sub-b c = digit_above _ (sym c.is_digit.ensures ∙ not-false _ c.if-not-is_digit.false-raw)
 
 pub appended-requires : goal.appended-requires
-appended-requires c = (c.requires, digit_below _ (sym c.is_digit.ensures ∙ not-false _ c.if-not-is_digit.false-raw))
+appended-requires c = (c.requires, rw c.from.ensures (digit_below _ (sym c.is_digit.ensures ∙ not-false _ c.if-not-is_digit.false-raw)))
 
 pub returns : goal.returns
-returns c = search holds_digit
+returns c = let h = rw c.from.ensures at c.appended.ensures in search holds_digit
