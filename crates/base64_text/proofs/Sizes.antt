@@ -15,7 +15,7 @@ use Rattle.ascii.specs.Bytes.{is_in, is_digit}
 use Rattle.ascii.specs.Clauses.Reader.{ByteAt}
 use Rattle.ascii.proofs.Bytes.{head_drop}
 use Rattle.base64_text.specs.Base64.{sextet, is_sextet, is_whole, padded, more, blob_size}
-use Rattle.base64_text.specs.Clauses.Answer.{whole_at, meaning, last_size}
+use Rattle.base64_text.specs.Clauses.Answer.{whole_at, last_size}
 use Rattle.base64_text.proofs.Digits.{both}
 
 -- ## The six bits of a digit
@@ -166,7 +166,7 @@ last_size_low xs =
 few : {m : ℕ} → Low (Some m) → m ≤ 2
 few (yes h) = h
 
-pub last_low : (t : List ℕ) (i : ℕ) {s : Option ℕ} → meaning s ≡ last_size (drop i t) → (m : ℕ) → s ≡ Some m → m ≤ 2
+pub last_low : (t : List ℕ) (i : ℕ) {s : Option ℕ} → s ≡ last_size (drop i t) → (m : ℕ) → s ≡ Some m → m ≤ 2
 last_low t i hs m e = few (rw (← hs, e) at (last_size_low (drop i t)))
 
 -- ## The whole groups
@@ -219,7 +219,7 @@ module _ (t : List ℕ) (i : ℕ) {r : Bool} (hr : r ≡ whole_at t i) where
     pub sized_more : r ≡ true → blob_size t ≡ more (n + 3) (blob_size (drop (i + 4) t))
     sized_more h = at ∙ rw ((at_least_four (drop i t) (at_drop t i ∙ sym hr ∙ h)).1, more_more, drop-drop)
 
-    module _ (h : r ≡ false) {s : Option ℕ} (hs : meaning s ≡ last_size (drop i t)) where
+    module _ (h : r ≡ false) {s : Option ℕ} (hs : s ≡ last_size (drop i t)) where
       pub sized_bad : s ≡ None → None ≡ blob_size t
       unfolding more
       sized_bad e = sym (at ∙ rw (no_more (drop i t) (at_drop t i ∙ sym hr ∙ h), ← hs, e))

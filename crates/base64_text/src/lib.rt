@@ -4,7 +4,7 @@
 ghost use Rattle.std.specs.Prelude.{◌≡◌, true, ◌≤◌, length, drop};
 ghost use Rattle.base64_text.specs.Base64 as Base64;
 ghost use Rattle.base64_text.specs.Base64.{is_sextet, blob_size};
-ghost use Rattle.base64_text.specs.Clauses.Answer.{whole_at, meaning, last_size};
+ghost use Rattle.base64_text.specs.Clauses.Answer.{whole_at, last_size};
 ghost use Rattle.base64_text.specs.Theorems.{SizesAreOfEncodings, SizedHasNoEscape, VectorsAreRight};
 
 use ascii::{byte, is_digit, is_in};
@@ -13,10 +13,10 @@ use ascii::{byte, is_digit, is_in};
 fn sextet(b: u8) -> u8
     ensures { result ≡ Base64.sextet b }
 {
-    if is_in(65, 90, b) {
-        return b - 65;
+    if is_in(b'A', b'Z', b) {
+        return b - b'A';
     }
-    if is_in(97, 122, b) {
+    if is_in(b'a', b'z', b) {
         return b - 71;
     }
     if is_digit(b) {
@@ -56,7 +56,7 @@ fn is_whole(t: &[u8], i: usize) -> bool
 
 // A last group with one or two pads.
 fn padded(a: u8, b: u8, c: u8, d: u8) -> Option<usize>
-    ensures { meaning result ≡ Base64.padded a b c d }
+    ensures { result ≡ Base64.padded a b c d }
 {
     if !is_sextet(a) {
         return None;
@@ -85,7 +85,7 @@ fn padded(a: u8, b: u8, c: u8, d: u8) -> Option<usize>
 // What follows the whole groups.
 fn last_size(t: &[u8], i: usize) -> Option<usize>
     requires { i ≤ length t.now }
-    ensures { meaning result ≡ last_size (drop i t.now) }
+    ensures { result ≡ last_size (drop i t.now) }
 {
     let left = t.len() - i;
     if left == 0 {
@@ -98,7 +98,7 @@ fn last_size(t: &[u8], i: usize) -> Option<usize>
 }
 
 pub fn blob_size(t: &[u8]) -> Option<usize>
-    ensures { meaning result ≡ blob_size t.now }
+    ensures { result ≡ blob_size t.now }
 {
     let mut i = 0;
     let mut n = 0;
@@ -106,10 +106,7 @@ pub fn blob_size(t: &[u8]) -> Option<usize>
         i += 4;
         n += 3;
     }
-    let Some(m) = last_size(t, i) else {
-        return None;
-    };
-    Some(n + m)
+    Some(n + last_size(t, i)?)
 }
 
 // A text has a size exactly if it is RFC 4648's encoding of so many bytes: nothing is run, the promise is the theorem.

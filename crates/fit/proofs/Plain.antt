@@ -14,7 +14,6 @@ use Rattle.ascii.specs.Clauses.Read.{ReadsValue}
 use Rattle.json_text.specs.Json.{Json, bare}
 use Rattle.json_text.specs.Characters.{characters}
 use Rattle.base64_text.specs.Base64.{blob_size}
-use Rattle.base64_text.specs.Clauses.Answer as Answer
 use Rattle.datainfo.specs.Datainfo.{Datainfo, bool, string, blob}
 use Rattle.datainfo.specs.Layout.{string_at, blob_at}
 use Rattle.datainfo.specs.Rules.{is_between}
@@ -93,7 +92,7 @@ module _ (xs t : List ℕ) (f : Bool) (g : f ≡ all (λ c. leb c 127) (characte
 -- ## blob
 
 -- z is what the code sizes the bytes t at
-module _ (xs t : List ℕ) (z : Option ℕ) (g : Answer.meaning z ≡ blob_size t) where
+module _ (xs t : List ℕ) (z : Option ℕ) (g : z ≡ blob_size t) where
   pub blob_bad : z ≡ None → Judges (blob_at xs) (Some (Json.string t, [])) (Err WrongType)
   unfolding fit expect as_string blob_fit
   blob_bad h = judges_of refl λ d x e. blob_some xs e λ lo hi y a b w. rw (w, ← g, h)

@@ -12,11 +12,11 @@ loop-i-smaller c = search whole_less
 pub loop-i-preserved : goal.loop-i-preserved
 loop-i-preserved c = (search whole_fits, omega arith, search sized_more)
 
-pub returns-in_default : goal.returns-in_default
-returns-in_default c = search sized_bad
+pub returns-in_err-last_size : goal.returns-in_err-last_size
+returns-in_err-last_size c = rw c.from_residual.ensures (search (sized_bad, c.in_err-last_size.was))
 
 pub overflow_add-result : goal.overflow_add-result
-overflow_add-result c = let h : c.in-Some.m ≤ 2 = search last_low in omega arith
+overflow_add-result c = let h : c.in_ok-last_size.field-0 ≤ 2 = search (last_low, c.in_ok-last_size.was) in omega arith
 
 pub returns : goal.returns
-returns c = search sized_of
+returns c = search (sized_of, c.in_ok-last_size.was)

@@ -6,11 +6,6 @@ use Rattle.base64_text.specs.Base64.{is_whole, padded}
 abbrev pub whole_at : List ℕ → ℕ → Bool
 whole_at t i = is_whole (get_or t i 0) (get_or t (i + 1) 0) (get_or t (i + 2) 0) (get_or t (i + 3) 0)
 
--- the size that the code's answer stands for
-abbrev pub meaning : Option ℕ → Option ℕ
-meaning (Some n) = Some n
-meaning None = None
-
 -- the size of what follows the whole groups: nothing, or a padded group
 unfoldable pub last_size : List ℕ → Option ℕ
 last_size xs =
