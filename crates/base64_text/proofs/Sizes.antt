@@ -1,21 +1,22 @@
 -- Laws of the code that sizes a text, one for each way through a function. A flag or a number that the code has stands before what it is.
 -- Assumes nothing.
+use Rattle.std.specs.Option.{is_some}
 use Rattle.std.specs.Prelude.{Option, Some, None}
 use Prim.Native.Nat.{ℕ, ◌+◌, ◌-◌, ◌%◌, ◌≤◌, ◌<◌}
 use native.Mathlib.Nat.{add-zero, zero-add}
 use native.Mathlib.Omega.{arith}
 use mathlib.Core.Path.{◌≡◌, refl, sym, ap, ◌∙◌}
-use mathlib.Core.Bool.{Bool, true, false, cond, not, ◌&&◌, and-false, false≢true}
+use mathlib.Core.Bool.{Bool, true, false, cond, ◌&&◌, and-false, false≢true}
 use mathlib.Core.List.{List, [], ◌∷◌}
 use lib.Dec.{leb, eqb, eqb-suc-zero}
 use lib.ListN.{length, get_or, drop, length-drop}
 use lib.Seq.{get_or-drop, drop-drop}
-use borrow.Author.Tests.{leb-true, eq-eqb, ne_eqb, not-true, not-false}
+use borrow.Author.Tests.{leb-true, lt-ltb, eq-eqb, ne_eqb}
 use Rattle.ascii.specs.Bytes.{is_in, is_digit}
 use Rattle.ascii.specs.Clauses.Reader.{ByteAt}
 use Rattle.ascii.proofs.Bytes.{head_drop}
 use Rattle.base64_text.specs.Base64.{sextet, is_sextet, is_whole, padded, more, blob_size}
-use Rattle.base64_text.specs.Clauses.Answer.{whole_at, last_size}
+use Rattle.base64_text.specs.Clauses.Answer.{six_bits, whole_at, last_size}
 use Rattle.base64_text.proofs.Digits.{both}
 
 -- ## The six bits of a digit
@@ -52,6 +53,37 @@ module _ (b : ℕ) {u : Bool} (hu : u ≡ is_in 65 90 b) where
         unfolding sextet
         sextet_none n m = simp (sym hu ∙ nu, sym hv ∙ nv, sym hw ∙ nw, ne_eqb b 43 n, ne_eqb b 47 m)
 
+-- with six bits it is a digit
+pub digit : (b n : ℕ) → n ≡ sextet b → n < 64 → Some n ≡ six_bits b
+unfolding six_bits is_sextet
+digit b n e h = rw (← e, lt-ltb n 64 h)
+
+pub not_digit : (b : ℕ) → 64 ≡ sextet b → None ≡ six_bits b
+unfolding six_bits is_sextet
+not_digit b e = rw (← e)
+
+pub bits_told : (b : ℕ) → is_some (six_bits b) ≡ is_sextet b
+unfolding six_bits
+bits_told b = go (is_sextet b)
+  where
+    go : (t : Bool) → is_some (cond t (Some (sextet b)) None) ≡ t
+    go true = refl
+    go false = refl
+
+module _ (b : ℕ) {o : Option ℕ} (h : o ≡ six_bits b) where
+  no_bits : o ≡ None → is_sextet b ≡ false
+  no_bits e = sym (bits_told b) ∙ rw (← h, e)
+
+  has_bits : {x : ℕ} → o ≡ Some x → is_sextet b ≡ true
+  has_bits e = sym (bits_told b) ∙ rw (← h, e)
+
+  its_bits : {x : ℕ} → o ≡ Some x → x ≡ sextet b
+  unfolding six_bits
+  its_bits e = just (sym e ∙ h ∙ rw (has_bits e))
+    where
+      just : {x y : ℕ} → Some x ≡ Some y → x ≡ y
+      just e = cc
+
 -- ## Four digits at a position
 
 flag : {t : List ℕ} {i b : ℕ} → ByteAt t i b → {u v : Bool} → u ≡ is_sextet b → u ≡ v → is_sextet (get_or t i 0) ≡ v
@@ -79,49 +111,43 @@ module _ {t : List ℕ} {i a : ℕ} (xa : ByteAt t i a) {u : Bool} (hu : u ≡ i
 
 -- ## A padded group
 
-module _ (a b c d : ℕ) {u : Bool} (hu : u ≡ is_sextet a) where
-  pub padded_first : not u ≡ true → None ≡ padded a b c d
+module _ (a b c d : ℕ) {o : Option ℕ} (ho : o ≡ six_bits a) where
+  pub padded_first : o ≡ None → None ≡ padded a b c d
   unfolding padded
-  padded_first h = simp (sym hu ∙ not-true u h)
+  padded_first h = simp (no_bits a ho h)
 
-  module _ (nu : not u ≡ false) {v : Bool} (hv : v ≡ is_sextet b) where
-    pub padded_second : not v ≡ true → None ≡ padded a b c d
+  module _ (x : ℕ) (po : o ≡ Some x) {q : Option ℕ} (hq : q ≡ six_bits b) where
+    pub padded_second : q ≡ None → None ≡ padded a b c d
     unfolding padded
-    padded_second h = simp (sym hu ∙ not-false u nu, sym hv ∙ not-true v h)
+    padded_second h = simp (has_bits a ho po, no_bits b hq h)
 
-    module _ (nv : not v ≡ false) where
+    module _ (y : ℕ) (pq : q ≡ Some y) where
       pub padded_end : (d ≡ 61 → ⊥) → None ≡ padded a b c d
       unfolding padded
-      padded_end h = simp (sym hu ∙ not-false u nu, sym hv ∙ not-false v nv, ne_eqb d 61 h)
+      padded_end h = simp (has_bits a ho po, has_bits b hq pq, ne_eqb d 61 h)
 
       module _ (hd : d ≡ 61) where
-        module _ (hc : c ≡ 61) {s : ℕ} (hs : s ≡ sextet b) where
-          pub two_pads : s % 16 ≡ 0 → Some 1 ≡ padded a b c d
-          unfolding padded
-          two_pads h =
-              simp (sym hu ∙ not-false u nu, sym hv ∙ not-false v nv, eq-eqb d 61 hd, eq-eqb c 61 hc, ← hs, eq-eqb (s % 16) 0 h)
+        pub two_pads : c ≡ 61 → y % 16 ≡ 0 → Some 1 ≡ padded a b c d
+        unfolding padded
+        two_pads hc h = simp (has_bits a ho po, has_bits b hq pq, eq-eqb d 61 hd, eq-eqb c 61 hc, ← (its_bits b hq pq), eq-eqb (y % 16) 0 h)
 
-          pub two_pads_bad : (s % 16 ≡ 0 → ⊥) → None ≡ padded a b c d
-          unfolding padded
-          two_pads_bad h =
-              simp (sym hu ∙ not-false u nu, sym hv ∙ not-false v nv, eq-eqb d 61 hd, eq-eqb c 61 hc, ← hs, ne_eqb (s % 16) 0 h)
+        pub two_pads_bad : c ≡ 61 → (y % 16 ≡ 0 → ⊥) → None ≡ padded a b c d
+        unfolding padded
+        two_pads_bad hc h = simp (has_bits a ho po, has_bits b hq pq, eq-eqb d 61 hd, eq-eqb c 61 hc, ← (its_bits b hq pq), ne_eqb (y % 16) 0 h)
 
-        module _ (nc : c ≡ 61 → ⊥) {w : Bool} (hw : w ≡ is_sextet c) where
-          pub padded_third : not w ≡ true → None ≡ padded a b c d
+        module _ (nc : c ≡ 61 → ⊥) {r : Option ℕ} (hr : r ≡ six_bits c) where
+          pub padded_third : r ≡ None → None ≡ padded a b c d
           unfolding padded
-          padded_third h =
-              simp (sym hu ∙ not-false u nu, sym hv ∙ not-false v nv, eq-eqb d 61 hd, ne_eqb c 61 nc, sym hw ∙ not-true w h)
+          padded_third h = simp (has_bits a ho po, has_bits b hq pq, eq-eqb d 61 hd, ne_eqb c 61 nc, no_bits c hr h)
 
-          module _ (nw : not w ≡ false) {s : ℕ} (hs : s ≡ sextet c) where
-            pub one_pad : s % 4 ≡ 0 → Some 2 ≡ padded a b c d
+          module _ (z : ℕ) (pr : r ≡ Some z) where
+            pub one_pad : z % 4 ≡ 0 → Some 2 ≡ padded a b c d
             unfolding padded
-            one_pad h =
-                simp (sym hu ∙ not-false u nu, sym hv ∙ not-false v nv, eq-eqb d 61 hd, ne_eqb c 61 nc, sym hw ∙ not-false w nw, ← hs, eq-eqb (s % 4) 0 h)
+            one_pad h = simp (has_bits a ho po, has_bits b hq pq, eq-eqb d 61 hd, ne_eqb c 61 nc, has_bits c hr pr, ← (its_bits c hr pr), eq-eqb (z % 4) 0 h)
 
-            pub one_pad_bad : (s % 4 ≡ 0 → ⊥) → None ≡ padded a b c d
+            pub one_pad_bad : (z % 4 ≡ 0 → ⊥) → None ≡ padded a b c d
             unfolding padded
-            one_pad_bad h =
-                simp (sym hu ∙ not-false u nu, sym hv ∙ not-false v nv, eq-eqb d 61 hd, ne_eqb c 61 nc, sym hw ∙ not-false w nw, ← hs, ne_eqb (s % 4) 0 h)
+            one_pad_bad h = simp (has_bits a ho po, has_bits b hq pq, eq-eqb d 61 hd, ne_eqb c 61 nc, has_bits c hr pr, ← (its_bits c hr pr), ne_eqb (z % 4) 0 h)
 
 -- ## What follows the whole groups
 

@@ -4,37 +4,37 @@
 ghost use Rattle.std.specs.Prelude.{◌≡◌, true, ◌≤◌, length, drop};
 ghost use Rattle.base64_text.specs.Base64 as Base64;
 ghost use Rattle.base64_text.specs.Base64.{is_sextet, blob_size};
-ghost use Rattle.base64_text.specs.Clauses.Answer.{whole_at, last_size};
+ghost use Rattle.base64_text.specs.Clauses.Answer.{six_bits, whole_at, last_size};
 ghost use Rattle.base64_text.specs.Theorems.{SizesAreOfEncodings, SizedHasNoEscape, VectorsAreRight};
 
 use ascii::{byte, is_digit, is_in};
 
-// The six bits of a digit, or 64.
-fn sextet(b: u8) -> u8
-    ensures { result ≡ Base64.sextet b }
+// The six bits of a digit.
+fn sextet(b: u8) -> Option<u8>
+    ensures { result ≡ six_bits b }
 {
     if is_in(b'A', b'Z', b) {
-        return b - b'A';
+        return Some(b - b'A');
     }
     if is_in(b'a', b'z', b) {
-        return b - 71;
+        return Some(b - 71);
     }
     if is_digit(b) {
-        return b + 4;
+        return Some(b + 4);
     }
     if b == b'+' {
-        return 62;
+        return Some(62);
     }
     if b == b'/' {
-        return 63;
+        return Some(63);
     }
-    64
+    None
 }
 
 fn is_sextet(b: u8) -> bool
     ensures { result ≡ is_sextet b }
 {
-    sextet(b) < 64
+    sextet(b).is_some()
 }
 
 // Whether four digits stand at a position. Past the end there is none.
@@ -58,25 +58,19 @@ fn is_whole(t: &[u8], i: usize) -> bool
 fn padded(a: u8, b: u8, c: u8, d: u8) -> Option<usize>
     ensures { result ≡ Base64.padded a b c d }
 {
-    if !is_sextet(a) {
-        return None;
-    }
-    if !is_sextet(b) {
-        return None;
-    }
+    sextet(a)?;
+    let second = sextet(b)?;
     if d != b'=' {
         return None;
     }
     if c == b'=' {
-        if sextet(b) % 16 == 0 {
+        if second % 16 == 0 {
             return Some(1);
         }
         return None;
     }
-    if !is_sextet(c) {
-        return None;
-    }
-    if sextet(c) % 4 == 0 {
+    let third = sextet(c)?;
+    if third % 4 == 0 {
         return Some(2);
     }
     None

@@ -1,6 +1,10 @@
 -- What the code that sizes a text answers. Assumes nothing.
 use Rattle.std.specs.Prelude.{ℕ, ◌+◌, Bool, cond, List, eqb, length, get_or, Option, Some, None}
-use Rattle.base64_text.specs.Base64.{is_whole, padded}
+use Rattle.base64_text.specs.Base64.{sextet, is_sextet, is_whole, padded}
+
+-- the six bits of a digit; of any other byte there are none
+unfoldable pub six_bits : ℕ → Option ℕ
+six_bits b = cond (is_sextet b) (Some (sextet b)) None
 
 -- whether the group at a position is whole; past the end there is no digit
 abbrev pub whole_at : List ℕ → ℕ → Bool
