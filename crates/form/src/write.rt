@@ -9,9 +9,8 @@ ghost use Rattle.form.specs.Clauses.Formed.{Copies, PutsNumber, Forms, FormsItem
 ghost use Rattle.form.specs.Clauses.Formed.{FormsStruct};
 ghost use Rattle.form.specs.Clauses.Formed.{FormsField, FormsFields, FormsOrdered, FormsText, FormIsLong};
 
-use ascii::names::same;
 use ascii::numbers::unsigned;
-use ascii::{byte};
+use ascii::byte;
 use datainfo::layout::{datainfo_end, field_end, named_end, part_end};
 use datainfo::rules::named_at;
 use emit::{emit, emit_comma, emit_integer, emit_key};
@@ -60,23 +59,14 @@ fn field_at(s: &[u8], i: usize, levels: usize, k: u8, name: &[u8]) -> Option<usi
     requires { i ≤ length s.now }
     ensures { FieldIn (members_at (datainfo_in levels) k (drop i s.now)) s.now levels name.now result }
 {
-    let Some((count, from)) = unsigned(s, i, 1) else {
-        return None;
-    };
+    let (count, from) = unsigned(s, i, 1)?;
     let mut field = from;
-    let mut left = count;
-    while 0 < left {
-        let Some(inner) = named_end(s, field, k) else {
-            return None;
-        };
-        if same(named_at(s, field, k), name) {
+    for _ in 0..count {
+        let inner = named_end(s, field, k)?;
+        if named_at(s, field, k) == name {
             return Some(inner);
         }
-        let Some(e) = datainfo_end(s, inner, levels) else {
-            return None;
-        };
-        field = e;
-        left -= 1;
+        field = datainfo_end(s, inner, levels)?;
     }
     None
 }
