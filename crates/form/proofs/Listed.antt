@@ -95,8 +95,8 @@ module _ (s : List ℕ) (i levels : ℕ) (q : Option (Json × List ℕ)) (u : Op
   pub table_short : u ≡ None → {before after : List ℕ} {at end : ℕ} → FormsFields (members_at (datainfo_in levels) 11 (drop i s)) q before at after end
   table_short z = record { is = λ e f g h. struct_short s i levels 11 u k z e }
 
-  pub table_first : (n j : ℕ) → u ≡ Some (n, j) → (out : List ℕ) (at : ℕ) → at ≤ 18446744073709551615 → TableAt s i levels q j n true out at out at
-  table_first n j z out at w = record {
+  pub table_first : (n j : ℕ) → u ≡ Some (n, j) → (out : List ℕ) (at : ℕ) → at ≤ 18446744073709551615 → (left : ℕ) → left ≡ n → TableAt s i levels q j left true out at out at
+  table_first n j z out at w left all = rw all (record {
     from = λ {m = m} {ms = ms} e f g h. record {
       gs = m;
       x = _;
@@ -106,7 +106,7 @@ module _ (s : List ℕ) (i levels : ℕ) (q : Option (Json × List ℕ)) (u : Op
       wrote = nothing_written out at w;
       whole = sym (listed_first (ordered m.1 (exchanged m.1 ms)));
     };
-  }
+  })
 
 -- the first of the members that are left
 first_of : (gs hs : Parts) (a : Bool × List ℕ) (d : Datainfo) (ks : List (List ℕ)) (ms : Members) → gs ≡ joined a d hs → Among gs.1 ks
@@ -140,8 +140,8 @@ module _ (s : List ℕ) (i levels : ℕ) (q : Option (Json × List ℕ)) (place 
 
     pub table_more : (e : ℕ) → r ≡ Some e → (out1 : List ℕ) (a1 : ℕ) → Emits out a (comma start) out1 a1 → (name : List ℕ) → name ≡ name_in 11 (drop place s)
         → (out2 : List ℕ) (a2 : ℕ) → FormsField (members_at (datainfo_in levels) 11 (drop i s)) q name out1 a1 out2 a2
-        → TableAt s i levels q e (left - 1) false before at out2 a2
-    table_more e z out1 a1 x name y out2 a2 w = record {
+        → (later : ℕ) → later ≡ left - 1 → TableAt s i levels q e later false before at out2 a2
+    table_more e z out1 a1 x name y out2 a2 w later last = rw last (record {
       from = λ {m = m} {ms = ms} e' f g fit.
           let t = c.from e' f g fit in
           fields_some (datainfo_in levels) 11 left (drop place s) h t.reads λ b y' d y'' hs n j o w'.
@@ -160,7 +160,7 @@ module _ (s : List ℕ) (i levels : ℕ) (q : Option (Json × List ℕ)) (place 
             whole = t.whole ∙ rw (v.2, stored_at m.1 ms b.1 p.d p.found)
                 (listed_step t.done start b.1 (numbered p.d (value_at b.1 ms)) (ordered hs.1 (exchanged m.1 ms)));
           };
-    }
+    })
 
 -- ## A value at the top level
 

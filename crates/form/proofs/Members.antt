@@ -3,6 +3,7 @@ use Rattle.std.specs.Prelude.{Option, Some, None}
 use Prim.Native.Nat.{ℕ, ◌+◌, ◌-◌, ◌≤◌, ◌<◌}
 use native.Mathlib.Nat.{zero-add}
 use native.Mathlib.Omega.{arith}
+use mathlib.Core.Logic.{◌⊎◌, inl, inr}
 use mathlib.Core.Path.{◌≡◌, refl, sym, ap, ap₂, ◌∙◌}
 use mathlib.Core.Bool.{Bool, true, false, cond, ◌&&◌, ◌||◌}
 use mathlib.Core.List.{List, [], ◌∷◌, ◌++◌, append_assoc, append-nil}
@@ -260,8 +261,9 @@ module _ (o : Option (Parts × List ℕ)) (d : ℕ) (v : List ℕ) (p : ℕ) (pl
   object_cut z = object_end_lem λ js m. members_over m z
 
   pub object_more : (k : ℕ) → place ≡ Some k → (out1 : List ℕ) (a1 : ℕ) → Emits out a (comma start) out1 a1 → (out2 : List ℕ) (a2 : ℕ)
-      → FormsMember o d (drop k v) out1 a1 out2 a2 → (next : Option ℕ) → Ends v next (after_member d (drop k v)) → ObjectAt o d v p next (left - 1) false before at out2 a2
-  object_more k z out1 a1 w out2 a2 g next m = record {
+      → FormsMember o d (drop k v) out1 a1 out2 a2 → (next : Option ℕ) → Ends v next (after_member d (drop k v)) → (later : ℕ) → later ≡ left - 1
+      → ObjectAt o d v p next later false before at out2 a2
+  object_more k z out1 a1 w out2 a2 g next m later one = rw one (record {
     from = λ {m = m'} e f n x.
         let r = c.from e f n x in
         let t = members_next d v left k next r.still z m in
@@ -274,7 +276,7 @@ module _ (o : Option (Parts × List ℕ)) (d : ℕ) (v : List ℕ) (p : ℕ) (pl
           wrote = both (both r.wrote w) (g.is e t.keyed t.reads b q);
           whole = r.whole ∙ rw u (listed_step r.done start t.k (numbered d t.j) (map_members (λ k w. numbered_at k fs w) t.js));
         };
-  }
+  })
 
 -- ## A struct
 
@@ -289,12 +291,10 @@ module _ (s : List ℕ) (i levels k : ℕ) (v : List ℕ) (p depth : ℕ) {befor
     is = λ {m = m} {j = j} e f g. object_begins j (members_fit m.1) g λ ms t q. has (as_object_lem (shape depth (drop p v) f)) t λ w r. absurd (h w);
   }
 
-  pub struct_shallow : depth ≡ 0 → FormsStruct (members_at (datainfo_in levels) k (drop i s)) (bare depth (drop p v)) before at after end
-  struct_shallow e = struct_none λ h. omega arith
-
-  pub struct_past : length v ≤ p → FormsStruct (members_at (datainfo_in levels) k (drop i s)) (bare depth (drop p v)) before at after end
+  pub struct_no : (depth ≡ 0) ⊎ ((depth ≡ 0 → ⊥) × (length v ≤ p)) → FormsStruct (members_at (datainfo_in levels) k (drop i s)) (bare depth (drop p v)) before at after end
   unfolding head
-  struct_past e = struct_none λ h. let z = h.1 in let n : ◌≡◌ {A = ℕ} 0 123 = rw (drop_of_length-le v e) at z in omega arith
+  struct_no (inl e) = struct_none λ h. omega arith
+  struct_no (inr e) = struct_none λ h. let z = h.1 in let n : ◌≡◌ {A = ℕ} 0 123 = rw (drop_of_length-le v e.1) at z in omega arith
 
   pub struct_whole : (out1 : List ℕ) (a1 : ℕ) → Emits before at (123 ∷ []) out1 a1 → (out2 : List ℕ) (a2 : ℕ)
       → FormsMembers (members_at (datainfo_in levels) k (drop i s)) (object_end (value (depth - 1)) (drop (p + 1) v)) out1 a1 out2 a2 → Emits out2 a2 (125 ∷ []) after end

@@ -1,10 +1,11 @@
 -- Laws of the code that fills in what a change leaves out (M-113). Assumes nothing.
 use Rattle.std.specs.Prelude.{Option, Some, None}
+use Rattle.std.specs.Option.{is_some as is_there}
 use Prim.Native.Nat.{ℕ, ◌+◌, ◌-◌, ◌≤◌, ◌<◌}
 use native.Mathlib.Nat.{zero-add}
 use native.Mathlib.Omega.{arith}
 use mathlib.Core.Path.{◌≡◌, refl, sym, ap, ◌∙◌}
-use mathlib.Core.Bool.{Bool, true, false, cond, not, ◌&&◌, ◌||◌}
+use mathlib.Core.Bool.{Bool, true, false, cond, not, ◌&&◌, ◌||◌, false≢true}
 use mathlib.Core.List.{List, [], ◌∷◌, ◌++◌, append_assoc, append-nil}
 use lib.Dec.{eqb}
 use lib.ListN.{length, take, drop, length-append, length-drop}
@@ -47,7 +48,7 @@ not_there k (j ∷ ks) = go (same k j) (not_there k ks)
     go false h = rw zero-add h
 
 module _ (o : Option (Parts × List ℕ)) (q : Option (Json × List ℕ)) (name : List ℕ) (b : Bool) (h : OfStruct o (λ m. any (same name) m.0) b) where
-  pub left_no : b ≡ false → TellsLeftOut o q name false
+  pub left_no : b ≡ false → TellsLeftOut o q name b
   unfolding is_left_out
   left_no z = record { is = λ e f. rw (← (h.is e), z) }
 
@@ -93,8 +94,8 @@ module _ (s : List ℕ) (i : ℕ) (q p : Option (Json × List ℕ)) (u : Option 
   pub kept_short : u ≡ None → {before after : List ℕ} {at end : ℕ} → KeepsAll (members_at (datainfo_in 3) 11 (drop i s)) q p before at after end
   kept_short z = record { is = λ e f g h w. struct_short s i 3 11 u k z e }
 
-  pub kept_first : (n j : ℕ) → u ≡ Some (n, j) → (out : List ℕ) (at : ℕ) → at ≤ 18446744073709551615 → KeptAt s i q p j n true out at out at
-  kept_first n j z out at w = record {
+  pub kept_first : (n j : ℕ) → u ≡ Some (n, j) → (out : List ℕ) (at : ℕ) → at ≤ 18446744073709551615 → (left : ℕ) → left ≡ n → KeptAt s i q p j left true out at out at
+  kept_first n j z out at w left all = rw all (record {
     from = λ {m = m} {ms = ms} {js = js} e f g h v. record {
       gs = m;
       x = _;
@@ -104,7 +105,7 @@ module _ (s : List ℕ) (i : ℕ) (q p : Option (Json × List ℕ)) (u : Option 
       wrote = nothing_written out at w;
       whole = sym (listed_first (kept m ms m.1 js));
     };
-  }
+  })
 
 first_of : (f : List ℕ → Bool) (gs hs : Parts) (a : Bool × List ℕ) (d : Datainfo) (ks : List (List ℕ)) (xs : Members) → gs ≡ joined a d hs → Among gs.1 ks
     → (any (same a.1) ks ≡ true) × (Among hs.1 ks)
@@ -141,8 +142,9 @@ module _ (s : List ℕ) (i : ℕ) (q p : Option (Json × List ℕ)) (place left 
 
     pub kept_more : (e : ℕ) → r ≡ Some e → (name : List ℕ) → name ≡ name_in 11 (drop place s) → (out1 : List ℕ) (a1 : ℕ)
         → KeepsOne (members_at (datainfo_in 3) 11 (drop i s)) q p name start out a out1 a1 → (then : Bool)
-        → StaysFirst (members_at (datainfo_in 3) 11 (drop i s)) q name start then → KeptAt s i q p e (left - 1) then before at out1 a1
-    kept_more e z name y out1 a1 w then u = record {
+        → StaysFirst (members_at (datainfo_in 3) 11 (drop i s)) q name start then → (later : ℕ) → later ≡ left - 1
+        → KeptAt s i q p e later then before at out1 a1
+    kept_more e z name y out1 a1 w then u later last = rw last (record {
       from = λ {m = m} {ms = ms} {js = js} e' f g once fit.
           let t = c.from e' f g once fit in
           fields_some (datainfo_in 3) 11 left (drop place s) h t.reads λ b y' d y'' hs n j o w'.
@@ -162,9 +164,17 @@ module _ (s : List ℕ) (i : ℕ) (q p : Option (Json × List ℕ)) (place left 
             whole = t.whole ∙ rw (v.2, stored_at m.1 js b.1 p.d p.found, next.is e' f)
                 (kept_step (is_left_out m.0 ms b.1) t.done start b.1 (numbered p.d (value_at b.1 js)) (kept m ms hs.1 js));
           };
-    }
+    })
 
 -- ## The object, with what is kept in front
+
+none_there : (r : Option ℕ) → is_there r ≡ false → r ≡ None
+none_there None e = refl
+none_there (Some n) e = absurd (false≢true (sym e))
+
+some_there : (r : Option ℕ) → is_there r ≡ true → (n : ℕ) × (r ≡ Some n)
+some_there None e = absurd (false≢true e)
+some_there (Some n) e = (n, refl)
 
 -- nothing is written of nothing
 none_long : (ks : Members) → length (compact_members ks) ≡ 0 → is_none ks ≡ true
@@ -179,21 +189,22 @@ some_long (member k v ks) n = refl
 
 module _ (o : Option (Parts × List ℕ)) (xs : List ℕ) (p : Option (Json × List ℕ)) {d0 d1 d2 : List ℕ} {a1 a2 : ℕ} (x : Emits d0 0 (123 ∷ []) d1 a1)
     (y : KeepsAll o (object_end (value 7) xs) p d1 a1 d2 a2) where
-  pub merged_alone : (r : Option ℕ) (v : List ℕ) → Ends v r (first 125 xs) → r ≡ None → {d3 : List ℕ} {a3 : ℕ} → Emits d2 a2 (125 ∷ []) d3 a3 → Merges o xs p d0 d3 a3
+  pub merged_alone : (r : Option ℕ) (v : List ℕ) → Ends v r (first 125 xs) → is_there r ≡ false → {d3 : List ℕ} {a3 : ℕ} → Emits d2 a2 (125 ∷ []) d3 a3 → Merges o xs p d0 d3 a3
   unfolding merged_bytes first bytes
-  merged_alone r v f z w = record { is = λ e g h i j. rw (alone (eqb (head (skip xs)) 125) (rw z at f)) (both (both x (y.is e g h i j)) w) }
+  merged_alone r v f z w = record { is = λ e g h i j. rw (alone (eqb (head (skip xs)) 125) (rw (none_there r z) at f)) (both (both x (y.is e g h i j)) w) }
     where
       alone : (b : Bool) → cond {A = Option (List ℕ)} b None (Some xs) ≡ None → b ≡ true
       alone true e = refl
       alone false e = absurd (nothing (sym e))
 
-  merged_both : (r : Option ℕ) (v : List ℕ) → Ends v r (first 125 xs) → (n : ℕ) → r ≡ Some n → {d3 d4 : List ℕ} {a3 a4 : ℕ}
+  merged_both : (r : Option ℕ) (v : List ℕ) → Ends v r (first 125 xs) → is_there r ≡ true → {d3 d4 : List ℕ} {a3 a4 : ℕ}
       → Emits d2 a2 (comma (eqb a2 a1)) d3 a3 → Emits d3 a3 xs d4 a4 → Merges o xs p d0 d4 a4
   unfolding merged_bytes first bytes
-  merged_both r v f n z w u = record {
+  merged_both r v f z w u = record {
     is = λ {m = m} {ms = ms} {js = js} e i h j l.
         let k = y.is e i h j l in
-        rw (opened (eqb (head (skip xs)) 125) (rw z at f).0, ← (same_flag (kept m ms m.1 js) k)) (rw append_assoc at (both (both (both x k) w) u));
+        let n = some_there r z in
+        rw (opened (eqb (head (skip xs)) 125) (rw n.1 at f).0, ← (same_flag (kept m ms m.1 js) k)) (rw append_assoc at (both (both (both x k) w) u));
   }
     where
       opened : (b : Bool) {zs : List ℕ} → cond {A = Option (List ℕ)} b None (Some xs) ≡ Some zs → b ≡ false
@@ -212,10 +223,10 @@ all_of n xs h = rw append-nil at (take_at xs [] n (sym h))
 
 -- the rest of v is a part of it
 pub merged_rest : (o : Option (Parts × List ℕ)) (v : List ℕ) (from : ℕ) (p : Option (Json × List ℕ)) {d0 d1 d2 : List ℕ} {a1 a2 : ℕ} → Emits d0 0 (123 ∷ []) d1 a1
-    → KeepsAll o (object_end (value 7) (drop from v)) p d1 a1 d2 a2 → (r : Option ℕ) → Ends v r (first 125 (drop from v)) → (n : ℕ) → r ≡ Some n → {d3 d4 : List ℕ} {a3 a4 : ℕ}
+    → KeepsAll o (object_end (value 7) (drop from v)) p d1 a1 d2 a2 → (r : Option ℕ) → Ends v r (first 125 (drop from v)) → is_there r ≡ true → {d3 d4 : List ℕ} {a3 a4 : ℕ}
     → Emits d2 a2 (comma (eqb a2 a1)) d3 a3 → Emits d3 a3 (take (length v - from) (drop from v)) d4 a4 → Merges o (drop from v) p d0 d4 a4
-merged_rest o v from p x y r f n z w u =
-    merged_both o (drop from v) p x y r v f n z w (rw (all_of (length v - from) (drop from v) (sym (length-drop from v))) at u)
+merged_rest o v from p x y r f z w u =
+    merged_both o (drop from v) p x y r v f z w (rw (all_of (length v - from) (drop from v) (sym (length-drop from v))) at u)
 
 -- ## Whether members may be left out
 

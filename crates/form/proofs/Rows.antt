@@ -2,6 +2,7 @@
 use Rattle.std.specs.Prelude.{Option, Some, None}
 use Prim.Native.Nat.{ℕ, ◌+◌, ◌-◌, ◌≤◌, ◌<◌}
 use native.Mathlib.Omega.{arith}
+use mathlib.Core.Logic.{◌⊎◌, inl, inr}
 use mathlib.Core.Path.{◌≡◌, refl, sym, ap, ◌∙◌}
 use mathlib.Core.Bool.{Bool, true, false}
 use mathlib.Core.List.{List, [], ◌∷◌, ◌++◌, append_assoc, append-nil}
@@ -145,8 +146,8 @@ module _ (o : Option (Datainfo × List ℕ)) (d : ℕ) (v : List ℕ) (p : ℕ) 
   row_cut z = record { is = λ e f g. let h = items_turns (c.from e f g).still in absurd (omega arith) }
 
   pub row_more : (j : ℕ) → place ≡ Some j → (out' : List ℕ) (a' : ℕ) → FormsItem o (value d (drop j v)) start out a out' a' → (next : Option ℕ)
-      → Ends v next (after_item d (drop j v)) → RowAt o d v p next (left - 1) false before at out' a'
-  row_more j z out' a' g next m = record {
+      → Ends v next (after_item d (drop j v)) → (later : ℕ) → later ≡ left - 1 → RowAt o d v p next later false before at out' a'
+  row_more j z out' a' g next m later one = rw one (record {
     from = λ {one = one} e f n.
         let r = c.from e f n in
         let t = items_next d v left j next r.still z m in
@@ -158,7 +159,7 @@ module _ (o : Option (Datainfo × List ℕ)) (d : ℕ) (v : List ℕ) (p : ℕ) 
           wrote = both r.wrote (g.is e t.reads u.0);
           whole = r.whole ∙ rw u.2 (listed_step r.done start (numbered one t.j) (map_items (λ w. numbered one w) t.js));
         };
-  }
+  })
 
 -- ## An array
 
@@ -172,12 +173,10 @@ module _ (s : List ℕ) (i levels : ℕ) (v : List ℕ) (p depth : ℕ) {before 
         has (as_array_lem (shape depth (drop p v) f)) k λ w r. absurd (h w);
   }
 
-  pub array_shallow : depth ≡ 0 → Forms (array_at (datainfo_in levels) (drop i s)) (bare depth (drop p v)) before at after end
-  array_shallow e = array_none λ h. omega arith
-
-  pub array_past : length v ≤ p → Forms (array_at (datainfo_in levels) (drop i s)) (bare depth (drop p v)) before at after end
+  pub array_no : (depth ≡ 0) ⊎ ((depth ≡ 0 → ⊥) × (length v ≤ p)) → Forms (array_at (datainfo_in levels) (drop i s)) (bare depth (drop p v)) before at after end
   unfolding head
-  array_past e = array_none λ h. let z = h.1 in let n : ◌≡◌ {A = ℕ} 0 91 = rw (drop_of_length-le v e) at z in omega arith
+  array_no (inl e) = array_none λ h. omega arith
+  array_no (inr e) = array_none λ h. let z = h.1 in let n : ◌≡◌ {A = ℕ} 0 91 = rw (drop_of_length-le v e.1) at z in omega arith
 
   module _ (q : Option ℕ) (k : Ends s q (rest (part 4 (drop i s)))) where
     pub array_short : q ≡ None → Forms (array_at (datainfo_in levels) (drop i s)) (bare depth (drop p v)) before at after end
@@ -225,8 +224,8 @@ module _ (s : List ℕ) (i levels d : ℕ) (v : List ℕ) (p : ℕ) (u : Option 
   elements_short z = record { is = λ e f g. tuple_some (datainfo_in levels) (drop i s) e λ n r ds a b o. absurd (nothing (sym (rw z at k) ∙ a)) }
 
   pub elements_first : p < length v → (n place : ℕ) → u ≡ Some (n, place) → (out : List ℕ) (at : ℕ) → at ≤ 18446744073709551615 → (item : Option ℕ)
-      → Ends v item (first 93 (drop (p + 1) v)) → ElementsAt s i levels d v p place n item true out at out at
-  elements_first h n place z out at w m f = record {
+      → Ends v item (first 93 (drop (p + 1) v)) → (left : ℕ) → left ≡ n → ElementsAt s i levels d v p place left item true out at out at
+  elements_first h n place z out at w m f left all = rw all (record {
     from = λ {ds = ds} {is = is} e g q. tuple_some (datainfo_in levels) (drop i s) e λ n' r ds' a b o. record {
       es = ds;
       x = _;
@@ -239,7 +238,7 @@ module _ (s : List ℕ) (i levels d : ℕ) (v : List ℕ) (p : ℕ) (u : Option 
       wrote = nothing_written out at w;
       whole = sym (listed_first (numbered_elements ds is));
     };
-  }
+  })
 
 tuple_step : (ds es : Elements) (d : Datainfo) (is js : Items) (j : Json) → ds ≡ element d es → is ≡ item j js → elements_fit ds is ≡ fits
     → (fit d j ≡ fits) × (elements_fit es js ≡ fits) × (numbered_elements ds is ≡ item (numbered d j) (numbered_elements es js))
@@ -281,8 +280,9 @@ module _ (s : List ℕ) (i levels d : ℕ) (v : List ℕ) (p place left : ℕ) (
     }
 
     pub elements_more : (j n : ℕ) → item ≡ Some j → e ≡ Some n → (out' : List ℕ) (a' : ℕ) → FormsItem (datainfo_in levels (drop place s)) (value d (drop j v)) start out a out' a'
-        → (next : Option ℕ) → Ends v next (after_item d (drop j v)) → ElementsAt s i levels d v p n (left - 1) next false before at out' a'
-    elements_more j n z o out' a' g next t = record {
+        → (next : Option ℕ) → Ends v next (after_item d (drop j v)) → (later : ℕ) → later ≡ left - 1
+        → ElementsAt s i levels d v p n later next false before at out' a'
+    elements_more j n z o out' a' g next t later one = rw one (record {
       from = λ m w f.
           let r = c.from m w f in
           let st = items_next d v r.n j next r.still z t in
@@ -299,7 +299,7 @@ module _ (s : List ℕ) (i levels d : ℕ) (v : List ℕ) (p place left : ℕ) (
             wrote = both r.wrote (g.is b st.reads x.0);
             whole = r.whole ∙ rw x.2 (listed_step r.done start (numbered one st.j) (numbered_elements es st.js));
           };
-    }
+    })
 
 -- ## A tuple
 
@@ -311,12 +311,10 @@ module _ (s : List ℕ) (i levels : ℕ) (v : List ℕ) (p depth : ℕ) {before 
         array_begins j (λ is. elements_fit ds is) (rw o at g) λ is k q. has (as_array_lem (shape depth (drop p v) f)) k λ w r. absurd (h w);
   }
 
-  pub tuple_shallow : depth ≡ 0 → Forms (tuple_at (datainfo_in levels) (drop i s)) (bare depth (drop p v)) before at after end
-  tuple_shallow e = tuple_none λ h. omega arith
-
-  pub tuple_past : length v ≤ p → Forms (tuple_at (datainfo_in levels) (drop i s)) (bare depth (drop p v)) before at after end
+  pub tuple_no : (depth ≡ 0) ⊎ ((depth ≡ 0 → ⊥) × (length v ≤ p)) → Forms (tuple_at (datainfo_in levels) (drop i s)) (bare depth (drop p v)) before at after end
   unfolding head
-  tuple_past e = tuple_none λ h. let z = h.1 in let n : ◌≡◌ {A = ℕ} 0 91 = rw (drop_of_length-le v e) at z in omega arith
+  tuple_no (inl e) = tuple_none λ h. omega arith
+  tuple_no (inr e) = tuple_none λ h. let z = h.1 in let n : ◌≡◌ {A = ℕ} 0 91 = rw (drop_of_length-le v e.1) at z in omega arith
 
   pub tuple_whole : (out1 : List ℕ) (a1 : ℕ) → Emits before at (91 ∷ []) out1 a1 → (out2 : List ℕ) (a2 : ℕ)
       → FormsElements (tuple_at (datainfo_in levels) (drop i s)) (array_end (value (depth - 1)) (drop (p + 1) v)) out1 a1 out2 a2 → Emits out2 a2 (93 ∷ []) after end

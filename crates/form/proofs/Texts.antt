@@ -1,5 +1,6 @@
 -- Laws of the code that judges a text and writes its stored form. Assumes nothing.
-use Rattle.std.specs.Prelude.{Option, Some, None, Result, Err}
+use Rattle.std.specs.Prelude.{Option, Some, None, Result, Ok, Err}
+use Rattle.std.specs.Result.{is_ok}
 use Prim.Native.Nat.{ℕ, ◌+◌, ◌≤◌}
 use native.Mathlib.Nat.{zero-add}
 use native.Mathlib.Omega.{arith}
@@ -8,7 +9,8 @@ use mathlib.Core.Bool.{Bool, true, false}
 use mathlib.Core.List.{List}
 use lib.ListN.{length, take, drop}
 use lib.Seq.{sets, sets-eq, take_at}
-use lib.Dec.{leb}
+use lib.Dec.{eqb, leb}
+use Rattle.std.specs.Cmp.Lexicographic.{pointwise}
 use borrow.Author.Tests.{le-leb, lt-leb, leb-true, leb-false}
 use Rattle.ascii.specs.Bytes.{is_some, same}
 use Rattle.ascii.specs.Clauses.Reader.{Left}
@@ -23,11 +25,11 @@ use Rattle.fit.specs.Clauses.Verdict.{meaning, Judges, JudgesText, TellsStored}
 use Rattle.fit.proofs.Judged.{worse_fits, same_read}
 use Rattle.fit.proofs.Items.{unspaced}
 use Rattle.form.specs.Clauses.Formed.{FormsText, FormIsLong, FitsAt, PutsForm, TellsOwn}
-use Rattle.form.proofs.Verdicts.{fit_is}
+use Rattle.form.proofs.Fields.{pointwise_same}
 use Rattle.form.proofs.Stored.{stored_short, fits_value}
 use Rattle.form.proofs.Typed.{text_value}
 use Rattle.fit.specs.declared.Misfit.{Misfit}
-use Rattle.fit.specs.declared.Misfit.TheVariants.{BadJson}
+use Rattle.fit.specs.declared.Misfit.TheVariants.{RangeError, WrongType, BadJson}
 
 -- ## The verdict
 
@@ -61,9 +63,16 @@ capped_short n = go (leb n 256) refl
     go true e = le-leb (capped n) 256 (omega (arith, leb-true n 256 e))
     go false e = lt-leb (capped n) 256 (omega (arith, leb-false n 256 e))
 
+-- an error is a fault
+unfit : (y : Misfit) → is_fit (meaning (Err y)) ≡ false
+unfolding is_fit severity
+unfit RangeError = refl
+unfit WrongType = refl
+unfit BadJson = refl
+
 -- a is how the value of the text fits, as the code judges it
 module _ (o : Option (Datainfo × List ℕ)) (v : List ℕ) (j : is_some (text v) ≡ true) (p : ℕ) (l : Left v p (skip (drop 0 v))) (a : Result Unit Misfit)
-    (m : Judges o (bare 8 (drop p v)) a) (t : Bool) (g : t ≡ is_fit (meaning a)) where
+    (m : Judges o (bare 8 (drop p v)) a) where
   judged : {d : Datainfo} {x : List ℕ} {w : Json} → o ≡ Some (d, x) → text v ≡ Some w → meaning a ≡ fit d w
   judged e q = text_value v q λ y i. unspaced 8 v i λ y' i'. m.is e (rw l.is at i')
 
@@ -76,19 +85,19 @@ module _ (o : Option (Datainfo × List ℕ)) (v : List ℕ) (j : is_some (text v
       go None e z = absurd (let z : ◌≡◌ {A = ℕ} 0 1 = cc in omega arith)
       go (Some w) e z = h w e
 
-  pub value_unfit : t ≡ false → JudgesText o v a
+  pub value_unfit : (y : Misfit) → a ≡ Err y → JudgesText o v (Err y)
   unfolding value_verdict
-  value_unfit z = record {
+  value_unfit y z = rw (← z) (record {
     is = λ {d = d} e. by_value d a λ w q.
         let f = judged e q in
-        f ∙ sym (not_lighter (fit d w) (leb (length (form_of d (Some w))) 256) (ap is_fit (sym f) ∙ sym g ∙ z));
-  }
+        f ∙ sym (not_lighter (fit d w) (leb (length (form_of d (Some w))) 256) (ap is_fit (sym f ∙ ap meaning z) ∙ unfit y));
+  })
 
-  pub value_fits : t ≡ true → (n : ℕ) → FormIsLong o v n → (r : Result Unit Misfit) → meaning r ≡ in_range (leb n 256) → JudgesText o v r
+  pub value_fits : (y : Unit) → a ≡ Ok y → (n : ℕ) → FormIsLong o v n → (r : Result Unit Misfit) → meaning r ≡ in_range (leb n 256) → JudgesText o v r
   unfolding value_verdict stored_form
-  value_fits z n h r k = record {
+  value_fits y z n h r k = record {
     is = λ {d = d} e. by_value d r λ w q.
-        let f : fit d w ≡ fits = sym (judged e q) ∙ fit_is (meaning a) (sym g ∙ z) in
+        let f : fit d w ≡ fits = sym (judged e q) ∙ ap meaning z in
         let c : n ≡ capped (length (form_of d (Some w))) = rw q at (h.is e q f) in
         k ∙ rw (c, capped_short (length (form_of d (Some w))), f, worse_fits (in_range (leb (length (form_of d (Some w))) 256)));
   }
@@ -124,17 +133,27 @@ module _ (s : List ℕ) (info : ℕ) (v out after : List ℕ) (n : ℕ) (g : Fit
   pub own_slice : n ≡ length (take n after)
   own_slice = (x.is g.reads.is).ends ∙ zero-add (length (stored_form g.reads.datainfo v)) ∙ ap length (sym (written g.reads.is))
 
-  pub own_told : (r : Bool) → r ≡ same (take n after) v → TellsOwn (datainfo_in 4 (drop info s)) v r
-  own_told r e = record { is = λ f. e ∙ ap (λ (z : List ℕ). same z v) (written f) }
+  pub own_told : (r : Bool) → r ≡ pointwise eqb (take n after) v → TellsOwn (datainfo_in 4 (drop info s)) v r
+  own_told r e = record { is = λ f. e ∙ pointwise_same (take n after) v ∙ ap (λ (z : List ℕ). same z v) (written f) }
 
 -- ## Whether a text is in stored form
 
-pub fits_there : (s : List ℕ) (at : ℕ) (v : List ℕ) (h : ReadableAt s at 4) (a : Result Unit Misfit) → JudgesText (datainfo_in 4 (drop at s)) v a → (t : Bool)
-    → t ≡ is_fit (meaning a) → t ≡ true → FitsAt s at v
-fits_there s at v h a m t g z = record { reads = h; fits = ap is_fit (sym (m.is h.is)) ∙ sym g ∙ z }
+ok_fits : (a : Result Unit Misfit) → is_ok a ≡ is_fit (meaning a)
+unfolding is_fit severity
+ok_fits (Ok y) = refl
+ok_fits (Err RangeError) = refl
+ok_fits (Err WrongType) = refl
+ok_fits (Err BadJson) = refl
 
-module _ (o : Option (Datainfo × List ℕ)) (v : List ℕ) (a : Result Unit Misfit) (m : JudgesText o v a) (t : Bool) (g : t ≡ is_fit (meaning a)) where
-  pub stored_unfit : t ≡ false → TellsStored o v false
+pub fits_there : (s : List ℕ) (at : ℕ) (v : List ℕ) (h : ReadableAt s at 4) (a : Result Unit Misfit) → JudgesText (datainfo_in 4 (drop at s)) v a → (t : Bool)
+    → t ≡ is_ok a → t ≡ true → FitsAt s at v
+fits_there s at v h a m t g z = record { reads = h; fits = ap is_fit (sym (m.is h.is)) ∙ sym (g ∙ ok_fits a) ∙ z }
+
+module _ (o : Option (Datainfo × List ℕ)) (v : List ℕ) (a : Result Unit Misfit) (m : JudgesText o v a) (t : Bool) (e : t ≡ is_ok a) where
+  g : t ≡ is_fit (meaning a)
+  g = e ∙ ok_fits a
+
+  pub stored_unfit : t ≡ false → TellsStored o v t
   unfolding is_stored
   stored_unfit z = record { is = λ e. rw (← (m.is e), ← g, z) }
 

@@ -7,9 +7,9 @@ ghost use Rattle.datainfo.specs.Layout.{datainfo_in};
 ghost use Rattle.datainfo.specs.Clauses.Members.{members_at};
 ghost use Rattle.form.specs.Clauses.Merged.{TellsLeftOut, StaysFirst, KeepsOne, KeepsAll, Merges, ShownAt, Completes};
 
-use crate::write::put_field;
+use crate::write::{MEMBER_DEPTH, MEMBER_LEVELS, PARTIAL, put_field};
+use ascii::byte;
 use ascii::numbers::unsigned;
-use ascii::{byte};
 use datainfo::layout::field_end;
 use datainfo::rules::named_at;
 use emit::{emit, emit_comma};
@@ -23,10 +23,7 @@ fn is_left_out(s: &[u8], i: usize, v: &[u8], p: usize, name: &[u8]) -> bool
     ensures { TellsLeftOut (members_at (datainfo_in 3) 11 (drop i s.now)) (object_end (value 7) (drop (p + 1) v.now))
         name.now result }
 {
-    if is_optional(s, i, 3, name) {
-        return count_key(v, p + 1, 7, name) == 0;
-    }
-    false
+    is_optional(s, i, MEMBER_LEVELS, name) && count_key(v, p + 1, MEMBER_DEPTH, name) == 0
 }
 
 // Whether the next that is written would be the first.
@@ -35,10 +32,7 @@ fn stays_first(s: &[u8], i: usize, v: &[u8], p: usize, name: &[u8], start: bool)
     ensures { StaysFirst (members_at (datainfo_in 3) 11 (drop i s.now)) (object_end (value 7) (drop (p + 1) v.now))
         name.now start result }
 {
-    if is_left_out(s, i, v, p, name) {
-        return false;
-    }
-    start
+    start && !is_left_out(s, i, v, p, name)
 }
 
 // The member of a name from what is shown, if the object past the '{' at p leaves it out.
@@ -59,7 +53,7 @@ fn put_one(
 {
     if is_left_out(s, i, v, p, name) {
         let a = emit_comma(out, at, start);
-        return put_field(out, a, s, i, 3, shown, 0, 7, name);
+        return put_field(out, a, s, i, MEMBER_LEVELS, shown, 0, MEMBER_DEPTH, name);
     }
     at
 }
@@ -83,17 +77,15 @@ fn put_left_out(
     };
     let mut a = at;
     let mut field = from;
-    let mut left = count;
     let mut start = true;
-    while 0 < left {
-        let Some(e) = field_end(s, field, 3, 11) else {
+    for _ in 0..count {
+        let Some(e) = field_end(s, field, MEMBER_LEVELS, PARTIAL) else {
             return a;
         };
-        let name = named_at(s, field, 11);
+        let name = named_at(s, field, PARTIAL);
         a = put_one(out, a, s, i, shown, v, p, name, start);
         start = stays_first(s, i, v, p, name, start);
         field = e;
-        left -= 1;
     }
     a
 }
@@ -107,9 +99,9 @@ fn put_merged(out: &mut [u8], s: &[u8], i: usize, shown: &[u8], v: &[u8], p: usi
     let a = emit(out, 0, b"{");
     let b = put_left_out(out, a, s, i, shown, v, p);
     let from = p + 1;
-    let Some(_) = first(v, from, b'}') else {
+    if first(v, from, b'}').is_none() {
         return emit(out, b, b"}");
-    };
+    }
     let c = emit_comma(out, b, b == a);
     emit(out, c, &v[from..])
 }
@@ -119,13 +111,7 @@ fn is_part(shown: &[u8], v: &[u8], p: usize) -> bool
     requires { p ≤ length v.now }
     ensures { result ≡ (eqb (head shown.now) 123 && (eqb (head (drop p v.now)) 123 && is_some (text v.now))) }
 {
-    if byte(shown, 0) != b'{' {
-        return false;
-    }
-    if byte(v, p) != b'{' {
-        return false;
-    }
-    is_text(v)
+    byte(shown, 0) == b'{' && byte(v, p) == b'{' && is_text(v)
 }
 
 // Writes what the change v of a parameter with the datainfo at a position comes to, where `shown` is what it shows: a text at the front of
@@ -135,14 +121,10 @@ pub fn complete(s: &[u8], i: usize, shown: &[u8], v: &[u8], out: &mut [u8]) -> u
     ensures { Completes (datainfo_in 4 (drop i s.now)) shown.now v.now out.old out.new result }
 {
     let p = spaces_end(v, 0);
-    let Some((k, inner)) = unsigned(s, i, 1) else {
-        return emit(out, 0, v);
-    };
-    if k != 11 {
-        return emit(out, 0, v);
+    match unsigned(s, i, 1) {
+        Some((k, inner)) if k == u64::from(PARTIAL) && is_part(shown, v, p) => {
+            put_merged(out, s, inner, shown, v, p)
+        }
+        _ => emit(out, 0, v),
     }
-    if is_part(shown, v, p) {
-        return put_merged(out, s, inner, shown, v, p);
-    }
-    emit(out, 0, v)
 }

@@ -13,9 +13,8 @@ ghost use Rattle.ascii.specs.Bytes.{is_some};
 pub mod complete;
 pub mod write;
 
-use ascii::names::same;
 use fit::Misfit;
-use fit::fit::{fit, is_fit, range_fit};
+use fit::fit::{fit, range_fit};
 use json_text::read::{is_text, spaces_end};
 use limits::{DATAINFO_LEVELS, JSON_LEVELS, PLACE};
 use write::{form_length, put_text};
@@ -34,11 +33,8 @@ fn value_verdict(s: &[u8], at: usize, v: &[u8]) -> Result<(), Misfit>
     requires { ReadableAt s.now at 4 × (is_some (text v.now) ≡ true) }
     ensures { JudgesText (datainfo_in 4 (drop at s.now)) v.now result }
 {
-    let judged = fit(s, at, DATAINFO_LEVELS, v, spaces_end(v, 0), JSON_LEVELS);
-    if is_fit(judged) {
-        return range_fit(form_length(s, at, v) <= PLACE);
-    }
-    judged
+    fit(s, at, DATAINFO_LEVELS, v, spaces_end(v, 0), JSON_LEVELS)?;
+    range_fit(form_length(s, at, v) <= PLACE)
 }
 
 // What a text comes to: no JSON is BadJSON.
@@ -59,7 +55,7 @@ fn is_own_form(s: &[u8], at: usize, v: &[u8]) -> bool
 {
     let mut form = [0; PLACE];
     let n = put_form(s, at, &mut form, 0, v);
-    same(&form[..n], v)
+    &form[..n] == v
 }
 
 // Whether a text fits and is in stored form.
@@ -67,10 +63,7 @@ pub fn is_stored(s: &[u8], at: usize, v: &[u8]) -> bool
     requires { ReadableAt s.now at 4 }
     ensures { TellsStored (datainfo_in 4 (drop at s.now)) v.now result }
 {
-    if is_fit(verdict(s, at, v)) {
-        return is_own_form(s, at, v);
-    }
-    false
+    verdict(s, at, v).is_ok() && is_own_form(s, at, v)
 }
 
 // What is let in is stored in stored form and fits, with numbers for names: nothing is run, the promise is the theorem.

@@ -9,8 +9,8 @@ ghost use Rattle.form.specs.Clauses.Formed.{Copies, PutsNumber, Forms, FormsItem
 ghost use Rattle.form.specs.Clauses.Formed.{FormsStruct};
 ghost use Rattle.form.specs.Clauses.Formed.{FormsField, FormsFields, FormsOrdered, FormsText, FormIsLong};
 
-use ascii::numbers::unsigned;
 use ascii::byte;
+use ascii::numbers::unsigned;
 use datainfo::layout::{datainfo_end, field_end, named_end, part_end};
 use datainfo::rules::named_at;
 use emit::{emit, emit_comma, emit_integer, emit_key};
@@ -19,6 +19,14 @@ use fit::object::find_key;
 use fit::walk::{first, key_at, member_value, next, next_member, quoted};
 use json_text::read::{scalar_end, spaces_end};
 use limits::{DATAINFO_LEVELS, JSON_LEVELS};
+
+// The type byte of a struct whose members a change may leave out.
+pub(crate) const PARTIAL: u8 = 11;
+
+// The levels below the top one: of the datainfos of a struct's members, and of the values of an object's.
+pub(crate) const MEMBER_LEVELS: usize = DATAINFO_LEVELS - 1;
+
+pub(crate) const MEMBER_DEPTH: usize = JSON_LEVELS - 1;
 
 // A value that holds no values: its bytes as they stand.
 fn put_scalar(out: &mut [u8], at: usize, v: &[u8], p: usize) -> usize
@@ -110,16 +118,14 @@ fn put_items(
 {
     let mut a = at;
     let mut item = first(v, p + 1, b']');
-    let mut left = v.len() - p;
     let mut start = true;
-    while 0 < left {
+    for _ in p..v.len() {
         let Some(j) = item else {
             return a;
         };
         a = put_item(out, a, s, i, levels, v, j, depth, start);
         start = false;
         item = next(v, j, depth);
-        left -= 1;
     }
     a
 }
@@ -139,10 +145,7 @@ fn put_array(
     ensures { Forms (array_at (datainfo_in levels) (drop i s.now)) (bare depth (drop p v.now))
         out.old at out.new result }
 {
-    if depth == 0 {
-        return at;
-    }
-    if v.len() <= p {
+    if depth == 0 || v.len() <= p {
         return at;
     }
     let Some(inner) = part_end(s, i, 4) else {
@@ -174,10 +177,9 @@ fn put_elements(
     };
     let mut a = at;
     let mut element = from;
-    let mut left = count;
     let mut item = first(v, p + 1, b']');
     let mut start = true;
-    while 0 < left {
+    for _ in 0..count {
         let Some(j) = item else {
             return a;
         };
@@ -188,7 +190,6 @@ fn put_elements(
         start = false;
         item = next(v, j, depth);
         element = e;
-        left -= 1;
     }
     a
 }
@@ -208,10 +209,7 @@ fn put_tuple(
     ensures { Forms (tuple_at (datainfo_in levels) (drop i s.now)) (bare depth (drop p v.now))
         out.old at out.new result }
 {
-    if depth == 0 {
-        return at;
-    }
-    if v.len() <= p {
+    if depth == 0 || v.len() <= p {
         return at;
     }
     let a = emit(out, at, b"[");
@@ -266,9 +264,8 @@ fn put_members(
 {
     let mut a = at;
     let mut member = first(v, p + 1, b'}');
-    let mut left = v.len() - p;
     let mut start = true;
-    while 0 < left {
+    for _ in p..v.len() {
         let Some(j) = member else {
             return a;
         };
@@ -276,7 +273,6 @@ fn put_members(
         a = put_member(out, c, s, i, levels, k, v, j, depth);
         start = false;
         member = next_member(v, j, depth);
-        left -= 1;
     }
     a
 }
@@ -297,10 +293,7 @@ fn put_struct(
     ensures { FormsStruct (members_at (datainfo_in levels) k (drop i s.now)) (bare depth (drop p v.now))
         out.old at out.new result }
 {
-    if depth == 0 {
-        return at;
-    }
-    if v.len() <= p {
+    if depth == 0 || v.len() <= p {
         return at;
     }
     let a = emit(out, at, b"{");
@@ -329,22 +322,14 @@ fn put_value(
     let Some((k, inner)) = unsigned(s, i, 1) else {
         return at;
     };
-    if k == 4 {
-        return put_choice(out, at, s, inner, v, p);
+    match k {
+        4 => put_choice(out, at, s, inner, v, p),
+        6 => put_array(out, at, s, inner, levels - 1, v, p, depth),
+        7 => put_tuple(out, at, s, inner, levels - 1, v, p, depth),
+        8 => put_struct(out, at, s, inner, levels - 1, 8, v, p, depth),
+        11 => put_struct(out, at, s, inner, levels - 1, PARTIAL, v, p, depth),
+        _ => put_scalar(out, at, v, p),
     }
-    if k == 6 {
-        return put_array(out, at, s, inner, levels - 1, v, p, depth);
-    }
-    if k == 7 {
-        return put_tuple(out, at, s, inner, levels - 1, v, p, depth);
-    }
-    if k == 8 {
-        return put_struct(out, at, s, inner, levels - 1, 8, v, p, depth);
-    }
-    if k == 11 {
-        return put_struct(out, at, s, inner, levels - 1, 11, v, p, depth);
-    }
-    put_scalar(out, at, v, p)
 }
 
 // The member of a name of a struct of type 11, from the object past the '{' at p.
@@ -363,7 +348,7 @@ pub(crate) fn put_field(
     ensures { FormsField (members_at (datainfo_in levels) 11 (drop i s.now)) (object_end (value depth) (drop (p + 1) v.now))
         name.now out.old at out.new result }
 {
-    let Some(inner) = field_at(s, i, levels, 11, name) else {
+    let Some(inner) = field_at(s, i, levels, PARTIAL, name) else {
         return at;
     };
     let Some(q) = find_key(v, p + 1, depth, name) else {
@@ -393,17 +378,16 @@ fn put_fields(
     };
     let mut a = at;
     let mut field = from;
-    let mut left = count;
     let mut start = true;
-    while 0 < left {
-        let Some(e) = field_end(s, field, levels, 11) else {
+    for _ in 0..count {
+        let Some(e) = field_end(s, field, levels, PARTIAL) else {
             return a;
         };
+        let name = named_at(s, field, PARTIAL);
         let c = emit_comma(out, a, start);
-        a = put_field(out, c, s, i, levels, v, p, depth, named_at(s, field, 11));
+        a = put_field(out, c, s, i, levels, v, p, depth, name);
         start = false;
         field = e;
-        left -= 1;
     }
     a
 }
@@ -418,7 +402,7 @@ fn put_ordered(out: &mut [u8], at: usize, s: &[u8], i: usize, v: &[u8], p: usize
         return at;
     }
     let a = emit(out, at, b"{");
-    let b = put_fields(out, a, s, i, 3, v, p, 7);
+    let b = put_fields(out, a, s, i, MEMBER_LEVELS, v, p, MEMBER_DEPTH);
     emit(out, b, b"}")
 }
 
@@ -431,7 +415,7 @@ pub fn put_text(s: &[u8], i: usize, out: &mut [u8], at: usize, v: &[u8]) -> usiz
     let Some((k, inner)) = unsigned(s, i, 1) else {
         return at;
     };
-    if k == 11 {
+    if k == u64::from(PARTIAL) {
         return put_ordered(out, at, s, inner, v, p);
     }
     put_value(out, at, s, i, DATAINFO_LEVELS, v, p, JSON_LEVELS)
@@ -442,6 +426,5 @@ pub fn form_length(s: &[u8], i: usize, v: &[u8]) -> usize
     requires { i ≤ length s.now }
     ensures { FormIsLong (datainfo_in 4 (drop i s.now)) v.now result }
 {
-    let mut nothing: [u8; 0] = [];
-    put_text(s, i, &mut nothing, 0, v)
+    put_text(s, i, &mut [], 0, v)
 }

@@ -12,11 +12,11 @@ unsigned-requires c = (omega arith, omega arith)
 pub returns-in_default : goal.returns-in_default
 returns-in_default c = search kept_short
 
-pub loop-left-init : goal.loop-left-init
-loop-left-init c = (search unsigned_within, refl, omega arith, kept_first _ _ _ _ _ c.unsigned.ensures _ _ c.in-Some.is _ _ (omega arith))
+pub loop-init : goal.loop-init
+loop-init c = (search unsigned_within, refl, omega arith, kept_first _ _ _ _ _ c.unsigned.ensures _ _ c.in-Some.is _ _ (omega arith) _ (omega arith))
 
 pub returns-in_default-field_end : goal.returns-in_default-field_end
-returns-in_default-field_end c = search kept_bad
+returns-in_default-field_end c = search (arith, kept_bad)
 
 pub put_one-a-requires : goal.put_one-a-requires
 put_one-a-requires c = (omega arith, (omega arith, omega arith))
@@ -24,8 +24,8 @@ put_one-a-requires c = (omega arith, (omega arith, omega arith))
 pub stays_first-start-requires : goal.stays_first-start-requires
 stays_first-start-requires c = (omega arith, omega arith)
 
-pub loop-left-preserved : goal.loop-left-preserved
-loop-left-preserved c = (search ended_within, search rules, omega arith, search kept_more)
+pub loop-preserved : goal.loop-preserved
+loop-preserved c = (search ended_within, search rules, omega arith, search (arith, kept_more))
 
 pub returns : goal.returns
-returns c = search kept_over
+returns c = search (arith, kept_over)

@@ -3,19 +3,16 @@ use Rattle.ascii.proofs.Bytes.{ended_within}
 use Rattle.datainfo.proofs.Own.{unsigned_within}
 use Rattle.fit.proofs.Walks.{inside_ends, inside_at}
 use Rattle.form.proofs.Fields.{field_within}
-use Rattle.form.proofs.Rows.{item_put, row_first, row_over, row_cut, row_more, array_shallow, array_past, array_short, array_whole}
-use Rattle.form.proofs.Rows.{elements_short, elements_first, elements_few, elements_over, elements_bad, elements_more, tuple_shallow, tuple_past, tuple_whole}
-use Rattle.form.proofs.Members.{member_unknown, member_cut, member_put, object_first, object_over, object_cut, object_more, struct_shallow, struct_past, struct_whole}
+use Rattle.form.proofs.Rows.{item_put, row_first, row_over, row_cut, row_more, array_no, array_short, array_whole}
+use Rattle.form.proofs.Rows.{elements_short, elements_first, elements_few, elements_over, elements_bad, elements_more, tuple_no, tuple_whole}
+use Rattle.form.proofs.Members.{member_unknown, member_cut, member_put, object_first, object_over, object_cut, object_more, struct_no, struct_whole}
 use Rattle.form.proofs.Typed.{forms_fifth, forms_short, forms_enum_at, forms_array, forms_tuple, forms_struct, forms_partial, forms_plain}
 use borrow.Author.Rules.{rules}
 use native.Mathlib.Omega.{arith}
 use Rattle.form.proofs.write.+put_array_put_elements_put_item_put_items_put_member_put_members_put_struct_put_tuple_put_value.Goals as goal
 
 pub put_array-returns-then-depth-eq0 : goal.put_array-returns-then-depth-eq0
-put_array-returns-then-depth-eq0 t c = search array_shallow
-
-pub put_array-returns-then-v-p : goal.put_array-returns-then-v-p
-put_array-returns-then-v-p t c = search array_past
+put_array-returns-then-depth-eq0 t c = search array_no
 
 pub put_array-returns-in_default : goal.put_array-returns-in_default
 put_array-returns-in_default t c = search array_short
@@ -32,14 +29,14 @@ put_elements-unsigned-requires t c = (omega arith, omega arith)
 pub put_elements-returns-in_default : goal.put_elements-returns-in_default
 put_elements-returns-in_default t c = search elements_short
 
-pub put_elements-loop-left-init : goal.put_elements-loop-left-init
-put_elements-loop-left-init t c = (search inside_ends, search unsigned_within, refl, omega arith, elements_first _ _ _ _ _ _ _ c.unsigned.ensures (omega arith) _ _ c.in-Some.is _ _ (omega arith) _ (search rules))
+pub put_elements-loop-init : goal.put_elements-loop-init
+put_elements-loop-init t c = (search inside_ends, search unsigned_within, refl, omega arith, elements_first _ _ _ _ _ _ _ c.unsigned.ensures (omega arith) _ _ c.in-Some.is _ _ (omega arith) _ (search rules) _ (omega arith))
 
 pub put_elements-returns-in_default-item : goal.put_elements-returns-in_default-item
-put_elements-returns-in_default-item t c = search elements_few
+put_elements-returns-in_default-item t c = search (arith, elements_few)
 
 pub put_elements-returns-in_default-datainfo_end : goal.put_elements-returns-in_default-datainfo_end
-put_elements-returns-in_default-datainfo_end t c = search elements_bad
+put_elements-returns-in_default-datainfo_end t c = search (arith, elements_bad)
 
 pub put_elements-put_item-a-requires : goal.put_elements-put_item-a-requires
 put_elements-put_item-a-requires t c = (omega arith, (omega arith, search inside_at))
@@ -47,11 +44,11 @@ put_elements-put_item-a-requires t c = (omega arith, (omega arith, search inside
 pub put_elements-next-item-requires : goal.put_elements-next-item-requires
 put_elements-next-item-requires t c = search inside_at
 
-pub put_elements-loop-left-preserved : goal.put_elements-loop-left-preserved
-put_elements-loop-left-preserved t c = (search inside_ends, search ended_within, search rules, omega arith, search elements_more)
+pub put_elements-loop-preserved : goal.put_elements-loop-preserved
+put_elements-loop-preserved t c = (search inside_ends, search ended_within, search rules, omega arith, search (arith, elements_more))
 
 pub put_elements-returns : goal.put_elements-returns
-put_elements-returns t c = search elements_over
+put_elements-returns t c = search (arith, elements_over)
 
 pub put_item-put_value-requires : goal.put_item-put_value-requires
 put_item-put_value-requires t c = (omega arith, (omega arith, omega arith))
@@ -59,11 +56,11 @@ put_item-put_value-requires t c = (omega arith, (omega arith, omega arith))
 pub put_item-returns : goal.put_item-returns
 put_item-returns t c = search item_put
 
-pub put_items-loop-left-init : goal.put_items-loop-left-init
-put_items-loop-left-init t c = (search inside_ends, refl, omega arith, row_first _ _ _ _ _ _ (omega arith) (omega arith) _ (search rules))
+pub put_items-loop-init : goal.put_items-loop-init
+put_items-loop-init t c = (search inside_ends, refl, omega arith, row_first _ _ _ _ _ _ (omega arith) (omega arith) _ (search rules))
 
 pub put_items-returns-in_default : goal.put_items-returns-in_default
-put_items-returns-in_default t c = search row_over
+put_items-returns-in_default t c = search (arith, row_over)
 
 pub put_items-put_item-a-requires : goal.put_items-put_item-a-requires
 put_items-put_item-a-requires t c = (omega arith, (omega arith, search inside_at))
@@ -71,11 +68,11 @@ put_items-put_item-a-requires t c = (omega arith, (omega arith, search inside_at
 pub put_items-next-item-requires : goal.put_items-next-item-requires
 put_items-next-item-requires t c = search inside_at
 
-pub put_items-loop-left-preserved : goal.put_items-loop-left-preserved
-put_items-loop-left-preserved t c = (search inside_ends, search rules, omega arith, search row_more)
+pub put_items-loop-preserved : goal.put_items-loop-preserved
+put_items-loop-preserved t c = (search inside_ends, search rules, omega arith, search (arith, row_more))
 
 pub put_items-returns : goal.put_items-returns
-put_items-returns t c = search row_cut
+put_items-returns t c = search (arith, row_cut)
 
 pub put_member-returns-in_default : goal.put_member-returns-in_default
 put_member-returns-in_default t c = search member_unknown
@@ -89,11 +86,11 @@ put_member-put_value-requires t c = (omega arith, (search field_within, search e
 pub put_member-returns : goal.put_member-returns
 put_member-returns t c = search member_put
 
-pub put_members-loop-left-init : goal.put_members-loop-left-init
-put_members-loop-left-init t c = (search inside_ends, refl, omega arith, object_first _ _ _ _ _ _ (omega arith) _ (search rules))
+pub put_members-loop-init : goal.put_members-loop-init
+put_members-loop-init t c = (search inside_ends, refl, omega arith, object_first _ _ _ _ _ _ (omega arith) _ (search rules))
 
 pub put_members-returns-in_default : goal.put_members-returns-in_default
-put_members-returns-in_default t c = search object_over
+put_members-returns-in_default t c = search (arith, object_over)
 
 pub put_members-put_member-a-requires : goal.put_members-put_member-a-requires
 put_members-put_member-a-requires t c = (omega arith, (omega arith, search inside_at))
@@ -101,17 +98,14 @@ put_members-put_member-a-requires t c = (omega arith, (omega arith, search insid
 pub put_members-next_member-member-requires : goal.put_members-next_member-member-requires
 put_members-next_member-member-requires t c = search inside_at
 
-pub put_members-loop-left-preserved : goal.put_members-loop-left-preserved
-put_members-loop-left-preserved t c = (search inside_ends, search rules, omega arith, search object_more)
+pub put_members-loop-preserved : goal.put_members-loop-preserved
+put_members-loop-preserved t c = (search inside_ends, search rules, omega arith, search (arith, object_more))
 
 pub put_members-returns : goal.put_members-returns
-put_members-returns t c = search object_cut
+put_members-returns t c = search (arith, object_cut)
 
 pub put_struct-returns-then-depth-eq0 : goal.put_struct-returns-then-depth-eq0
-put_struct-returns-then-depth-eq0 t c = search struct_shallow
-
-pub put_struct-returns-then-v-p : goal.put_struct-returns-then-v-p
-put_struct-returns-then-v-p t c = search struct_past
+put_struct-returns-then-depth-eq0 t c = search struct_no
 
 pub put_struct-put_members-b-requires : goal.put_struct-put_members-b-requires
 put_struct-put_members-b-requires t c = (omega arith, (omega arith, omega arith))
@@ -120,10 +114,7 @@ pub put_struct-returns : goal.put_struct-returns
 put_struct-returns t c = search struct_whole
 
 pub put_tuple-returns-then-depth-eq0 : goal.put_tuple-returns-then-depth-eq0
-put_tuple-returns-then-depth-eq0 t c = search tuple_shallow
-
-pub put_tuple-returns-then-v-p : goal.put_tuple-returns-then-v-p
-put_tuple-returns-then-v-p t c = search tuple_past
+put_tuple-returns-then-depth-eq0 t c = search tuple_no
 
 pub put_tuple-put_elements-b-requires : goal.put_tuple-put_elements-b-requires
 put_tuple-put_elements-b-requires t c = (omega arith, (omega arith, omega arith))
@@ -143,32 +134,32 @@ put_value-returns-in_default t c = search forms_short
 pub put_value-put_choice-requires : goal.put_value-put_choice-requires
 put_value-put_choice-requires t c = (search unsigned_within, omega arith)
 
-pub put_value-returns-then-k-eq4 : goal.put_value-returns-then-k-eq4
-put_value-returns-then-k-eq4 t c = search forms_enum_at
+pub put_value-returns-in-4 : goal.put_value-returns-in-4
+put_value-returns-in-4 t c = search forms_enum_at
 
 pub put_value-put_array-requires : goal.put_value-put_array-requires
 put_value-put_array-requires t c = (omega arith, (search unsigned_within, omega arith))
 
-pub put_value-returns-then-k-eq6 : goal.put_value-returns-then-k-eq6
-put_value-returns-then-k-eq6 t c = search forms_array
+pub put_value-returns-in-6 : goal.put_value-returns-in-6
+put_value-returns-in-6 t c = search forms_array
 
 pub put_value-put_tuple-requires : goal.put_value-put_tuple-requires
 put_value-put_tuple-requires t c = (omega arith, (search unsigned_within, omega arith))
 
-pub put_value-returns-then-k-eq7 : goal.put_value-returns-then-k-eq7
-put_value-returns-then-k-eq7 t c = search forms_tuple
+pub put_value-returns-in-7 : goal.put_value-returns-in-7
+put_value-returns-in-7 t c = search forms_tuple
 
 pub put_value-put_struct-requires : goal.put_value-put_struct-requires
 put_value-put_struct-requires t c = (omega arith, (search unsigned_within, omega arith))
 
-pub put_value-returns-then-k-eq8 : goal.put_value-returns-then-k-eq8
-put_value-returns-then-k-eq8 t c = search forms_struct
+pub put_value-returns-in-8 : goal.put_value-returns-in-8
+put_value-returns-in-8 t c = search forms_struct
 
-pub put_value-put_struct-requires-then-k-eq11 : goal.put_value-put_struct-requires-then-k-eq11
-put_value-put_struct-requires-then-k-eq11 t c = (omega arith, (search unsigned_within, omega arith))
+pub put_value-put_struct-requires-in-11 : goal.put_value-put_struct-requires-in-11
+put_value-put_struct-requires-in-11 t c = (omega arith, (search unsigned_within, omega arith))
 
-pub put_value-returns-then-k-eq11 : goal.put_value-returns-then-k-eq11
-put_value-returns-then-k-eq11 t c = search forms_partial
+pub put_value-returns-in-11 : goal.put_value-returns-in-11
+put_value-returns-in-11 t c = search forms_partial
 
-pub put_value-returns : goal.put_value-returns
-put_value-returns t c = search forms_plain
+pub put_value-returns-in_default-k : goal.put_value-returns-in_default-k
+put_value-returns-in_default-k t c = search forms_plain

@@ -12,17 +12,17 @@ unsigned-requires c = (omega arith, omega arith)
 pub returns-in_default : goal.returns-in_default
 returns-in_default c = search table_short
 
-pub loop-left-init : goal.loop-left-init
-loop-left-init c = (search unsigned_within, refl, omega arith, table_first _ _ _ _ _ c.unsigned.ensures _ _ c.in-Some.is _ _ (omega arith))
+pub loop-init : goal.loop-init
+loop-init c = (search unsigned_within, refl, omega arith, table_first _ _ _ _ _ c.unsigned.ensures _ _ c.in-Some.is _ _ (omega arith) _ (omega arith))
 
 pub returns-in_default-field_end : goal.returns-in_default-field_end
-returns-in_default-field_end c = search table_bad
+returns-in_default-field_end c = search (arith, table_bad)
 
 pub put_field-a-requires : goal.put_field-a-requires
 put_field-a-requires c = (omega arith, omega arith)
 
-pub loop-left-preserved : goal.loop-left-preserved
-loop-left-preserved c = (search ended_within, search rules, omega arith, search table_more)
+pub loop-preserved : goal.loop-preserved
+loop-preserved c = (search ended_within, search rules, omega arith, search (arith, table_more))
 
 pub returns : goal.returns
-returns c = search table_over
+returns c = search (arith, table_over)

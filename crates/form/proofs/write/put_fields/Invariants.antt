@@ -1,13 +1,10 @@
 -- `form::write::put_fields` meets its contract. Assumes nothing.
-use Prim.Native.Nat.{◌+◌, ◌≤◌}
+use Prim.Native.Nat.{◌+◌, ◌-◌, ◌≤◌}
 use mathlib.Core.Path.{◌≡◌}
 use lib.ListN.{length, drop}
 use Rattle.json_text.specs.Json.{value, object_end}
 use Rattle.form.proofs.Listed.{TableAt}
 use Rattle.form.proofs.write.put_fields.Given as goal
 
-abbrev pub invariant-loop-left : goal.invariant-loop-left
-invariant-loop-left l = (l.field ≤ length l.s) × (length l.out ≡ length l.initial.out) × (l.a ≤ 18446744073709551615) × TableAt l.s l.i l.levels (object_end (value l.depth) (drop (l.p + 1) l.v)) l.field l.left l.start l.initial.out l.at l.out l.a
-
-abbrev pub decreases-loop-left : goal.decreases-loop-left
-decreases-loop-left l = l.left
+abbrev pub invariant-loop : goal.invariant-loop
+invariant-loop l = (l.field ≤ length l.s) × (length l.out ≡ length l.initial.out) × (l.a ≤ 18446744073709551615) × TableAt l.s l.i l.levels (object_end (value l.depth) (drop (l.p + 1) l.v)) l.field (l.count - l.counter) l.start l.initial.out l.at l.out l.a

@@ -1,4 +1,6 @@
 -- `form::write::put_text` meets its contract. Assumes nothing.
+use mathlib.Core.Path.{◌∙◌, sym}
+use mathlib.Core.Logic.{◌≢◌}
 use borrow.Author.Rules.{rules}
 use Rattle.datainfo.proofs.Own.{unsigned_within}
 use Rattle.form.proofs.Listed.{text_short, text_ordered, text_other}
@@ -10,8 +12,8 @@ returns-in_default c = search text_short
 pub put_ordered-requires : goal.put_ordered-requires
 put_ordered-requires c = (search unsigned_within, search rules)
 
-pub returns-then-k-eq11 : goal.returns-then-k-eq11
-returns-then-k-eq11 c = search text_ordered
+pub returns-then-k-from : goal.returns-then-k-from
+returns-then-k-from c = search (text_ordered, c.if-k-from.true ∙ c.from.ensures)
 
 pub returns : goal.returns
-returns c = search text_other
+returns c = let other : c.in-Some.k ≢ 11 = λ e. c.if-k-from.false (e ∙ sym c.from.ensures) in search text_other
