@@ -1,33 +1,32 @@
 -- Laws of what is kept: one setting more, and no sum too large. Assumes nothing.
-use Prim.Native.Nat.{ℕ, zero, suc, ◌+◌, ◌*◌, ◌≤◌, ◌<◌}
+use Prim.Native.Nat.{ℕ, zero, suc, ◌+◌, ◌*◌, ◌≤◌, ◌<◌, min, max}
 use native.Mathlib.Omega.{arith}
 use mathlib.Core.Bool.{Bool, true, false, cond}
 use mathlib.Core.Path.{◌≡◌, refl, ◌∙◌}
 use lib.Dec.{eqb, leb, ltb}
 use lib.ListN.{length, get_or, set, replicate, length-set}
 use lib.Seq.{get_or-set_same, get_or-set_other}
-use borrow.Author.Tests.{lt-ltb, le-ltb, le-leb, lt-leb, ne_eqb, eqb-true, eqb-false, ltb-true, ltb-false}
+use borrow.Author.Tests.{lt-ltb, le-ltb, leb-true, leb-false, ne_eqb, eqb-true, eqb-false, ltb-true, ltb-false}
 use Rattle.figures.specs.declared.Tally.{Tally}
 use Rattle.figures.specs.declared.Figures.{Figures}
 use Rattle.figures.specs.Figures.{full}
 use Rattle.figures.specs.Clauses.Tally.{no_settings, lower, higher, noted, tally_at, Low, Bounded, observed, Observes}
 
-module _ (a b : ℕ) where
-  pub lower_first : a ≤ b → a ≡ lower a b
-  unfolding lower
-  lower_first h = rw (le-leb a b h)
+lower_min : (a b : ℕ) → min a b ≡ lower a b
+unfolding lower
+lower_min a b = go (leb a b) refl
+  where
+    go : (t : Bool) → leb a b ≡ t → min a b ≡ cond t a b
+    go true e = omega (arith, leb-true a b e)
+    go false e = omega (arith, leb-false a b e)
 
-  pub lower_second : b < a → b ≡ lower a b
-  unfolding lower
-  lower_second h = rw (lt-leb a b h)
-
-  pub higher_first : b ≤ a → a ≡ higher a b
-  unfolding higher
-  higher_first h = rw (le-leb b a h)
-
-  pub higher_second : a < b → b ≡ higher a b
-  unfolding higher
-  higher_second h = rw (lt-leb b a h)
+higher_max : (a b : ℕ) → max a b ≡ higher a b
+unfolding higher
+higher_max a b = go (leb b a) refl
+  where
+    go : (t : Bool) → leb b a ≡ t → max a b ≡ cond t a b
+    go true e = omega (arith, leb-true b a e)
+    go false e = omega (arith, leb-false b a e)
 
 module _ (t : Tally) (x : ℕ) where
   pub noted_over : full ≤ t.count → t ≡ noted t x
@@ -42,6 +41,10 @@ module _ (t : Tally) (x : ℕ) where
       → record { count = t.count + 1; least = l; greatest = g; sum = t.sum + x } ≡ noted t x
   unfolding noted
   noted_some l g h n e f = rw (lt-ltb t.count full h, ne_eqb t.count 0 n, e, f)
+
+  pub noted_more : (l g : ℕ) → t.count < full → (t.count ≡ 0 → ⊥) → l ≡ min t.least x → g ≡ max t.greatest x
+      → record { count = t.count + 1; least = l; greatest = g; sum = t.sum + x } ≡ noted t x
+  noted_more l g h n e f = noted_some l g h n (e ∙ lower_min t.least x) (f ∙ higher_max t.greatest x)
 
   pub noted_low : x ≤ 4294967296 → Low t → Low (noted t x)
   unfolding lower higher
@@ -72,6 +75,9 @@ pub none_anywhere : (n k : ℕ) → get_or (replicate n no_settings) k no_settin
 none_anywhere zero k = refl
 none_anywhere (suc n) zero = refl
 none_anywhere (suc n) (suc k) = none_anywhere n k
+
+pub none_is : (t : Tally) → (t.count ≡ 0) × ((t.least ≡ 0) × ((t.greatest ≡ 0) × (t.sum ≡ 0))) → t ≡ no_settings
+none_is t e = λ i. record { count = e.0 i; least = e.1.0 i; greatest = e.1.1.0 i; sum = e.1.1.1 i }
 
 pub none_bounded : Bounded (record { tallies = replicate 64 no_settings })
 none_bounded =

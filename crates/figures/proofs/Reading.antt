@@ -1,20 +1,20 @@
 -- Laws of the code that reads a number and a datainfo's limits. Assumes nothing.
 use Rattle.std.specs.Prelude.{Option, Some, None}
-use Prim.Native.Nat.{ℕ, suc, ◌+◌, ◌*◌, ◌-◌, ◌^◌, ◌≤◌, ◌<◌}
+use Prim.Native.Nat.{ℕ, suc, ◌+◌, ◌*◌, ◌-◌, ◌≤◌, ◌<◌}
 use native.Mathlib.Numerals.{add-one}
 use native.Mathlib.Omega.{arith}
-use mathlib.Core.Bool.{Bool, true, false, cond, not, ◌&&◌, false≢true}
+use mathlib.Core.Bool.{Bool, true, false, cond, ◌&&◌}
 use mathlib.Core.List.{List, [], ◌∷◌}
-use mathlib.Core.Path.{◌≡◌, refl, sym, ap, ◌∙◌}
+use mathlib.Core.Path.{◌≡◌, refl, sym, ap, ap₂, ◌∙◌}
 use lib.IntN.{ℤ, pos, negsuc}
 use lib.ListN.{length, get_or, drop, drop_of_length-le}
 use lib.Seq.{drop-cons}
-use lib.Signed.{le_z, lt_z, mag}
+use lib.Signed.{le_z}
 use mir.Syntax.{w64}
-use mir.Val.{hbits, to_z, of_z, SFits}
+use mir.Val.{to_z, of_z, SFits}
 use mir.Facts.{to_z-of_z}
-use borrow.Author.Tests.{ltb-true, ltb-false, le-leb, lt-leb}
-use Rattle.ascii.specs.Bytes.{is_digit}
+use Rattle.std.specs.Char.{is_ascii_digit}
+use Rattle.ascii.specs.Bytes.{is_in, is_digit}
 use Rattle.ascii.specs.Numbers.{unsigned, signed}
 use Rattle.ascii.specs.Clauses.Read.{ReadsValue}
 use Rattle.decimal.specs.Decimal.{numeral_from, numeral}
@@ -32,19 +32,15 @@ use Rattle.figures.proofs.Stored.{stored_small}
 abbrev more : ℕ → ℕ → ℕ
 more n b = cond (is_digit b) (n * 10 + (b - 48)) n
 
-other_is : (n b : ℕ) (t : Bool) → is_digit b ≡ t → not t ≡ true → n ≡ more n b
-other_is n b true e h = absurd (false≢true h)
-other_is n b false e h = rw e
+digit_same : (b : ℕ) → is_ascii_digit b ≡ is_digit b
+unfolding is_in
+digit_same b = refl
 
-digit_is : (n b : ℕ) (t : Bool) → is_digit b ≡ t → not t ≡ false → n * 10 + (b - 48) ≡ more n b
-digit_is n b true e h = rw e
-digit_is n b false e h = absurd (false≢true (sym h))
+pub byte_other : (n b : ℕ) → false ≡ is_ascii_digit b → n ≡ more n b
+byte_other n b e = rw (← (digit_same b), ← e) refl
 
-pub byte_other : (n b : ℕ) {t : Bool} → t ≡ is_digit b → not t ≡ true → n ≡ more n b
-byte_other n b {t} e h = other_is n b t (sym e) h
-
-pub byte_digit : (n b : ℕ) {t : Bool} → t ≡ is_digit b → not t ≡ false → n * 10 + (b - 48) ≡ more n b
-byte_digit n b {t} e h = digit_is n b t (sym e) h
+pub byte_digit : (n b d : ℕ) → true ≡ is_ascii_digit b → d ≡ b - 48 → n * 10 + d ≡ more n b
+byte_digit n b d e f = rw (f, ← (digit_same b), ← e) refl
 
 more_grows : (n b : ℕ) → n ≤ more n b
 more_grows n b = go (is_digit b) refl
@@ -74,49 +70,29 @@ module _ (t : List ℕ) (n i : ℕ) where
 
 -- ## Limits
 
-below : (lo : ℤ) (t : Bool) → lt_z lo (negsuc 2147483647) ≡ t → le_z (negsuc 2147483647) lo ≡ not t
-below (pos n) t e = ap not e
-below (negsuc n) true e = lt-leb n 2147483647 (ltb-true 2147483647 n e)
-below (negsuc n) false e = le-leb n 2147483647 (ltb-false 2147483647 n e)
+-- a number of the code
+abbrev held : ℤ → ℤ
+held z = to_z w64 (of_z w64 z)
 
-module _ (lo hi : ℤ) (f : mag lo < 2 ^ hbits w64) where
-  same_lo : to_z w64 (of_z w64 lo) ≡ lo
-  same_lo = to_z-of_z {w = w64} (record { sfits = f })
+least_held : held (negsuc 2147483647) ≡ negsuc 2147483647
+least_held = to_z-of_z {w = w64} (record { sfits = omega arith })
 
-  pub narrow_low : lt_z (to_z w64 (of_z w64 lo)) (negsuc 2147483647) ≡ true → false ≡ is_narrow lo hi
+greatest_held : held (pos 2147483647) ≡ pos 2147483647
+greatest_held = to_z-of_z {w = w64} (record { sfits = omega arith })
+
+module _ (lo hi l m : ℤ) (f : SFits w64 lo) (low : l ≡ negsuc 2147483647) where
+  tested : le_z (held l) (held lo) ≡ le_z (negsuc 2147483647) lo
+  tested = ap₂ le_z (ap held low ∙ least_held) (to_z-of_z f)
+
+  pub narrow_no : le_z (held l) (held lo) ≡ false → le_z (held l) (held lo) ≡ is_narrow lo hi
   unfolding is_narrow
-  narrow_low h = sym (ap (λ b. b && le_z hi (pos 2147483647)) (below lo true (rw same_lo at h)))
+  narrow_no h = h ∙ sym (ap (λ b. b && le_z hi (pos 2147483647)) (sym tested ∙ h))
 
-  pub narrow_test : mag hi < 2 ^ hbits w64 → lt_z (to_z w64 (of_z w64 lo)) (negsuc 2147483647) ≡ false
-      → le_z (to_z w64 (of_z w64 hi)) (pos 2147483647) ≡ is_narrow lo hi
+  pub narrow_yes : SFits w64 hi → m ≡ pos 2147483647 → le_z (held l) (held lo) ≡ true → le_z (held hi) (held m) ≡ is_narrow lo hi
   unfolding is_narrow
-  narrow_test g h =
-      let same : to_z w64 (of_z w64 hi) ≡ hi = to_z-of_z {w = w64} (record { sfits = g }) in
-      ap (λ z. le_z z (pos 2147483647)) same
-      ∙ sym (ap (λ b. b && le_z hi (pos 2147483647)) (below lo false (rw same_lo at h)))
-
-module _ (s : List ℕ) (at : ℕ) (r : Bool) (u : Option (ℤ × ℕ)) (k : ReadsValue s u (signed 8 (drop at s))) where
-  pub limits_1 : u ≡ None → LimitsNarrow (drop at s) r
-  limits_1 e = record { is = λ a b. absurd (nothing (sym (rw e at k) ∙ a)) }
-
-  module _ (lo : ℤ) (a : ℕ) (e : u ≡ Some (lo, a)) (w : Option (ℤ × ℕ)) (l : ReadsValue s w (signed 8 (drop a s))) where
-    pub limits_2 : w ≡ None → LimitsNarrow (drop at s) r
-    limits_2 f =
-        record {
-          is = λ x y.
-              let p = just (sym (rw e at k).0 ∙ x) in
-              absurd (nothing (sym (rw f at l) ∙ ap (signed 8) (ap (λ q. q.1) p) ∙ y));
-        }
-
-    pub limits_good : (hi : ℤ) (b : ℕ) → w ≡ Some (hi, b) → SFits w64 lo → SFits w64 hi
-        → r ≡ is_narrow (to_z w64 (of_z w64 lo)) (to_z w64 (of_z w64 hi)) → LimitsNarrow (drop at s) r
-    limits_good hi b f i1 i2 h =
-        record {
-          is = λ x y.
-              let p = just (sym (rw e at k).0 ∙ x) in
-              let q = just (sym (rw f at l).0 ∙ ap (signed 8) (ap (λ z. z.1) p) ∙ y) in
-              rw (to_z-of_z i1, to_z-of_z i2) at h ∙ (λ i. is_narrow (p i).0 (q i).0);
-        }
+  narrow_yes g high h =
+      ap₂ le_z (to_z-of_z g) (ap held high ∙ greatest_held)
+      ∙ sym (ap (λ b. b && le_z hi (pos 2147483647)) (sym tested ∙ h))
 
 module _ (s : List ℕ) (at : ℕ) (r : Bool) (u : Option (ℤ × ℤ × ℕ)) (k : ReadsLimit s u (limit (drop at s))) where
   pub scaled_1 : u ≡ None → ScaledNarrow (drop at s) r

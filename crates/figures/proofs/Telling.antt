@@ -36,12 +36,12 @@ module _ {d : List ℕ} {at : ℕ} {e : List ℕ} {r : ℕ} where
   unfolding tally_numbers
   numbers_none t z x = rw z x
 
-  pub numbers_some : (t : Tally) → (t.count ≡ 0 → ⊥) → {f g : List ℕ} {p q : ℕ}
+  pub numbers_some : (t : Tally) (k : ℕ) → (t.count ≡ 0 → ⊥) → k ≡ t.count → {f g : List ℕ} {p q : ℕ}
       → Emits d at (bytes " least " ++ integer (sub_ℕ t.least below_zero)) f p
       → Emits f p (bytes " greatest " ++ integer (sub_ℕ t.greatest below_zero)) g q
-      → Emits g q (bytes " sum " ++ integer (sub_ℕ t.sum (t.count * below_zero))) e r → Emits d at (tally_numbers t) e r
+      → Emits g q (bytes " sum " ++ integer (sub_ℕ t.sum (k * below_zero))) e r → Emits d at (tally_numbers t) e r
   unfolding tally_numbers
-  numbers_some t n x y z = rw (ne_eqb t.count 0 n) (both (both x y) z)
+  numbers_some t k n i x y z = rw (ne_eqb t.count 0 n) (both (both x y) (rw i at z))
 
   pub summed_yes : (s : Bool) (t : Tally) → s ≡ true → Emits d at (tally_numbers t) e r → Emits d at (cond s (tally_numbers t) []) e r
   summed_yes s t z x = rw z x
@@ -50,10 +50,10 @@ module _ {d : List ℕ} {at : ℕ} {e : List ℕ} {r : ℕ} where
   unfolding full_text
   full_yes n h x = rw (le-ltb n full h) x
 
-  pub count_text_lem : (m p : List ℕ) (n : ℕ) {f g h : List ℕ} {a b c : ℕ} → Emits d at m f a → Emits f a (58 ∷ []) g b → Emits g b p h c
-      → Emits h c (bytes " count " ++ decimal n) e r → Emits d at (count_text m p n) e r
+  pub count_text_lem : (m p : List ℕ) (n k : ℕ) → k ≡ n → {f g h : List ℕ} {a b c : ℕ} → Emits d at m f a → Emits f a (58 ∷ []) g b → Emits g b p h c
+      → Emits h c (bytes " count " ++ decimal k) e r → Emits d at (count_text m p n) e r
   unfolding count_text bytes
-  count_text_lem m p n x y z w = both (both (both x y) z) w
+  count_text_lem m p n k i x y z w = both (both (both x y) z) (rw i at w)
 
   pub line_text : (m p : List ℕ) (s : Bool) (t : Tally) {f g h : List ℕ} {a b c : ℕ} → Emits d at (count_text m p t.count) f a
       → Emits f a (cond s (tally_numbers t) []) g b → Emits g b (full_text t.count) h c → Emits h c (10 ∷ []) e r → Emits d at (tally_line m p s t) e r

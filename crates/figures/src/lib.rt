@@ -2,7 +2,7 @@
 // lies above that, so that all that is kept is no negative number.
 #![tactic(auto)]
 
-ghost use Rattle.std.specs.Prelude.{ℕ, ◌+◌, ◌-◌, ◌*◌, ◌≤◌, ◌<◌, true, cond, [], ◌++◌, ◌≡◌, length, drop, replicate};
+ghost use Rattle.std.specs.Prelude.{ℕ, ◌+◌, ◌-◌, ◌*◌, ◌≤◌, ◌<◌, true, false, cond, [], ◌++◌, ◌≡◌, length, drop, replicate, unwrap_or};
 ghost use Rattle.std.proofs.Math.IntN.{sub_ℕ};
 ghost use Rattle.ascii.specs.Text.{bytes};
 ghost use Rattle.ascii.specs.Numbers.{integer};
@@ -10,13 +10,13 @@ ghost use Rattle.ascii.specs.Bytes.{is_digit};
 ghost use Rattle.decimal.specs.Decimal.{numeral_from, numeral};
 ghost use Rattle.emit.specs.Clauses.Emitted.{Emits};
 ghost use Rattle.figures.specs.Figures.{is_narrow};
-ghost use Rattle.figures.specs.Clauses.Tally.{Small, above, lower, higher, noted, no_settings, tally_at, Low, Bounded, Observes, SetTo, Marks};
-ghost use Rattle.figures.specs.Clauses.Tally.{TellsSummed, LimitsNarrow, ScaledNarrow, tally_numbers, full_text, count_text, tally_line};
+ghost use Rattle.figures.specs.Clauses.Tally.{Small, above, noted, no_settings, tally_at, Low, Bounded, Observes, SetTo, Marks};
+ghost use Rattle.figures.specs.Clauses.Tally.{TellsSummed, LimitsNarrow, tally_numbers, full_text, count_text, tally_line};
 ghost use Rattle.figures.specs.Theorems.{FiguresAreExact};
 
+use ascii::byte;
 use ascii::numbers::{signed, unsigned};
-use ascii::{byte, is_digit};
-use datainfo::rules::{limit_at};
+use datainfo::rules::limit_at;
 use emit::{emit, emit_decimal, emit_labelled_decimal};
 use limits::ACCESSIBLES;
 
@@ -27,7 +27,7 @@ const LOWEST: u64 = 2147483648;
 const FULL: u16 = 65535;
 
 // How many settings a parameter had, the least, the greatest and the sum of what is kept of each.
-#[derive(Clone, Copy)]
+#[derive(Clone, Copy, Default)]
 pub struct Tally {
     pub count: u16,
     pub least: u64,
@@ -46,10 +46,10 @@ fn with_byte(n: u64, b: u8) -> u64
     requires { n ≤ 2147483648 }
     ensures { result ≡ cond (is_digit b) (n * 10 + (b - 48)) n }
 {
-    if !is_digit(b) {
-        return n;
+    if b.is_ascii_digit() {
+        return n * 10 + u64::from(b - b'0');
     }
-    n * 10 + (b - 48) as u64
+    n
 }
 
 // The number that the digits among the bytes are. Those read so far make no larger one.
@@ -57,11 +57,9 @@ fn digits_of(t: &[u8]) -> u64
     requires { Small t.now }
     ensures { result ≡ numeral_from 0 t.now }
 {
-    let mut n: u64 = 0;
-    let mut i = 0;
-    while i < t.len() {
-        n = with_byte(n, t[i]);
-        i += 1;
+    let mut n = 0;
+    for b in t {
+        n = with_byte(n, *b);
     }
     n
 }
@@ -82,34 +80,33 @@ fn number_of(t: &[u8]) -> u64
 fn is_narrow(lo: i64, hi: i64) -> bool
     ensures { result ≡ is_narrow lo hi }
 {
-    if lo < -2147483648 {
-        return false;
+    i64::from(i32::MIN) <= lo && hi <= i64::from(i32::MAX)
+}
+
+// Whether the limits of an int, or of a scaled behind its scale, are so; none where they can't be read.
+fn limits_narrow(s: &[u8], at: usize) -> Option<bool>
+    requires { at ≤ length s.now }
+    ensures { LimitsNarrow (drop at s.now) (unwrap_or result false) }
+{
+    let (lo, a) = signed(s, at, 8)?;
+    let (hi, _) = signed(s, a, 8)?;
+    Some(is_narrow(lo, hi))
+}
+
+// The same by the datainfo at a position; a type with other limits or none is not so.
+fn info_narrow(s: &[u8], info: usize) -> Option<bool>
+    requires { info ≤ length s.now }
+    ensures { TellsSummed s.now info (unwrap_or result false) }
+{
+    let (k, at) = unsigned(s, info, 1)?;
+    match k {
+        2 => limits_narrow(s, at),
+        9 => {
+            let (_, _, limits) = limit_at(s, at)?;
+            limits_narrow(s, limits)
+        }
+        _ => Some(false),
     }
-    hi <= 2147483647
-}
-
-// Whether the limits of an int, or of a scaled behind its scale, are so.
-fn limits_narrow(s: &[u8], at: usize) -> bool
-    requires { at ≤ length s.now }
-    ensures { LimitsNarrow (drop at s.now) result }
-{
-    let Some((lo, a)) = signed(s, at, 8) else {
-        return false;
-    };
-    let Some((hi, _)) = signed(s, a, 8) else {
-        return false;
-    };
-    is_narrow(lo, hi)
-}
-
-fn scaled_narrow(s: &[u8], at: usize) -> bool
-    requires { at ≤ length s.now }
-    ensures { ScaledNarrow (drop at s.now) result }
-{
-    let Some((_, _, limits)) = limit_at(s, at) else {
-        return false;
-    };
-    limits_narrow(s, limits)
 }
 
 // "each int or scaled parameter whose limits lie within ..": whether the datainfo at a position is so.
@@ -117,16 +114,7 @@ pub fn is_summed(s: &[u8], info: usize) -> bool
     requires { info ≤ length s.now }
     ensures { TellsSummed s.now info result }
 {
-    let Some((k, at)) = unsigned(s, info, 1) else {
-        return false;
-    };
-    if k == 2 {
-        return limits_narrow(s, at);
-    }
-    if k == 9 {
-        return scaled_narrow(s, at);
-    }
-    false
+    info_narrow(s, info).unwrap_or(false)
 }
 
 // What is kept of a setting to a text, by the datainfo at a position, which lets it in.
@@ -138,18 +126,6 @@ pub fn mark_of(s: &[u8], info: usize, text: &[u8]) -> u64
         return number_of(text);
     }
     0
-}
-
-fn lower(a: u64, b: u64) -> u64
-    ensures { result ≡ lower a b }
-{
-    if a <= b { a } else { b }
-}
-
-fn higher(a: u64, b: u64) -> u64
-    ensures { result ≡ higher a b }
-{
-    if b <= a { a } else { b }
 }
 
 // One setting more; a full tally "keeps the figures of those first 65,535".
@@ -170,8 +146,8 @@ fn noted(t: Tally, x: u64) -> Tally
     }
     Tally {
         count: t.count + 1,
-        least: lower(t.least, x),
-        greatest: higher(t.greatest, x),
+        least: t.least.min(x),
+        greatest: t.greatest.max(x),
         sum: t.sum + x,
     }
 }
@@ -180,32 +156,25 @@ fn noted(t: Tally, x: u64) -> Tally
 pub fn no_figures() -> Figures
     ensures { (result ≡ record { tallies = replicate 64 no_settings }) × Bounded result }
 {
-    let tallies = [Tally {
-        count: 0,
-        least: 0,
-        greatest: 0,
-        sum: 0,
-    }; ACCESSIBLES];
-    Figures { tallies }
+    Figures {
+        tallies: [Tally::default(); ACCESSIBLES],
+    }
 }
 
 // Parameter k was set to what is kept as x.
-pub fn observe(f: Figures, k: usize, x: u64) -> Figures
+pub fn observe(mut f: Figures, k: usize, x: u64) -> Figures
     requires { (k < 64) × ((x ≤ 4294967296) × Bounded f) }
     ensures { Observes f k x result }
 {
-    let mut tallies = f.tallies;
-    let one = tallies[k];
-    tallies[k] = noted(one, x);
-    Figures { tallies }
+    f.tallies[k] = noted(f.tallies[k], x);
+    f
 }
 
 pub fn tally_at(f: Figures, k: usize) -> Tally
     requires { k < 64 }
     ensures { result ≡ tally_at f k }
 {
-    let tallies = f.tallies;
-    tallies[k]
+    f.tallies[k]
 }
 
 // The whole number n less base.
@@ -234,7 +203,7 @@ fn emit_numbers(out: &mut [u8], at: usize, t: Tally) -> usize
     }
     let a = emit_labelled(out, at, b" least ", t.least, LOWEST);
     let b = emit_labelled(out, a, b" greatest ", t.greatest, LOWEST);
-    emit_labelled(out, b, b" sum ", t.sum, t.count as u64 * LOWEST)
+    emit_labelled(out, b, b" sum ", t.sum, u64::from(t.count) * LOWEST)
 }
 
 // "Other parameters: count only, never `none`."
@@ -263,7 +232,7 @@ fn emit_count(out: &mut [u8], at: usize, module: &[u8], name: &[u8], count: u16)
     let a = emit(out, at, module);
     let b = emit(out, a, b":");
     let c = emit(out, b, name);
-    emit_labelled_decimal(out, c, b" count ", count as u64)
+    emit_labelled_decimal(out, c, b" count ", u64::from(count))
 }
 
 // The line of one parameter, by its names, whether it has more than a count, and what is kept of its settings.

@@ -15,7 +15,7 @@ use Rattle.ascii.specs.Text.{bytes}
 use Rattle.ascii.specs.Bytes.{is_some, any, count, same, head}
 use Rattle.ascii.specs.Numbers.{unsigned}
 use Rattle.ascii.specs.Clauses.Read.{ReadsValue}
-use Rattle.ascii.specs.Clauses.Reader.{ByteAt, Ends}
+use Rattle.ascii.specs.Clauses.Reader.{Ends}
 use Rattle.ascii.proofs.Lists as Lists
 use Rattle.json_text.specs.Json.{Json, Members, no_members, member, skip, value, object_end, text, quoted, compact, compact_members}
 use Rattle.datainfo.specs.Datainfo.{Datainfo, Fields, no_fields, Parts, field_names}
@@ -57,12 +57,6 @@ module _ (o : Option (Parts × List ℕ)) (q : Option (Json × List ℕ)) (name 
   left_yes z n g = record { is = λ {ms = ms} e f. rw (← (h.is e), z, g.is f) (not_there name (keys ms)) }
 
 module _ (o : Option (Parts × List ℕ)) (q : Option (Json × List ℕ)) (name : List ℕ) (b : Bool) (h : TellsLeftOut o q name b) (start : Bool) where
-  pub first_lost : b ≡ true → StaysFirst o q name start false
-  first_lost z = record { is = λ e f. rw (← (h.is e f), z) }
-
-  pub first_kept : b ≡ false → StaysFirst o q name start start
-  first_kept z = record { is = λ e f. rw (← (h.is e f), z) }
-
   module _ (p : Option (Json × List ℕ)) where
     pub one_none : b ≡ false → (d : List ℕ) (at : ℕ) → at ≤ 18446744073709551615 → KeepsOne o q p name start d at d at
     one_none z d at w = record { is = λ e f g i j l. rw (← (h.is e f), z) (nothing_written d at w) }
@@ -231,16 +225,6 @@ merged_rest o v from p x y r f z w u =
 -- ## Whether members may be left out
 
 module _ (shown v : List ℕ) (p : ℕ) where
-  pub part_hidden : (b : ℕ) → ByteAt shown 0 b → (b ≡ 123 → ⊥) → false ≡ (eqb (head shown) 123 && (eqb (head (drop p v)) 123 && is_some (text v)))
-  part_hidden b h n = rw (← h.is, ne_eqb b 123 n)
-
-  module _ (b : ℕ) (h : ByteAt shown 0 b) (z : b ≡ 123) (c : ℕ) (g : ByteAt v p c) where
-    pub part_other : (c ≡ 123 → ⊥) → false ≡ (eqb (head shown) 123 && (eqb (head (drop p v)) 123 && is_some (text v)))
-    part_other n = rw (← h.is, z, ← g.is, ne_eqb c 123 n)
-
-    pub part_text : c ≡ 123 → (t : Bool) → t ≡ is_some (text v) → t ≡ (eqb (head shown) 123 && (eqb (head (drop p v)) 123 && is_some (text v)))
-    part_text w t f = f ∙ rw (← h.is, z, ← g.is, w)
-
   module _ (t : Bool) (f : t ≡ (eqb (head shown) 123 && (eqb (head (drop p v)) 123 && is_some (text v)))) (z : t ≡ true) where
     pub part_shown_lem : 0 < length shown
     unfolding head

@@ -196,8 +196,6 @@ module _ (d : Datainfo) (xs : List ℕ) where
       go (Some v) e = form_short d v (fit_is (value_verdict d v) e)
 
   -- so 256 bytes have room for it
-  pub form_room : (out : List ℕ) (at : ℕ) → is_fit (verdict d xs) ≡ true → at + 256 ≤ length out → at + length (stored_form d xs) ≤ length out
-  form_room out at e h = let short = stored_short e in omega arith
 
   -- ## A text in stored form
 

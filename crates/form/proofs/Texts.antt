@@ -130,9 +130,6 @@ module _ (s : List ℕ) (info : ℕ) (v out after : List ℕ) (n : ℕ) (g : Fit
       let k : n ≡ length (stored_form d v) = p.ends ∙ zero-add (length (stored_form d v)) in
       rw (k, p.is) (front out (stored_form d v) (omega (arith, x.short)))
 
-  pub own_slice : n ≡ length (take n after)
-  own_slice = (x.is g.reads.is).ends ∙ zero-add (length (stored_form g.reads.datainfo v)) ∙ ap length (sym (written g.reads.is))
-
   pub own_told : (r : Bool) → r ≡ pointwise eqb (take n after) v → TellsOwn (datainfo_in 4 (drop info s)) v r
   own_told r e = record { is = λ f. e ∙ pointwise_same (take n after) v ∙ ap (λ (z : List ℕ). same z v) (written f) }
 
