@@ -57,6 +57,12 @@ module _ (o : Option (Parts × List ℕ)) (q : Option (Json × List ℕ)) (name 
   left_yes z n g = record { is = λ {ms = ms} e f. rw (← (h.is e), z, g.is f) (not_there name (keys ms)) }
 
 module _ (o : Option (Parts × List ℕ)) (q : Option (Json × List ℕ)) (name : List ℕ) (b : Bool) (h : TellsLeftOut o q name b) (start : Bool) where
+  pub first_lost : b ≡ true → StaysFirst o q name start false
+  first_lost z = record { is = λ e f. rw (← (h.is e f), z) }
+
+  pub first_kept : b ≡ false → StaysFirst o q name start start
+  first_kept z = record { is = λ e f. rw (← (h.is e f), z) }
+
   module _ (p : Option (Json × List ℕ)) where
     pub one_none : b ≡ false → (d : List ℕ) (at : ℕ) → at ≤ 18446744073709551615 → KeepsOne o q p name start d at d at
     one_none z d at w = record { is = λ e f g i j l. rw (← (h.is e f), z) (nothing_written d at w) }
@@ -159,6 +165,17 @@ module _ (s : List ℕ) (i : ℕ) (q p : Option (Json × List ℕ)) (place left 
                 (kept_step (is_left_out m.0 ms b.1) t.done start b.1 (numbered p.d (value_at b.1 js)) (kept m ms hs.1 js));
           };
     })
+
+    -- a member is left out and put, or given and passed over
+    module _ (e : ℕ) (z : r ≡ Some e) (name : List ℕ) (y : name ≡ name_in 11 (drop place s)) (b : Bool)
+        (t : TellsLeftOut (members_at (datainfo_in 3) 11 (drop i s)) q name b) where
+      pub kept_put : b ≡ true → {out1 : List ℕ} {a1 : ℕ} → Emits out a (comma start) out1 a1 → (out2 : List ℕ) (a2 : ℕ)
+          → FormsField (members_at (datainfo_in 3) 11 (drop i s)) p name out1 a1 out2 a2 → (later : ℕ) → later ≡ left - 1
+          → KeptAt s i q p e later false before at out2 a2
+      kept_put w x out2 a2 f = kept_more e z name y out2 a2 (one_put _ q name b t start p w x f) false (first_lost _ q name b t start w)
+
+      pub kept_passed : b ≡ false → a ≤ 18446744073709551615 → (later : ℕ) → later ≡ left - 1 → KeptAt s i q p e later start before at out a
+      kept_passed w n = kept_more e z name y out a (one_none _ q name b t start p w out a n) start (first_kept _ q name b t start w)
 
 -- ## The object, with what is kept in front
 

@@ -195,8 +195,6 @@ module _ (d : Datainfo) (xs : List ℕ) where
       go None e = omega arith
       go (Some v) e = form_short d v (fit_is (value_verdict d v) e)
 
-  -- so 256 bytes have room for it
-
   -- ## A text in stored form
 
   module _ (e : is_stored d xs ≡ true) where

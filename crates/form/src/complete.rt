@@ -5,7 +5,7 @@ ghost use Rattle.ascii.specs.Bytes.{is_some, head};
 ghost use Rattle.json_text.specs.Json.{value, object_end, text};
 ghost use Rattle.datainfo.specs.Layout.{datainfo_in};
 ghost use Rattle.datainfo.specs.Clauses.Members.{members_at};
-ghost use Rattle.form.specs.Clauses.Merged.{TellsLeftOut, StaysFirst, KeepsOne, KeepsAll, Merges, ShownAt, Completes};
+ghost use Rattle.form.specs.Clauses.Merged.{TellsLeftOut, KeepsAll, Merges, ShownAt, Completes};
 
 use crate::write::{MEMBER_DEPTH, MEMBER_LEVELS, PARTIAL, put_field};
 use ascii::byte;
@@ -26,39 +26,7 @@ fn is_left_out(s: &[u8], i: usize, v: &[u8], p: usize, name: &[u8]) -> bool
     is_optional(s, i, MEMBER_LEVELS, name) && count_key(v, p + 1, MEMBER_DEPTH, name) == 0
 }
 
-// Whether the next that is written would be the first.
-fn stays_first(s: &[u8], i: usize, v: &[u8], p: usize, name: &[u8], start: bool) -> bool
-    requires { (i ≤ length s.now) × (p < length v.now) }
-    ensures { StaysFirst (members_at (datainfo_in 3) 11 (drop i s.now)) (object_end (value 7) (drop (p + 1) v.now))
-        name.now start result }
-{
-    start && !is_left_out(s, i, v, p, name)
-}
-
-// The member of a name from what is shown, if the object past the '{' at p leaves it out.
-fn put_one(
-    out: &mut [u8],
-    at: usize,
-    s: &[u8],
-    i: usize,
-    shown: &[u8],
-    v: &[u8],
-    p: usize,
-    name: &[u8],
-    start: bool,
-) -> usize
-    requires { (i ≤ length s.now) × ((0 < length shown.now) × (p < length v.now)) }
-    ensures { KeepsOne (members_at (datainfo_in 3) 11 (drop i s.now)) (object_end (value 7) (drop (p + 1) v.now))
-        (object_end (value 7) (drop 1 shown.now)) name.now start out.old at out.new result }
-{
-    if is_left_out(s, i, v, p, name) {
-        let a = emit_comma(out, at, start);
-        return put_field(out, a, s, i, MEMBER_LEVELS, shown, 0, MEMBER_DEPTH, name);
-    }
-    at
-}
-
-// All members that it leaves out, in table order.
+// The members that the object past the '{' at p leaves out, from what is shown, in table order.
 fn put_left_out(
     out: &mut [u8],
     at: usize,
@@ -83,8 +51,11 @@ fn put_left_out(
             return a;
         };
         let name = named_at(s, field, PARTIAL);
-        a = put_one(out, a, s, i, shown, v, p, name, start);
-        start = stays_first(s, i, v, p, name, start);
+        if is_left_out(s, i, v, p, name) {
+            let c = emit_comma(out, a, start);
+            a = put_field(out, c, s, i, MEMBER_LEVELS, shown, 0, MEMBER_DEPTH, name);
+            start = false;
+        }
         field = e;
     }
     a
