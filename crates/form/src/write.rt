@@ -6,8 +6,7 @@ ghost use Rattle.json_text.specs.Json.{scalar, bare, value, array_end, object_en
 ghost use Rattle.datainfo.specs.Layout.{enum_at, array_at, tuple_at, datainfo_in};
 ghost use Rattle.datainfo.specs.Clauses.Members.{members_at};
 ghost use Rattle.form.specs.Clauses.Formed.{Copies, PutsNumber, Forms, FormsItem, FormsItems, FormsElements, FieldIn, FormsMember, FormsMembers};
-ghost use Rattle.form.specs.Clauses.Formed.{FormsStruct};
-ghost use Rattle.form.specs.Clauses.Formed.{FormsField, FormsFields, FormsOrdered, FormsText, FormIsLong};
+ghost use Rattle.form.specs.Clauses.Formed.{FormsStruct, FormsField, FormsFields, FormsOrdered, FormsText, FormIsLong};
 
 use ascii::byte;
 use ascii::numbers::unsigned;

@@ -18,10 +18,10 @@ returns-in_default-field_end c = search (arith, kept_bad)
 
 pub loop-preserved : goal.loop-preserved
 loop-preserved c = elim c.if-is_left_out.branch [
-    then-is_left_out w ↦ rw (w.out-is, w.a-is, w.start-is)
-        (search ended_within, search rules, omega arith, search (arith, kept_put))
+  | then-is_left_out w ↦ rw (w.out-is, w.a-is, w.start-is)
+      (search ended_within, search rules, omega arith, search (arith, kept_put))
   | else-is_left_out w ↦ rw (w.out-is, w.a-is, w.start-is)
-        (search ended_within, search rules, omega arith, search (arith, kept_passed))
+      (search ended_within, search rules, omega arith, search (arith, kept_passed))
 ]
 
 pub returns : goal.returns

@@ -23,9 +23,6 @@ put_array-put_items-b-requires t c = (omega arith, (search ended_within, omega a
 pub put_array-returns : goal.put_array-returns
 put_array-returns t c = search array_whole
 
-pub put_elements-unsigned-requires : goal.put_elements-unsigned-requires
-put_elements-unsigned-requires t c = (omega arith, omega arith)
-
 pub put_elements-returns-in_default : goal.put_elements-returns-in_default
 put_elements-returns-in_default t c = search elements_short
 
@@ -49,9 +46,6 @@ put_elements-loop-preserved t c = (search inside_ends, search ended_within, sear
 
 pub put_elements-returns : goal.put_elements-returns
 put_elements-returns t c = search (arith, elements_over)
-
-pub put_item-put_value-requires : goal.put_item-put_value-requires
-put_item-put_value-requires t c = (omega arith, (omega arith, omega arith))
 
 pub put_item-returns : goal.put_item-returns
 put_item-returns t c = search item_put
@@ -107,26 +101,17 @@ put_members-returns t c = search (arith, object_cut)
 pub put_struct-returns-then-depth-eq0 : goal.put_struct-returns-then-depth-eq0
 put_struct-returns-then-depth-eq0 t c = search struct_no
 
-pub put_struct-put_members-b-requires : goal.put_struct-put_members-b-requires
-put_struct-put_members-b-requires t c = (omega arith, (omega arith, omega arith))
-
 pub put_struct-returns : goal.put_struct-returns
 put_struct-returns t c = search struct_whole
 
 pub put_tuple-returns-then-depth-eq0 : goal.put_tuple-returns-then-depth-eq0
 put_tuple-returns-then-depth-eq0 t c = search tuple_no
 
-pub put_tuple-put_elements-b-requires : goal.put_tuple-put_elements-b-requires
-put_tuple-put_elements-b-requires t c = (omega arith, (omega arith, omega arith))
-
 pub put_tuple-returns : goal.put_tuple-returns
 put_tuple-returns t c = search tuple_whole
 
 pub put_value-returns-then-levels-eq0 : goal.put_value-returns-then-levels-eq0
 put_value-returns-then-levels-eq0 t c = search forms_fifth
-
-pub put_value-unsigned-requires : goal.put_value-unsigned-requires
-put_value-unsigned-requires t c = (omega arith, omega arith)
 
 pub put_value-returns-in_default : goal.put_value-returns-in_default
 put_value-returns-in_default t c = search forms_short

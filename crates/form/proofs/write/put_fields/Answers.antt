@@ -6,9 +6,6 @@ use Rattle.datainfo.proofs.Own.{unsigned_within}
 use Rattle.form.proofs.Listed.{table_short, table_first, table_over, table_bad, table_more}
 use Rattle.form.proofs.write.put_fields.Goals as goal
 
-pub unsigned-requires : goal.unsigned-requires
-unsigned-requires c = (omega arith, omega arith)
-
 pub returns-in_default : goal.returns-in_default
 returns-in_default c = search table_short
 
@@ -17,9 +14,6 @@ loop-init c = (search unsigned_within, refl, omega arith, table_first _ _ _ _ _ 
 
 pub returns-in_default-field_end : goal.returns-in_default-field_end
 returns-in_default-field_end c = search (arith, table_bad)
-
-pub put_field-a-requires : goal.put_field-a-requires
-put_field-a-requires c = (omega arith, omega arith)
 
 pub loop-preserved : goal.loop-preserved
 loop-preserved c = (search ended_within, search rules, omega arith, search (arith, table_more))
