@@ -1,6 +1,4 @@
-use borrow.Author.Rules.{rules}
 use native.Mathlib.Omega.{arith}
-use mathlib.Core.Path.{refl}
 use Rattle.ascii.proofs.Bytes.{ended_within}
 use Rattle.datainfo.proofs.Own.{unsigned_within}
 use Rattle.form.proofs.Merged.{kept_short, kept_first, kept_over, kept_bad, kept_put, kept_passed}
@@ -11,7 +9,7 @@ pub returns-in_default : goal.returns-in_default
 returns-in_default c = search kept_short
 
 pub loop-init : goal.loop-init
-loop-init c = (search unsigned_within, refl, omega arith, kept_first _ _ _ _ _ c.unsigned.ensures _ _ c.in-Some.is _ _ (omega arith) _ (omega arith))
+loop-init c = (search unsigned_within, omega arith, kept_first _ _ _ _ _ c.unsigned.ensures _ _ c.in-Some.is _ _ (omega arith) _ (omega arith))
 
 pub returns-in_default-field_end : goal.returns-in_default-field_end
 returns-in_default-field_end c = search (arith, kept_bad)
@@ -19,9 +17,9 @@ returns-in_default-field_end c = search (arith, kept_bad)
 pub loop-preserved : goal.loop-preserved
 loop-preserved c = elim c.if-is_left_out.branch [
   | then-is_left_out w ↦ rw (w.out-is, w.a-is, w.start-is)
-      (search ended_within, search rules, omega arith, search (arith, kept_put))
+      (search ended_within, omega arith, search (arith, kept_put))
   | else-is_left_out w ↦ rw (w.out-is, w.a-is, w.start-is)
-      (search ended_within, search rules, omega arith, search (arith, kept_passed))
+      (search ended_within, omega arith, search (arith, kept_passed))
 ]
 
 pub returns : goal.returns

@@ -1,4 +1,3 @@
-use mathlib.Core.Path.{refl}
 use Rattle.ascii.proofs.Bytes.{ended_within}
 use Rattle.datainfo.proofs.Own.{unsigned_within}
 use Rattle.fit.proofs.Walks.{inside_ends, inside_at}
@@ -27,7 +26,7 @@ pub put_elements-returns-in_default : goal.put_elements-returns-in_default
 put_elements-returns-in_default t c = search elements_short
 
 pub put_elements-loop-init : goal.put_elements-loop-init
-put_elements-loop-init t c = (search inside_ends, search unsigned_within, refl, omega arith, elements_first _ _ _ _ _ _ _ c.unsigned.ensures (omega arith) _ _ c.in-Some.is _ _ (omega arith) _ (search rules) _ (omega arith))
+put_elements-loop-init t c = (search inside_ends, search unsigned_within, elements_first _ _ _ _ _ _ _ c.unsigned.ensures (omega arith) _ _ c.in-Some.is _ _ (omega arith) _ (search rules) _ (omega arith))
 
 pub put_elements-returns-in_default-item : goal.put_elements-returns-in_default-item
 put_elements-returns-in_default-item t c = search (arith, elements_few)
@@ -42,7 +41,7 @@ pub put_elements-next-item-requires : goal.put_elements-next-item-requires
 put_elements-next-item-requires t c = search inside_at
 
 pub put_elements-loop-preserved : goal.put_elements-loop-preserved
-put_elements-loop-preserved t c = (search inside_ends, search ended_within, search rules, omega arith, search (arith, elements_more))
+put_elements-loop-preserved t c = (search inside_ends, search ended_within, search (arith, elements_more))
 
 pub put_elements-returns : goal.put_elements-returns
 put_elements-returns t c = search (arith, elements_over)
@@ -51,7 +50,7 @@ pub put_item-returns : goal.put_item-returns
 put_item-returns t c = search item_put
 
 pub put_items-loop-init : goal.put_items-loop-init
-put_items-loop-init t c = (search inside_ends, refl, omega arith, row_first _ _ _ _ _ _ (omega arith) (omega arith) _ (search rules))
+put_items-loop-init t c = (search inside_ends, row_first _ _ _ _ _ _ (omega arith) (omega arith) _ (search rules))
 
 pub put_items-returns-in_default : goal.put_items-returns-in_default
 put_items-returns-in_default t c = search (arith, row_over)
@@ -63,7 +62,7 @@ pub put_items-next-item-requires : goal.put_items-next-item-requires
 put_items-next-item-requires t c = search inside_at
 
 pub put_items-loop-preserved : goal.put_items-loop-preserved
-put_items-loop-preserved t c = (search inside_ends, search rules, omega arith, search (arith, row_more))
+put_items-loop-preserved t c = (search inside_ends, search (arith, row_more))
 
 pub put_items-returns : goal.put_items-returns
 put_items-returns t c = search (arith, row_cut)
@@ -81,7 +80,7 @@ pub put_member-returns : goal.put_member-returns
 put_member-returns t c = search member_put
 
 pub put_members-loop-init : goal.put_members-loop-init
-put_members-loop-init t c = (search inside_ends, refl, omega arith, object_first _ _ _ _ _ _ (omega arith) _ (search rules))
+put_members-loop-init t c = (search inside_ends, object_first _ _ _ _ _ _ (omega arith) _ (search rules))
 
 pub put_members-returns-in_default : goal.put_members-returns-in_default
 put_members-returns-in_default t c = search (arith, object_over)
@@ -93,7 +92,7 @@ pub put_members-next_member-member-requires : goal.put_members-next_member-membe
 put_members-next_member-member-requires t c = search inside_at
 
 pub put_members-loop-preserved : goal.put_members-loop-preserved
-put_members-loop-preserved t c = (search inside_ends, search rules, omega arith, search (arith, object_more))
+put_members-loop-preserved t c = (search inside_ends, search (arith, object_more))
 
 pub put_members-returns : goal.put_members-returns
 put_members-returns t c = search (arith, object_cut)

@@ -1,7 +1,6 @@
 -- The cycle of calls that writes values, items and members. A level of a datainfo is four calls deep at most, so the measures are four times the levels
 -- left, plus 0 for `put_value`, 1 for one item or member, 2 for the loops over them, 3 for the types that hold values. Assumes nothing.
 use Prim.Native.Nat.{◌+◌, ◌-◌, ◌*◌, ◌≤◌}
-use mathlib.Core.Path.{◌≡◌}
 use lib.ListN.{length, drop}
 use Rattle.datainfo.specs.Layout.{datainfo_in}
 use Rattle.datainfo.specs.Clauses.Members.{members_at}
@@ -12,13 +11,13 @@ use Rattle.form.proofs.Members.{ObjectAt}
 use Rattle.form.proofs.write.+put_array_put_elements_put_item_put_items_put_member_put_members_put_struct_put_tuple_put_value.Given as goal
 
 abbrev pub invariant-put_elements-loop : goal.invariant-put_elements-loop
-invariant-put_elements-loop l = Inside l.v l.item × (l.element ≤ length l.s) × (length l.out ≡ length l.initial.out) × (l.a ≤ 18446744073709551615) × ElementsAt l.s l.i l.levels l.depth l.v l.p l.element (l.count - l.counter) l.item l.start l.initial.out l.at l.out l.a
+invariant-put_elements-loop l = Inside l.v l.item × (l.element ≤ length l.s) × ElementsAt l.s l.i l.levels l.depth l.v l.p l.element (l.count - l.counter) l.item l.start l.initial.out l.at l.out l.a
 
 abbrev pub invariant-put_items-loop : goal.invariant-put_items-loop
-invariant-put_items-loop l = Inside l.v l.item × (length l.out ≡ length l.initial.out) × (l.a ≤ 18446744073709551615) × RowAt (datainfo_in l.levels (drop l.i l.s)) l.depth l.v l.p l.item (length l.v - l.counter) l.start l.initial.out l.at l.out l.a
+invariant-put_items-loop l = Inside l.v l.item × RowAt (datainfo_in l.levels (drop l.i l.s)) l.depth l.v l.p l.item (length l.v - l.counter) l.start l.initial.out l.at l.out l.a
 
 abbrev pub invariant-put_members-loop : goal.invariant-put_members-loop
-invariant-put_members-loop l = Inside l.v l.member × (length l.out ≡ length l.initial.out) × (l.a ≤ 18446744073709551615) × ObjectAt (members_at (datainfo_in l.levels) l.k (drop l.i l.s)) l.depth l.v l.p l.member (length l.v - l.counter) l.start l.initial.out l.at l.out l.a
+invariant-put_members-loop l = Inside l.v l.member × ObjectAt (members_at (datainfo_in l.levels) l.k (drop l.i l.s)) l.depth l.v l.p l.member (length l.v - l.counter) l.start l.initial.out l.at l.out l.a
 
 abbrev pub decreases-put_array : goal.decreases-put_array
 decreases-put_array l = 4 * l.levels + 3

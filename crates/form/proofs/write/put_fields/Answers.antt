@@ -1,6 +1,4 @@
-use borrow.Author.Rules.{rules}
 use native.Mathlib.Omega.{arith}
-use mathlib.Core.Path.{refl}
 use Rattle.ascii.proofs.Bytes.{ended_within}
 use Rattle.datainfo.proofs.Own.{unsigned_within}
 use Rattle.form.proofs.Listed.{table_short, table_first, table_over, table_bad, table_more}
@@ -10,13 +8,13 @@ pub returns-in_default : goal.returns-in_default
 returns-in_default c = search table_short
 
 pub loop-init : goal.loop-init
-loop-init c = (search unsigned_within, refl, omega arith, table_first _ _ _ _ _ c.unsigned.ensures _ _ c.in-Some.is _ _ (omega arith) _ (omega arith))
+loop-init c = (search unsigned_within, table_first _ _ _ _ _ c.unsigned.ensures _ _ c.in-Some.is _ _ (omega arith) _ (omega arith))
 
 pub returns-in_default-field_end : goal.returns-in_default-field_end
 returns-in_default-field_end c = search (arith, table_bad)
 
 pub loop-preserved : goal.loop-preserved
-loop-preserved c = (search ended_within, search rules, omega arith, search (arith, table_more))
+loop-preserved c = (search ended_within, search (arith, table_more))
 
 pub returns : goal.returns
 returns c = search (arith, table_over)
