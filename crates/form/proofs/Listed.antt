@@ -140,8 +140,9 @@ module _ (s : List ℕ) (i levels : ℕ) (q : Option (Json × List ℕ)) (place 
 
     pub table_more : (e : ℕ) → r ≡ Some e → (out1 : List ℕ) (a1 : ℕ) → Emits out a (comma start) out1 a1 → (name : List ℕ) → name ≡ name_in 11 (drop place s)
         → (out2 : List ℕ) (a2 : ℕ) → FormsField (members_at (datainfo_in levels) 11 (drop i s)) q name out1 a1 out2 a2
-        → (later : ℕ) → later ≡ left - 1 → TableAt s i levels q e later false before at out2 a2
-    table_more e z out1 a1 x name y out2 a2 w later last = rw last (record {
+        → (later : ℕ) → later ≡ left - 1 → (again : Bool) → again ≡ false
+        → TableAt s i levels q e later again before at out2 a2
+    table_more e z out1 a1 x name y out2 a2 w later last again z0 = rw (last, z0) (record {
       from = λ {m = m} {ms = ms} e' f g fit.
           let t = c.from e' f g fit in
           fields_some (datainfo_in levels) 11 left (drop place s) h t.reads λ b y' d y'' hs n j o w'.

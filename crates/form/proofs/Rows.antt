@@ -7,7 +7,8 @@ use mathlib.Core.Path.{◌≡◌, refl, sym, ap, ◌∙◌}
 use mathlib.Core.Bool.{Bool, true, false}
 use mathlib.Core.List.{List, [], ◌∷◌, ◌++◌, append_assoc, append-nil}
 use lib.ListN.{length, drop, drop_of_length-le}
-use borrow.Author.Tests.{eq-eqb}
+use lib.Dec.{eqb}
+use borrow.Author.Tests.{eq-eqb, ne_eqb}
 use Rattle.ascii.specs.Text.{bytes}
 use Rattle.ascii.specs.Bytes.{head, tail, part}
 use Rattle.ascii.specs.Numbers.{unsigned}
@@ -55,6 +56,9 @@ listed_step done start v is = rw (listed_more is) (simp append_assoc)
 listed_end : (done : List ℕ) (start : Bool) (is : Items) → is ≡ no_items → done ++ listed_items start is ≡ done
 unfolding listed_items
 listed_end done start is e = rw (e, append-nil)
+
+pub not_first : (n : ℕ) → eqb (n + 1) 0 ≡ false
+not_first n = ne_eqb (n + 1) 0 (λ e. omega arith)
 
 -- ## What an array holds
 
@@ -280,9 +284,9 @@ module _ (s : List ℕ) (i levels d : ℕ) (v : List ℕ) (p place left : ℕ) (
     }
 
     pub elements_more : (j n : ℕ) → item ≡ Some j → e ≡ Some n → (out' : List ℕ) (a' : ℕ) → FormsItem (datainfo_in levels (drop place s)) (value d (drop j v)) start out a out' a'
-        → (next : Option ℕ) → Ends v next (after_item d (drop j v)) → (later : ℕ) → later ≡ left - 1
-        → ElementsAt s i levels d v p n later next false before at out' a'
-    elements_more j n z o out' a' g next t later one = rw one (record {
+        → (next : Option ℕ) → Ends v next (after_item d (drop j v)) → (later : ℕ) → later ≡ left - 1 → (again : Bool) → again ≡ false
+        → ElementsAt s i levels d v p n later next again before at out' a'
+    elements_more j n z o out' a' g next t later one again z0 = rw (one, z0) (record {
       from = λ m w f.
           let r = c.from m w f in
           let st = items_next d v r.n j next r.still z t in

@@ -177,16 +177,14 @@ fn put_elements(
     let mut a = at;
     let mut element = from;
     let mut item = first(v, p + 1, b']');
-    let mut start = true;
-    for _ in 0..count {
+    for n in 0..count {
         let Some(j) = item else {
             return a;
         };
         let Some(e) = datainfo_end(s, element, levels) else {
             return a;
         };
-        a = put_item(out, a, s, element, levels, v, j, depth, start);
-        start = false;
+        a = put_item(out, a, s, element, levels, v, j, depth, n == 0);
         item = next(v, j, depth);
         element = e;
     }
@@ -377,15 +375,13 @@ fn put_fields(
     };
     let mut a = at;
     let mut field = from;
-    let mut start = true;
-    for _ in 0..count {
+    for n in 0..count {
         let Some(e) = field_end(s, field, levels, PARTIAL) else {
             return a;
         };
         let name = named_at(s, field, PARTIAL);
-        let c = emit_comma(out, a, start);
+        let c = emit_comma(out, a, n == 0);
         a = put_field(out, c, s, i, levels, v, p, depth, name);
-        start = false;
         field = e;
     }
     a

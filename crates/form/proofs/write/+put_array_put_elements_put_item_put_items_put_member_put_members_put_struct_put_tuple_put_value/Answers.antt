@@ -2,7 +2,7 @@ use Rattle.ascii.proofs.Bytes.{ended_within}
 use Rattle.datainfo.proofs.Own.{unsigned_within}
 use Rattle.fit.proofs.Walks.{inside_ends, inside_at}
 use Rattle.form.proofs.Fields.{field_within}
-use Rattle.form.proofs.Rows.{item_put, row_first, row_over, row_cut, row_more, array_no, array_short, array_whole}
+use Rattle.form.proofs.Rows.{not_first, item_put, row_first, row_over, row_cut, row_more, array_no, array_short, array_whole}
 use Rattle.form.proofs.Rows.{elements_short, elements_first, elements_few, elements_over, elements_bad, elements_more, tuple_no, tuple_whole}
 use Rattle.form.proofs.Members.{member_unknown, member_cut, member_put, object_first, object_over, object_cut, object_more, struct_no, struct_whole}
 use Rattle.form.proofs.Typed.{forms_fifth, forms_short, forms_enum_at, forms_array, forms_tuple, forms_struct, forms_partial, forms_plain}
@@ -25,8 +25,8 @@ put_array-returns t c = search array_whole
 pub put_elements-returns-in_default : goal.put_elements-returns-in_default
 put_elements-returns-in_default t c = search elements_short
 
-pub put_elements-loop-init : goal.put_elements-loop-init
-put_elements-loop-init t c = (search inside_ends, search unsigned_within, elements_first _ _ _ _ _ _ _ c.unsigned.ensures (omega arith) _ _ c.in-Some.is _ _ (omega arith) _ (search rules) _ (omega arith))
+pub put_elements-loop-n-init : goal.put_elements-loop-n-init
+put_elements-loop-n-init t c = (search inside_ends, search unsigned_within, elements_first _ _ _ _ _ _ _ c.unsigned.ensures (omega arith) _ _ c.in-Some.is _ _ (omega arith) _ (search rules) _ (omega arith))
 
 pub put_elements-returns-in_default-item : goal.put_elements-returns-in_default-item
 put_elements-returns-in_default-item t c = search (arith, elements_few)
@@ -40,8 +40,8 @@ put_elements-put_item-a-requires t c = (omega arith, (omega arith, search inside
 pub put_elements-next-item-requires : goal.put_elements-next-item-requires
 put_elements-next-item-requires t c = search inside_at
 
-pub put_elements-loop-preserved : goal.put_elements-loop-preserved
-put_elements-loop-preserved t c = (search inside_ends, search ended_within, search (arith, elements_more))
+pub put_elements-loop-n-preserved : goal.put_elements-loop-n-preserved
+put_elements-loop-n-preserved t c = (search inside_ends, search ended_within, search (arith, elements_more, not_first))
 
 pub put_elements-returns : goal.put_elements-returns
 put_elements-returns t c = search (arith, elements_over)

@@ -1,6 +1,7 @@
 -- The cycle of calls that writes values, items and members. A level of a datainfo is four calls deep at most, so the measures are four times the levels
 -- left, plus 0 for `put_value`, 1 for one item or member, 2 for the loops over them, 3 for the types that hold values. Assumes nothing.
 use Prim.Native.Nat.{◌+◌, ◌-◌, ◌*◌, ◌≤◌}
+use lib.Dec.{eqb}
 use lib.ListN.{length, drop}
 use Rattle.datainfo.specs.Layout.{datainfo_in}
 use Rattle.datainfo.specs.Clauses.Members.{members_at}
@@ -10,8 +11,8 @@ use Rattle.form.proofs.Rows.{ElementsAt}
 use Rattle.form.proofs.Members.{ObjectAt}
 use Rattle.form.proofs.write.+put_array_put_elements_put_item_put_items_put_member_put_members_put_struct_put_tuple_put_value.Given as goal
 
-abbrev pub invariant-put_elements-loop : goal.invariant-put_elements-loop
-invariant-put_elements-loop l = Inside l.v l.item × (l.element ≤ length l.s) × ElementsAt l.s l.i l.levels l.depth l.v l.p l.element (l.count - l.counter) l.item l.start l.initial.out l.at l.out l.a
+abbrev pub invariant-put_elements-loop-n : goal.invariant-put_elements-loop-n
+invariant-put_elements-loop-n l = Inside l.v l.item × (l.element ≤ length l.s) × ElementsAt l.s l.i l.levels l.depth l.v l.p l.element (l.count - l.n) l.item (eqb l.n 0) l.initial.out l.at l.out l.a
 
 abbrev pub invariant-put_items-loop : goal.invariant-put_items-loop
 invariant-put_items-loop l = Inside l.v l.item × RowAt (datainfo_in l.levels (drop l.i l.s)) l.depth l.v l.p l.item (length l.v - l.counter) l.start l.initial.out l.at l.out l.a
