@@ -1,7 +1,6 @@
 use Rattle.ascii.proofs.Bytes.{ended_within}
 use Rattle.datainfo.proofs.Own.{unsigned_within}
-use Rattle.fit.proofs.Walks.{inside_ends, inside_at}
-use Rattle.form.proofs.Fields.{field_within}
+use Rattle.fit.proofs.Walks.{inside_ends}
 use Rattle.form.proofs.Rows.{not_first, item_put, row_first, row_over, row_cut, row_more, array_no, array_short, array_whole}
 use Rattle.form.proofs.Rows.{elements_short, elements_first, elements_few, elements_over, elements_bad, elements_more, tuple_no, tuple_whole}
 use Rattle.form.proofs.Members.{member_unknown, member_cut, member_put, object_first, object_over, object_cut, object_more, struct_no, struct_whole}
@@ -15,9 +14,6 @@ put_array-returns-then-depth-eq0 t c = search array_no
 
 pub put_array-returns-in_default : goal.put_array-returns-in_default
 put_array-returns-in_default t c = search array_short
-
-pub put_array-put_items-b-requires : goal.put_array-put_items-b-requires
-put_array-put_items-b-requires t c = (omega arith, (search ended_within, omega arith))
 
 pub put_array-returns : goal.put_array-returns
 put_array-returns t c = search array_whole
@@ -34,12 +30,6 @@ put_elements-returns-in_default-item t c = search (arith, elements_few)
 pub put_elements-returns-in_default-datainfo_end : goal.put_elements-returns-in_default-datainfo_end
 put_elements-returns-in_default-datainfo_end t c = search (arith, elements_bad)
 
-pub put_elements-put_item-a-requires : goal.put_elements-put_item-a-requires
-put_elements-put_item-a-requires t c = (omega arith, (omega arith, search inside_at))
-
-pub put_elements-next-item-requires : goal.put_elements-next-item-requires
-put_elements-next-item-requires t c = search inside_at
-
 pub put_elements-loop-n-preserved : goal.put_elements-loop-n-preserved
 put_elements-loop-n-preserved t c = (search inside_ends, search ended_within, search (arith, elements_more, not_first))
 
@@ -55,12 +45,6 @@ put_items-loop-init t c = (search inside_ends, row_first _ _ _ _ _ _ (omega arit
 pub put_items-returns-in_default : goal.put_items-returns-in_default
 put_items-returns-in_default t c = search (arith, row_over)
 
-pub put_items-put_item-a-requires : goal.put_items-put_item-a-requires
-put_items-put_item-a-requires t c = (omega arith, (omega arith, search inside_at))
-
-pub put_items-next-item-requires : goal.put_items-next-item-requires
-put_items-next-item-requires t c = search inside_at
-
 pub put_items-loop-preserved : goal.put_items-loop-preserved
 put_items-loop-preserved t c = (search inside_ends, search (arith, row_more))
 
@@ -73,9 +57,6 @@ put_member-returns-in_default t c = search member_unknown
 pub put_member-returns-in_default-member_value : goal.put_member-returns-in_default-member_value
 put_member-returns-in_default-member_value t c = search member_cut
 
-pub put_member-put_value-requires : goal.put_member-put_value-requires
-put_member-put_value-requires t c = (omega arith, (search field_within, search ended_within))
-
 pub put_member-returns : goal.put_member-returns
 put_member-returns t c = search member_put
 
@@ -84,12 +65,6 @@ put_members-loop-init t c = (search inside_ends, object_first _ _ _ _ _ _ (omega
 
 pub put_members-returns-in_default : goal.put_members-returns-in_default
 put_members-returns-in_default t c = search (arith, object_over)
-
-pub put_members-put_member-a-requires : goal.put_members-put_member-a-requires
-put_members-put_member-a-requires t c = (omega arith, (omega arith, search inside_at))
-
-pub put_members-next_member-member-requires : goal.put_members-next_member-member-requires
-put_members-next_member-member-requires t c = search inside_at
 
 pub put_members-loop-preserved : goal.put_members-loop-preserved
 put_members-loop-preserved t c = (search inside_ends, search (arith, object_more))
@@ -115,32 +90,17 @@ put_value-returns-then-levels-eq0 t c = search forms_fifth
 pub put_value-returns-in_default : goal.put_value-returns-in_default
 put_value-returns-in_default t c = search forms_short
 
-pub put_value-put_choice-requires : goal.put_value-put_choice-requires
-put_value-put_choice-requires t c = (search unsigned_within, omega arith)
-
 pub put_value-returns-in-4 : goal.put_value-returns-in-4
 put_value-returns-in-4 t c = search forms_enum_at
-
-pub put_value-put_array-requires : goal.put_value-put_array-requires
-put_value-put_array-requires t c = (omega arith, (search unsigned_within, omega arith))
 
 pub put_value-returns-in-6 : goal.put_value-returns-in-6
 put_value-returns-in-6 t c = search forms_array
 
-pub put_value-put_tuple-requires : goal.put_value-put_tuple-requires
-put_value-put_tuple-requires t c = (omega arith, (search unsigned_within, omega arith))
-
 pub put_value-returns-in-7 : goal.put_value-returns-in-7
 put_value-returns-in-7 t c = search forms_tuple
 
-pub put_value-put_struct-requires : goal.put_value-put_struct-requires
-put_value-put_struct-requires t c = (omega arith, (search unsigned_within, omega arith))
-
 pub put_value-returns-in-8 : goal.put_value-returns-in-8
 put_value-returns-in-8 t c = search forms_struct
-
-pub put_value-put_struct-requires-in-11 : goal.put_value-put_struct-requires-in-11
-put_value-put_struct-requires-in-11 t c = (omega arith, (search unsigned_within, omega arith))
 
 pub put_value-returns-in-11 : goal.put_value-returns-in-11
 put_value-returns-in-11 t c = search forms_partial

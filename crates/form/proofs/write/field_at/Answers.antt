@@ -16,9 +16,6 @@ returns-in_err-inner c = rw c.from_residual-in_err-inner.ensures (search (arith,
 pub returns-then-eq : goal.returns-then-eq
 returns-then-eq c = search (arith, sought_hit, c.in_ok-inner.was)
 
-pub datainfo_end-requires : goal.datainfo_end-requires
-datainfo_end-requires c = search (ended_within, c.in_ok-inner.was)
-
 pub returns-in_err-field : goal.returns-in_err-field
 returns-in_err-field c = rw c.from_residual-in_err-field.ensures (search (arith, sought_bad, c.in_ok-inner.was, c.in_err-field.was))
 

@@ -1,6 +1,4 @@
 -- `form::write::put_field` meets its contract. Assumes nothing.
-use Rattle.fit.proofs.Objects.{found_within}
-use Rattle.form.proofs.Fields.{field_within}
 use Rattle.form.proofs.Listed.{field_unknown, field_absent, field_put}
 use Rattle.form.proofs.write.put_field.Goals as goal
 
@@ -9,9 +7,6 @@ returns-in_default c = search field_unknown
 
 pub returns-in_default-find_key : goal.returns-in_default-find_key
 returns-in_default-find_key c = search field_absent
-
-pub put_value-requires : goal.put_value-requires
-put_value-requires c = (search field_within, search found_within)
 
 pub returns : goal.returns
 returns c = search field_put

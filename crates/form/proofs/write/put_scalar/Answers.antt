@@ -1,8 +1,6 @@
 -- `form::write::put_scalar` meets its contract. Assumes nothing.
-use lib.ListN.{length}
 use Prim.Native.Nat.{◌≤◌}
 use native.Mathlib.Omega.{arith}
-use Rattle.ascii.proofs.Bytes.{ended_within}
 use Rattle.form.proofs.Scalars.{scalar_bad, scalar_room, scalar_copied}
 use Rattle.form.proofs.write.put_scalar.Goals as goal
 
@@ -14,11 +12,6 @@ slice_bounds-emit-count c = search scalar_room
 
 pub slice_bounds-emit-start : goal.slice_bounds-emit-start
 slice_bounds-emit-start c = let h : c.args.p ≤ c.in-Some.e = search scalar_room in omega arith
-
-pub slice_bounds-emit-end : goal.slice_bounds-emit-end
-slice_bounds-emit-end c = let h : c.args.p ≤ c.in-Some.e = search scalar_room in
-    let g : c.in-Some.e ≤ length c.args.v.now = search ended_within in
-    omega arith
 
 pub returns : goal.returns
 returns c = search scalar_copied

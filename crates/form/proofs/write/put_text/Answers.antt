@@ -1,16 +1,11 @@
 -- `form::write::put_text` meets its contract. Assumes nothing.
 use mathlib.Core.Path.{◌∙◌, sym}
 use mathlib.Core.Logic.{◌≢◌}
-use borrow.Author.Rules.{rules}
-use Rattle.datainfo.proofs.Own.{unsigned_within}
 use Rattle.form.proofs.Listed.{text_short, text_ordered, text_other}
 use Rattle.form.proofs.write.put_text.Goals as goal
 
 pub returns-in_default : goal.returns-in_default
 returns-in_default c = search text_short
-
-pub put_ordered-requires : goal.put_ordered-requires
-put_ordered-requires c = (search unsigned_within, search rules)
 
 pub returns-then-k-from : goal.returns-then-k-from
 returns-then-k-from c = search (text_ordered, c.if-k-from.true ∙ c.from.ensures)
