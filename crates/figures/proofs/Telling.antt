@@ -43,9 +43,6 @@ module _ {d : List ℕ} {at : ℕ} {e : List ℕ} {r : ℕ} where
   unfolding tally_numbers
   numbers_some t k n i x y z = rw (ne_eqb t.count 0 n) (both (both x y) (rw i at z))
 
-  pub summed_yes : (s : Bool) (t : Tally) → s ≡ true → Emits d at (tally_numbers t) e r → Emits d at (cond s (tally_numbers t) []) e r
-  summed_yes s t z x = rw z x
-
   pub full_yes : (n : ℕ) → full ≤ n → Emits d at (bytes " full") e r → Emits d at (full_text n) e r
   unfolding full_text
   full_yes n h x = rw (le-ltb n full h) x
@@ -61,9 +58,6 @@ module _ {d : List ℕ} {at : ℕ} {e : List ℕ} {r : ℕ} where
   line_text m p s t x y z w = both (both (both x y) z) w
 
 module _ (d : List ℕ) (at : ℕ) (l : at ≤ 18446744073709551615) where
-  pub summed_no : (s : Bool) (t : Tally) → s ≡ false → Emits d at (cond s (tally_numbers t) []) d at
-  summed_no s t z = rw z (nothing d at l)
-
   pub full_no : (n : ℕ) → n < full → Emits d at (full_text n) d at
   unfolding full_text
   full_no n h = rw (lt-ltb n full h) (nothing d at l)
