@@ -44,9 +44,6 @@ use Rattle.form.proofs.Typed.{is_typed, text_value}
 
 module _ (o : Option (Parts × List ℕ)) (s : List ℕ) (levels : ℕ) (v : List ℕ) (p depth : ℕ) (name : List ℕ) (r : Option ℕ) (f : FieldIn o s levels name r)
     {before : List ℕ} {at : ℕ} where
-  pub field_unknown : r ≡ None → {after : List ℕ} {end : ℕ} → FormsField o (object_end (value depth) (drop (p + 1) v)) name before at after end
-  field_unknown z = record { is = λ e g h i k. absurd (nothing (sym ((rw z at f).is e) ∙ i)) }
-
   module _ (inner : ℕ) (z : r ≡ Some inner) (q : Option ℕ) (k : Finds depth v (p + 1) name q) where
     pub field_absent : q ≡ None → {after : List ℕ} {end : ℕ} → FormsField o (object_end (value depth) (drop (p + 1) v)) name before at after end
     field_absent w = record { is = λ {ms = ms} e g h i l. absurd (false≢true (sym (none_counted name (keys ms) (rw w at (k.is g))) ∙ h)) }

@@ -181,11 +181,6 @@ numbered_field (field j c fs) k v d e = go (same j k) e (numbered_field fs k v d
 
 module _ (o : Option (Parts × List ℕ)) (s : List ℕ) (levels : ℕ) (v : List ℕ) (j depth : ℕ) (t : List ℕ) (k : Reads (key (drop j v)) t) (r : Option ℕ) (f : FieldIn o s levels t r)
     {before : List ℕ} {at : ℕ} where
-  pub member_unknown : r ≡ None → {after : List ℕ} {end : ℕ} → FormsMember o depth (drop j v) before at after end
-  member_unknown z = record {
-    is = λ {k = k'} {d = d} e g h m n. absurd (nothing (sym ((rw z at f).is e) ∙ rw (← (k.is g)) at m));
-  }
-
   module _ (inner : ℕ) (z : r ≡ Some inner) (q : Option ℕ) (m : Ends v q (member_value (drop j v))) where
     pub member_cut : q ≡ None → {after : List ℕ} {end : ℕ} → FormsMember o depth (drop j v) before at after end
     unfolding member_value

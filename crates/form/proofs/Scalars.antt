@@ -10,9 +10,6 @@ use lib.IntN.{ℤ}
 use lib.ListN.{length, take, drop, length-append, length-drop}
 use lib.Seq.{take_at}
 use borrow.Author.Tests.{eqb-true}
-use mir.Syntax.{w64}
-use mir.Val.{to_z, of_z, SFits}
-use mir.Facts.{to_z-of_z}
 use Rattle.ascii.specs.Text.{bytes}
 use Rattle.ascii.specs.Bytes.{is_some, head, tail, after}
 use Rattle.ascii.specs.Numbers.{integer}
@@ -72,9 +69,6 @@ rest_some {o = Some p} e f = f p.0 (ap (λ y. Some (p.0, y)) (just e))
 
 -- the scalar at p, up to e
 module _ (v : List ℕ) (p : ℕ) (n : Option ℕ) (l : Ends v n (rest (scalar (drop p v)))) where
-  pub scalar_bad : n ≡ None → {before after : List ℕ} {at end : ℕ} → Copies (scalar (drop p v)) before at after end
-  scalar_bad z = record { is = λ e. absurd (nothing (sym (rw z at l) ∙ ap rest e)) }
-
   module _ (e : ℕ) (z : n ≡ Some e) (w : p ≤ length v) where
     pub scalar_room : p ≤ e
     scalar_room =
@@ -97,10 +91,6 @@ module _ (v : List ℕ) (p : ℕ) (n : Option ℕ) (l : Ends v n (rest (scalar (
 module _ (s : List ℕ) (i : ℕ) (name : List ℕ) (r : Option (ℤ × ℕ)) (k : NumberOf (enum_at (drop i s)) name r) {before after : List ℕ} {at end : ℕ} where
   pub named_none : r ≡ None → PutsNumber (enum_at (drop i s)) name before at after end
   named_none z = record { is = λ e f. absurd (nothing (sym ((rw z at k).is e) ∙ f)) }
-
-  pub named_number : (v : ℤ) (e : ℕ) → r ≡ Some (v, e) → SFits w64 v → Emits before at (integer (to_z w64 (of_z w64 v))) after end
-      → PutsNumber (enum_at (drop i s)) name before at after end
-  named_number v e z h x = record { is = λ {n = n} f g. let q : v ≡ n = just (sym ((rw z at k).is f) ∙ g) in rw (← q) (rw (to_z-of_z h) at x) }
 
 -- ## A value that is neither an array nor an object
 

@@ -3,7 +3,7 @@ use Rattle.datainfo.proofs.Own.{unsigned_within}
 use Rattle.fit.proofs.Walks.{inside_ends}
 use Rattle.form.proofs.Rows.{not_first, item_put, row_first, row_over, row_cut, row_more, array_no, array_short, array_whole}
 use Rattle.form.proofs.Rows.{elements_short, elements_first, elements_few, elements_over, elements_bad, elements_more, tuple_no, tuple_whole}
-use Rattle.form.proofs.Members.{member_unknown, member_cut, member_put, object_first, object_over, object_cut, object_more, struct_no, struct_whole}
+use Rattle.form.proofs.Members.{member_cut, member_put, object_first, object_over, object_cut, object_more, struct_no, struct_whole}
 use Rattle.form.proofs.Typed.{forms_fifth, forms_short, forms_enum_at, forms_array, forms_tuple, forms_struct, forms_partial, forms_plain}
 use borrow.Author.Rules.{rules}
 use native.Mathlib.Omega.{arith}
@@ -50,9 +50,6 @@ put_items-loop-preserved t c = (search inside_ends, search (arith, row_more))
 
 pub put_items-returns : goal.put_items-returns
 put_items-returns t c = search (arith, row_cut)
-
-pub put_member-returns-in_default : goal.put_member-returns-in_default
-put_member-returns-in_default t c = search member_unknown
 
 pub put_member-returns-in_default-member_value : goal.put_member-returns-in_default-member_value
 put_member-returns-in_default-member_value t c = search member_cut

@@ -1,11 +1,8 @@
 -- `form::write::put_scalar` meets its contract. Assumes nothing.
 use Prim.Native.Nat.{◌≤◌}
 use native.Mathlib.Omega.{arith}
-use Rattle.form.proofs.Scalars.{scalar_bad, scalar_room, scalar_copied}
+use Rattle.form.proofs.Scalars.{scalar_room, scalar_copied}
 use Rattle.form.proofs.write.put_scalar.Goals as goal
-
-pub returns-in_default : goal.returns-in_default
-returns-in_default c = search scalar_bad
 
 pub slice_bounds-emit-count : goal.slice_bounds-emit-count
 slice_bounds-emit-count c = search scalar_room
