@@ -15,8 +15,6 @@ use Rattle.datainfo.specs.Layout.{counted, datainfo_in, datainfo_at}
 use Rattle.table.specs.Table as Table
 use Rattle.table.specs.Layout.{begins, flag, argument_at, parameter_at, command_at}
 use Rattle.table.specs.declared.layout.Part.{Part}
-use Rattle.table.specs.declared.layout.ParameterAt.{ParameterAt}
-use Rattle.table.specs.declared.layout.CommandAt.{CommandAt}
 use Rattle.table.specs.declared.layout.Accessible as A
 use Rattle.table.specs.Clauses.At.{Sized, texts_at, TextsAt, FlagIs, accessible_begins, accessible_at, parameter_of, ParameterIs, command_of, CommandIs, AccessibleIs}
 
@@ -191,13 +189,3 @@ module _ (s : List ℕ) (at : ℕ) (b : Bool) (hb : b ≡ begins (80 ∷ 65 ∷ 
   pub begins_command : b ≡ false → (c : Bool) → c ≡ begins (67 ∷ 77 ∷ []) (drop at s) → c ≡ accessible_begins (drop at s)
   unfolding bytes
   begins_command e c hc = simp (sym hb ∙ e) hc
-
-module _ (s : List ℕ) (r : Option A.Accessible) (o : Option (Table.Accessible × List ℕ)) (h : AccessibleIs s r o) where
-  pub ends_parameter : (q : ParameterAt) → r ≡ Some (A.TheVariants.Parameter q) → Ends s (Some q.next) (rest o)
-  ends_parameter q e = let x = rw e at h in (ap rest x.is, x.next_within)
-
-  pub ends_command : (q : CommandAt) → r ≡ Some (A.TheVariants.Command q) → Ends s (Some q.next) (rest o)
-  ends_command q e = let x = rw e at h in (ap rest x.is, x.next_within)
-
-  pub ends_bad : r ≡ None → rest o ≡ None
-  ends_bad e = ap rest (rw e at h)

@@ -2,10 +2,9 @@
 use Rattle.std.specs.Prelude.{Option, Some, None}
 use Prim.Native.Nat.{ℕ}
 use mathlib.Core.Path.{◌≡◌, refl, sym, ◌∙◌}
-use mathlib.Core.Bool.{Bool, true, false, cond, not, ◌&&◌, false≢true}
+use mathlib.Core.Bool.{Bool, true, false, ◌&&◌, false≢true}
 use mathlib.Core.List.{List, map}
 use lib.ListN.{length, drop}
-use borrow.Author.Tests.{not-true, not-false}
 use Rattle.ascii.specs.Bytes.{◌>>=◌, all}
 use Rattle.ascii.specs.Names.{is_text}
 use Rattle.datainfo.specs.Rules.{good_names}
@@ -17,34 +16,29 @@ use Rattle.table.specs.declared.layout.ModuleAt.{ModuleAt}
 use Rattle.table.specs.declared.judge.Test.{Test}
 use Rattle.table.specs.declared.judge.Test.TheVariants.{Names, Rules, Initials}
 use Rattle.table.specs.declared.judge.Kind.TheVariants.{Accessibles}
-use Rattle.table.specs.Clauses.At.{bytes_of, Inside, accessibles_from, heading_at, module_of, HeadingIs}
+use Rattle.table.specs.Clauses.At.{bytes_of, Inside, text_if, accessibles_from, heading_at, module_of, HeadingIs}
 use Rattle.table.specs.Clauses.Judged.{passed, passes, module_passes, names_from, head_passes}
 use Rattle.table.proofs.Modules.{with_them, module_as, module_is}
 
-module _ (s : List ℕ) (noted : Bool) (note : Part) where
-  pub note_good_lem : (r : Bool) → noted ≡ true → r ≡ is_text (bytes_of s note) → r ≡ note_good (cond noted (Some (bytes_of s note)) None)
+module _ (s : List ℕ) (note : Option Part) where
+  pub note_good_lem : (p : Part) (r : Bool) → note ≡ Some p → r ≡ is_text (bytes_of s p) → r ≡ note_good (text_if s note)
   unfolding note_good
-  note_good_lem r e h = rw e h
+  note_good_lem p r e h = rw e h
 
-  pub note_missing : noted ≡ false → true ≡ note_good (cond noted (Some (bytes_of s note)) None)
+  pub note_missing : note ≡ None → true ≡ note_good (text_if s note)
   unfolding note_good
   note_missing e = rw e
 
 -- ## The beginning of a module
 
-module _ (s : List ℕ) (m : ModuleAt) (t : Bool) (ht : t ≡ is_text (bytes_of s m.description)) where
-  pub head_textless : not t ≡ true → false ≡ head_passes Names s m
+module _ (s : List ℕ) (m : ModuleAt) (v : Bool) (h : v ≡ (is_text (bytes_of s m.description) && note_good (text_if s m.note))) where
+  pub head_textless : v ≡ false → v ≡ head_passes Names s m
   unfolding head_passes
-  head_textless n = rw (← ht, not-true t n)
+  head_textless e = e ∙ rw (← h, e)
 
-  module _ (n : not t ≡ false) (u : Bool) (hu : u ≡ note_good (cond m.noted (Some (bytes_of s m.note)) None)) where
-    pub head_noteless : not u ≡ true → false ≡ head_passes Names s m
-    unfolding head_passes
-    head_noteless k = rw (← ht, not-false t n, ← hu, not-true u k)
-
-    pub head_good : (r : Bool) → not u ≡ false → r ≡ passed good_names (names_from Accessibles s m.next) → r ≡ head_passes Names s m
-    unfolding head_passes
-    head_good r k h = rw (← ht, not-false t n, ← hu, not-false u k) h
+  pub head_good : (r : Bool) → v ≡ true → r ≡ passed good_names (names_from Accessibles s m.next) → r ≡ head_passes Names s m
+  unfolding head_passes
+  head_good r e k = rw (← h, e) k
 
 module _ (s : List ℕ) (m : ModuleAt) (test : Test) where
   pub head_names : (r : Bool) → test ≡ Names → r ≡ head_passes Names s m → r ≡ head_passes test s m
@@ -64,7 +58,7 @@ all_named q = (map accessible_name q.0, q.1)
 -- what is asked of a module's beginning, of which o are the accessibles
 abbrev beginning : List ℕ → ModuleAt → Test → Option (List Table.Accessible × List ℕ) → Bool
 beginning s m Names o =
-    is_text (bytes_of s m.description) && note_good (cond m.noted (Some (bytes_of s m.note)) None)
+    is_text (bytes_of s m.description) && note_good (text_if s m.note)
     && passed good_names (o >>= λ q. Some (all_named q))
 beginning s m Rules o = true
 beginning s m Initials o = true
@@ -83,13 +77,10 @@ module _ (s : List ℕ) (at : ℕ) (h : Option ModuleAt) (hh : HeadingIs s h (he
     pub module_text_lem : Inside s m.description
     module_text_lem = (rw eh at hh).description
 
-    pub module_note : Inside s m.note
-    module_note = (rw eh at hh).note
-
     module _ (test : Test) (t : Bool) (ht : t ≡ head_passes test s m) where
-      pub module_headless : not t ≡ true → false ≡ passed (module_passes test) (module_at (length s) (drop at s))
+      pub module_headless : t ≡ false → t ≡ passed (module_passes test) (module_at (length s) (drop at s))
       unfolding module_passes module_names_good module_of
-      module_headless n = rw (module_is s at h hh m eh) (go test (accessibles_from s m.next) (sym (not-true t n) ∙ ht ∙ head_as s m test))
+      module_headless n = n ∙ rw (module_is s at h hh m eh) (go test (accessibles_from s m.next) (sym n ∙ ht ∙ head_as s m test))
         where
           go : (k : Test) (o : Option (List Table.Accessible × List ℕ)) → false ≡ beginning s m k o → false ≡ passed (module_passes k) (o >>= λ q. Some (with_them (module_of s m) q))
           go k None e = refl
@@ -97,9 +88,9 @@ module _ (s : List ℕ) (at : ℕ) (h : Option ModuleAt) (hh : HeadingIs s h (he
           go Rules (Some q) e = let z : ◌≡◌ {A = Bool} false true = e in absurd (false≢true z)
           go Initials (Some q) e = let z : ◌≡◌ {A = Bool} false true = e in absurd (false≢true z)
 
-      pub module_passes_lem : (r : Bool) → not t ≡ false → r ≡ passed (all (passes test)) (accessibles_from s m.next) → r ≡ passed (module_passes test) (module_at (length s) (drop at s))
+      pub module_passes_lem : (r : Bool) → t ≡ true → r ≡ passed (all (passes test)) (accessibles_from s m.next) → r ≡ passed (module_passes test) (module_at (length s) (drop at s))
       unfolding module_passes module_names_good module_of passes
-      module_passes_lem r n e = rw (module_is s at h hh m eh) (go test (accessibles_from s m.next) (sym (not-false t n) ∙ ht ∙ head_as s m test) e)
+      module_passes_lem r n e = rw (module_is s at h hh m eh) (go test (accessibles_from s m.next) (sym n ∙ ht ∙ head_as s m test) e)
         where
           go : (k : Test) (o : Option (List Table.Accessible × List ℕ)) → true ≡ beginning s m k o → r ≡ passed (all (passes k)) o → r ≡ passed (module_passes k) (o >>= λ q. Some (with_them (module_of s m) q))
           go k None z e = e

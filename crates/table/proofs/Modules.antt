@@ -3,7 +3,7 @@ use Rattle.std.specs.Prelude.{Option, Some, None}
 use Prim.Native.Nat.{ℕ, ◌-◌, ◌≤◌, ◌<◌}
 use native.Mathlib.Omega.{arith}
 use mathlib.Core.Path.{◌≡◌, refl, sym, ap, ◌∙◌}
-use mathlib.Core.Bool.{Bool, true, false, cond, false≢true}
+use mathlib.Core.Bool.{Bool, true, false, cond}
 use mathlib.Core.List.{List, [], ◌∷◌}
 use lib.ListN.{length, drop, length-drop}
 use lib.Dec.{eqb}
@@ -25,21 +25,22 @@ use Rattle.table.proofs.Enough.{before, accessibles_stop, accessibles_more, acce
 -- ## A text after a mark
 
 module _ (s mark : List ℕ) (at : ℕ) (n : Option ℕ) (hn : Ends s n (after mark (drop at s))) where
-  pub marked_absent : at ≤ length s → n ≡ None → MarkedRead s mark at false (record { from = at; to = at })
+  pub marked_absent : at ≤ length s → n ≡ None → MarkedRead s mark at None at
   unfolding marked_at begins
-  marked_absent h e = record { is = simp (rw e at hn); inside = record { order = omega arith; within = h }; none = λ z. refl }
+  marked_absent h e = record { is = simp (rw e at hn); inside = tt; within = h; end = refl }
 
   module _ (a : ℕ) (en : n ≡ Some a) (r : Option Part) (h : Sized s a 1 r) where
     pub marked_bad : r ≡ None → marked_at mark (drop at s) ≡ None
     unfolding marked_at begins
     marked_bad e = simp ((rw en at hn).0, text_bad s a r h e)
 
-    pub marked_good : (p : Part) → r ≡ Some p → MarkedRead s mark at true p
+    pub marked_good : (p : Part) → r ≡ Some p → MarkedRead s mark at (Some p) p.to
     unfolding marked_at begins
     marked_good p e = record {
       is = simp ((rw en at hn).0, text_is s a r h p e);
       inside = text_inside s a r h p e;
-      none = λ z. absurd (false≢true (sym z));
+      within = (text_inside s a r h p e).within;
+      end = refl;
     }
 
 -- ## The beginning of a module
@@ -49,11 +50,11 @@ module _ (s : List ℕ) (at : ℕ) (t : Option (Part × Part)) (ht : TextsAt s t
   unfolding heading_at bytes
   heading_untold e = simp (rw e at ht)
 
-  module _ (p q : Part) (et : t ≡ Some (p, q)) (n : Option (Bool × Part)) (hn : MarkedIs s (78 ∷ 79 ∷ []) q.to n) where
-    pub heading_read : (b : Bool) (x : Part) → n ≡ Some (b, x)
-        → ModuleIs s (record { name = p; description = q; noted = b; note = x; next = x.to }) (heading_at (drop at s))
+  module _ (p q : Part) (et : t ≡ Some (p, q)) (n : Option (Option Part × ℕ)) (hn : MarkedIs s (78 ∷ 79 ∷ []) q.to n) where
+    pub heading_read : (x : Option Part) (j : ℕ) → n ≡ Some (x, j)
+        → ModuleIs s (record { name = p; description = q; note = x; next = j }) (heading_at (drop at s))
     unfolding heading_at bytes module_of
-    heading_read b x e =
+    heading_read x j e =
         let y = rw et at ht in
         let g = rw e at hn in
         record {
@@ -61,11 +62,10 @@ module _ (s : List ℕ) (at : ℕ) (t : Option (Part × Part)) (ht : TextsAt s t
           name = y.name;
           description = y.description;
           note = g.inside;
-          next_within = g.inside.within;
+          next_within = g.within;
           between = y.between;
           note_read = g.is;
-          note_end = refl;
-          noteless = g.none;
+          note_end = g.end;
         }
 
     pub heading_bad : n ≡ None → heading_at (drop at s) ≡ None
@@ -103,9 +103,6 @@ module _ (s : List ℕ) (at : ℕ) (h : Option ModuleAt) (hh : HeadingIs s h (he
   module_bad e = simp (module_as, rw e at hh)
 
   module _ (m : ModuleAt) (eh : h ≡ Some m) where
-    pub module_within : m.next ≤ length s
-    module_within = (rw eh at hh).next_within
-
     pub module_is : module_at (length s) (drop at s) ≡ members (length s) (module_of s m, drop m.next s)
     module_is = module_as _ _ ∙ rw (rw eh at hh).is
 
@@ -173,11 +170,11 @@ module _ (s : List ℕ) (t : Option (Part × Part)) (ht : TextsAt s t (texts_at 
   pub head_bad : t ≡ None → head_at s ≡ None
   head_bad e = head_as ∙ rw (rw e at ht)
 
-  module _ (p q : Part) (e : t ≡ Some (p, q)) (n : Option (Bool × Part)) (hn : MarkedIs s (69 ∷ 68 ∷ []) q.to n) where
-    pub head_read : (b : Bool) (x : Part) → n ≡ Some (b, x)
-        → HeadIs s (record { id = p; description = q; edited = b; edition = x; first = x.to })
+  module _ (p q : Part) (e : t ≡ Some (p, q)) (n : Option (Option Part × ℕ)) (hn : MarkedIs s (69 ∷ 68 ∷ []) q.to n) where
+    pub head_read : (x : Option Part) (j : ℕ) → n ≡ Some (x, j)
+        → HeadIs s (record { id = p; description = q; edition = x; first = j })
     unfolding head_of
-    head_read b x z =
+    head_read x j z =
         let y = rw e at ht in
         let g = rw z at hn in
         record {
@@ -185,7 +182,7 @@ module _ (s : List ℕ) (t : Option (Part × Part)) (ht : TextsAt s t (texts_at 
           id = y.name;
           description = y.description;
           edition = g.inside;
-          within = g.inside.within;
+          within = g.within;
         }
 
     pub head_unedited : n ≡ None → head_at s ≡ None
@@ -197,9 +194,6 @@ module _ (s : List ℕ) (r : Option HeadAt) (h : HeadRead s r) (q : HeadAt) (e :
 
   pub head_description : Inside s q.description
   head_description = (rw e at h).description
-
-  pub head_edition : Inside s q.edition
-  head_edition = (rw e at h).edition
 
   pub head_within : q.first ≤ length s
   head_within = (rw e at h).within

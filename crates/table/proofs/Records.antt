@@ -1,16 +1,17 @@
 -- Laws of the records of a table, one for each way through a function that reads one. Assumes nothing.
 use Rattle.std.specs.Prelude.{Option, Some, None}
 use Prim.Native.Nat.{ℕ, zero, suc, ◌+◌, ◌-◌, ◌≤◌, ◌<◌}
-use native.Mathlib.Numerals.{add-one}
 use native.Mathlib.Omega.{arith}
-use mathlib.Core.Path.{◌≡◌, refl, ◌∙◌}
-use mathlib.Core.Bool.{Bool, true, false, cond}
+use mathlib.Core.Path.{◌≡◌, refl, sym, ap, ◌∙◌}
+use mathlib.Core.Bool.{Bool, true, false, cond, ◌&&◌, false≢true}
 use mathlib.Core.List.{List, [], ◌∷◌}
-use lib.ListN.{length, get_or, drop, length-drop}
-use lib.Seq.{drop-cons, drop-drop}
+use lib.ListN.{length, get_or, take, drop, length-drop}
+use lib.Seq.{take-length, drop-drop}
 use lib.Dec.{eqb}
-use borrow.Author.Tests.{le-leb, lt-leb, eq-eqb, ne_eqb}
-use Rattle.ascii.specs.Bytes.{◌>>=◌, after, part}
+use borrow.Author.Tests.{le-leb, lt-leb, eq-eqb, ne_eqb, eqb-true, eqb-false}
+use Rattle.std.specs.Cmp.Lexicographic.{pointwise}
+use Rattle.std.specs.List.{starts_with}
+use Rattle.ascii.specs.Bytes.{◌>>=◌, is_some, after, part}
 use Rattle.ascii.specs.Numbers.{unsigned}
 use Rattle.ascii.specs.Clauses.Read.{ReadsValue}
 use Rattle.ascii.specs.Clauses.Reader.{Ends}
@@ -18,50 +19,55 @@ use Rattle.datainfo.specs.Layout.{counted}
 use Rattle.datainfo.proofs.Ends.{one_byte, no_byte}
 use Rattle.table.specs.Layout.{begins, flag}
 use Rattle.table.specs.declared.layout.Part.{Part}
-use Rattle.table.specs.Clauses.At.{bytes_of, Inside, SizedIs, Sized, texts_at, TextsAre, TextsAt, FlagIs}
+use Rattle.table.specs.Clauses.At.{bytes_of, Inside, SizedIs, Sized, texts_at, TextsAre, FlagIs}
 
 -- ## Marks
 
-module _ (s : List ℕ) (at a b : ℕ) where
-  pub mark_short : length s - at < 2 → after (a ∷ b ∷ []) (drop at s) ≡ None
-  unfolding after
-  mark_short h = go (drop at s) (length-drop at s)
+eqb_turned : (a b : ℕ) → eqb a b ≡ eqb b a
+eqb_turned a b = go (eqb a b) refl
+  where
+    go : (t : Bool) → eqb a b ≡ t → t ≡ eqb b a
+    go true e = sym (eq-eqb b a (sym (eqb-true a b e)))
+    go false e = sym (ne_eqb b a (λ z. eqb-false a b e (sym z)))
+
+-- std's test of a slice's front
+pub front_begins : (xs m : List ℕ) → starts_with eqb xs m ≡ begins m xs
+unfolding begins after
+front_begins xs [] = refl
+front_begins [] (w ∷ m) = refl
+front_begins (x ∷ xs) (w ∷ m) = rw (eqb_turned w x) (go (eqb x w) (front_begins xs m))
+  where
+    go : (b : Bool) → pointwise eqb m (take (length m) xs) ≡ is_some (after m xs) → (b && pointwise eqb m (take (length m) xs)) ≡ is_some (cond b (after m xs) None)
+    go true e = e
+    go false e = refl
+
+pub rest_begins : (s : List ℕ) (at : ℕ) (m : List ℕ) → starts_with eqb (take (length s - at) (drop at s)) m ≡ begins m (drop at s)
+rest_begins s at m = rw (← (length-drop at s), take-length) (front_begins (drop at s) m)
+
+past : (m xs : List ℕ) → begins m xs ≡ true → (after m xs ≡ Some (drop (length m) xs)) × (length m ≤ length xs)
+unfolding begins after
+past [] xs e = (refl, omega arith)
+past (w ∷ m) [] e = absurd (false≢true e)
+past (w ∷ m) (x ∷ xs) e = go (eqb x w) (past m xs) e
+  where
+    go : (b : Bool) → (is_some (after m xs) ≡ true → (after m xs ≡ Some (drop (length m) xs)) × (length m ≤ length xs)) → is_some (cond b (after m xs) None) ≡ true → (cond b (after m xs) None ≡ Some (drop (length m) xs)) × (suc (length m) ≤ suc (length xs))
+    go true f z = let i = f z in let l = i.1 in (i.0, omega arith)
+    go false f z = absurd (false≢true z)
+
+module _ (s : List ℕ) (at a b : ℕ) (t : Bool) (h : t ≡ begins (a ∷ b ∷ []) (drop at s)) where
+  pub mark_past : at ≤ length s → t ≡ true → Ends s (Some (at + 2)) (after (a ∷ b ∷ []) (drop at s))
+  mark_past w e =
+      let i = past (a ∷ b ∷ []) (drop at s) (sym h ∙ e) in
+      let l : 2 ≤ length (drop at s) = i.1 in
+      (i.0 ∙ ap (λ (r : List ℕ). Some r) (drop-drop 2 at s), omega (arith, length-drop at s))
+
+  pub mark_missing : t ≡ false → after (a ∷ b ∷ []) (drop at s) ≡ None
+  unfolding begins
+  mark_missing e = go (after (a ∷ b ∷ []) (drop at s)) (sym h ∙ e)
     where
-      go : (xs : List ℕ) → length xs ≡ length s - at → after (a ∷ b ∷ []) xs ≡ None
-      go [] e = refl
-      go (x ∷ []) e = one (eqb x a)
-        where
-          one : (t : Bool) → ◌≡◌ {A = Option (List ℕ)} (cond t None None) None
-          one true = refl
-          one false = refl
-      go (x ∷ (y ∷ xs)) e = absurd (omega arith)
-
-  module _ (h : 2 ≤ length s - at) where
-    mark : after (a ∷ b ∷ []) (drop at s) ≡ cond (eqb (get_or s at 0) a) (cond (eqb (get_or s (at + 1) 0) b) (Some (drop (at + 2) s)) None) None
-    unfolding after
-    mark =
-        let k : at < length s = omega arith in
-        let l : suc at < length s = omega arith in
-        let e : at + 2 ≡ suc (suc at) = omega arith in
-        rw (drop-cons s at 0 k, drop-cons s (suc at) 0 l, add-one at, e)
-
-    pub mark_first : (get_or s at 0 ≡ a → ⊥) → after (a ∷ b ∷ []) (drop at s) ≡ None
-    mark_first n = mark ∙ simp (ne_eqb _ _ n)
-
-    pub mark_second : (get_or s (at + 1) 0 ≡ b → ⊥) → get_or s at 0 ≡ a → after (a ∷ b ∷ []) (drop at s) ≡ None
-    mark_second n e = mark ∙ simp (eq-eqb _ _ e, ne_eqb _ _ n)
-
-    pub mark_both : get_or s at 0 ≡ a → get_or s (at + 1) 0 ≡ b → Ends s (Some (at + 2)) (after (a ∷ b ∷ []) (drop at s))
-    mark_both e f = (mark ∙ simp (eq-eqb _ _ e, eq-eqb _ _ f), omega arith)
-
-module _ (s : List ℕ) (r : Option ℕ) (m xs : List ℕ) (h : Ends s r (after m xs)) where
-  pub mark_is : (p : ℕ) → r ≡ Some p → true ≡ begins m xs
-  unfolding begins
-  mark_is p e = simp (rw e at h).0
-
-  pub mark_isn't : r ≡ None → false ≡ begins m xs
-  unfolding begins
-  mark_isn't e = simp (rw e at h)
+      go : (o : Option (List ℕ)) → is_some o ≡ false → o ≡ None
+      go None z = refl
+      go (Some r) z = absurd (false≢true (sym z))
 
 -- ## Lengths with bytes
 
@@ -98,9 +104,6 @@ module _ (s : List ℕ) (at : ℕ) (r : Option Part) (h : Sized s at 1 r) where
   text_bad e = counted_sized _ ∙ rw e at h
 
   module _ (p : Part) (e : r ≡ Some p) where
-    pub text_within : p.to ≤ length s
-    text_within = (rw e at h).inside.within
-
     pub text_inside : Inside s p
     text_inside = (rw e at h).inside
 
@@ -133,10 +136,6 @@ module _ (s : List ℕ) (at : ℕ) (m : List ℕ) (n : Option ℕ) (hn : Ends s 
             description = text_inside s p.to q k d z;
           }
 
-module _ (s : List ℕ) (t : Option (Part × Part)) (o : Option ((List ℕ × List ℕ) × List ℕ)) (h : TextsAt s t o) where
-  pub texts_within : (p q : Part) → t ≡ Some (p, q) → q.to ≤ length s
-  texts_within p q e = (rw e at h).description.within
-
 -- ## Flags
 
 module _ (s : List ℕ) (at : ℕ) where
@@ -161,6 +160,3 @@ module _ (s : List ℕ) (at : ℕ) where
         more zero z o = absurd (z refl)
         more (suc zero) z o = absurd (o refl)
         more (suc (suc b)) z o = omega arith
-
-pub flag_within : (s : List ℕ) (f : Option (Bool × ℕ)) (o : Option (Bool × List ℕ)) → FlagIs s f o → (b : Bool) (p : ℕ) → f ≡ Some (b, p) → p ≤ length s
-flag_within s f o h b p e = (rw e at h).1

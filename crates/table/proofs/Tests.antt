@@ -67,6 +67,13 @@ module _ (test : Test) where
   unfolding value_passes
   value_initials d x r e h = rw e h
 
+-- a test that is asked only if the one before it passed
+pub and_on : {t i v T I : Bool} → t ≡ T → t ≡ true → i ≡ I → v ≡ i → v ≡ (T && I)
+and_on h e k z = z ∙ k ∙ rw (← h, e)
+
+pub and_off : {t v T : Bool} (I : Bool) → t ≡ T → t ≡ false → v ≡ t → v ≡ (T && I)
+and_off I h e z = z ∙ e ∙ rw (← h, e)
+
 and-true : (b : Bool) → b ≡ (b && true)
 and-true true = refl
 and-true false = refl
@@ -98,36 +105,31 @@ passes_command Initials c = go c.argument
 abbrev as_argument : Datainfo × List ℕ → Option Datainfo × List ℕ
 as_argument p = (Some p.0, p.1)
 
+module _ (s : List ℕ) (test : Test) (q : ParameterAt) (d : Datainfo) (v : Bool) (h : v ≡ (text_passes test (bytes_of s q.description) && info_passes test d)) where
+  pub parameter_not : v ≡ false → v ≡ passes test (Table.parameter (parameter_of s q d))
+  unfolding parameter_of
+  parameter_not e = e ∙ rw (passes_parameter, ← h, e)
+
+  pub parameter_all : (r : Bool) → v ≡ true → r ≡ value_passes test d (bytes_of s q.initial) → r ≡ passes test (Table.parameter (parameter_of s q d))
+  unfolding parameter_of
+  parameter_all r e k = rw (passes_parameter, ← h, e) k
+
 module _ (s : List ℕ) (test : Test) (t : Bool) where
-  module _ (q : ParameterAt) (h : t ≡ text_passes test (bytes_of s q.description)) (d : Datainfo) where
-    pub parameter_not : t ≡ false → false ≡ passes test (Table.parameter (parameter_of s q d))
-    unfolding parameter_of
-    parameter_not e = rw (passes_parameter, ← h, e)
-
-    module _ (e : t ≡ true) (u : Bool) (i : u ≡ info_passes test d) where
-      pub parameter_ruled : u ≡ false → false ≡ passes test (Table.parameter (parameter_of s q d))
-      unfolding parameter_of
-      parameter_ruled g = rw (passes_parameter, ← h, e, ← i, g)
-
-      pub parameter_all : (r : Bool) → u ≡ true → r ≡ value_passes test d (bytes_of s q.initial) → r ≡ passes test (Table.parameter (parameter_of s q d))
-      unfolding parameter_of
-      parameter_all r g k = rw (passes_parameter, ← h, e, ← i, g) k
-
   module _ (q : CommandAt) (h : t ≡ text_passes test (bytes_of s q.description)) (a : Option Datainfo) (x : List ℕ) (g : argument_at q.argument (drop q.info s) ≡ Some (a, x)) where
-    pub command_not : t ≡ false → false ≡ passes test (Table.command (command_of s q a))
+    pub command_not : t ≡ false → t ≡ passes test (Table.command (command_of s q a))
     unfolding command_of
-    command_not e = rw (passes_command, ← h, e)
+    command_not e = e ∙ rw (passes_command, ← h, e)
 
-    pub command_without : t ≡ true → q.argument ≡ false → true ≡ passes test (Table.command (command_of s q a))
+    pub command_without : t ≡ true → not q.argument ≡ true → not q.argument ≡ passes test (Table.command (command_of s q a))
     unfolding command_of argument_at if_any
     command_without e n =
-        let i : ◌≡◌ {A = Option (Option Datainfo × List ℕ)} (Some (None, drop q.info s)) (Some (a, x)) = rw n at g in
+        let i : ◌≡◌ {A = Option (Option Datainfo × List ℕ)} (Some (None, drop q.info s)) (Some (a, x)) = rw (not-true q.argument n) at g in
         let j : None ≡ a = ap (λ (y : Option Datainfo × List ℕ). y.0) (in_some i) in
-        rw (passes_command, ← h, e, ← j)
+        n ∙ rw (passes_command, ← h, e, ← j)
 
-    pub command_with : (r : Bool) → t ≡ true → q.argument ≡ true → ((d : Datainfo) (x : List ℕ) → datainfo_in 4 (drop q.info s) ≡ Some (d, x) → r ≡ info_passes test d) → r ≡ passes test (Table.command (command_of s q a))
+    pub command_with : (r : Bool) → t ≡ true → not q.argument ≡ false → ((d : Datainfo) (x : List ℕ) → datainfo_in 4 (drop q.info s) ≡ Some (d, x) → r ≡ info_passes test d) → r ≡ passes test (Table.command (command_of s q a))
     unfolding command_of argument_at if_any
-    command_with r e n f = rw (passes_command, ← h, e) (go (datainfo_at (drop q.info s)) f (rw n at g))
+    command_with r e n f = rw (passes_command, ← h, e) (go (datainfo_at (drop q.info s)) f (rw (not-false q.argument n) at g))
       where
         go : (o : Option (Datainfo × List ℕ)) → ((d : Datainfo) (x : List ℕ) → o ≡ Some (d, x) → r ≡ info_passes test d) → (o >>= λ p. Some (as_argument p)) ≡ Some (a, x) → r ≡ if_any (info_passes test) a
         go None f z = let y : ◌≡◌ {A = ℕ} 0 1 = cc in absurd (omega arith)
@@ -147,14 +149,8 @@ module _ (s : List ℕ) (r : Option A.Accessible) (o : Option (Table.Accessible 
     pub parameter_text : Inside s q.description
     parameter_text = (rw e at h).description
 
-    pub parameter_initial : Inside s q.initial
-    parameter_initial = (rw e at h).initial
-
     pub parameter_info : q.info ≤ length s
     parameter_info = (rw e at h).info_within
-
-    pub parameter_readable : ReadableAt s q.info 4
-    parameter_readable = let x = rw e at h in record { within = x.info_within; datainfo = x.datainfo; left = x.left; is = x.info }
 
     pub parameter_passes : (test : Test) (b : Bool) → ((d : Datainfo) (x : List ℕ) → datainfo_in 4 (drop q.info s) ≡ Some (d, x) → b ≡ passes test (Table.parameter (parameter_of s q d))) → b ≡ passed (passes test) o
     parameter_passes test b f = let x = rw e at h in rw x.is (f x.datainfo x.left x.info)
@@ -165,9 +161,6 @@ module _ (s : List ℕ) (r : Option A.Accessible) (o : Option (Table.Accessible 
 
     pub command_info : q.info ≤ length s
     command_info = (rw e at h).info_within
-
-    pub command_readable : ArgumentReadable s q.argument q.info
-    command_readable = let x = rw e at h in record { within = x.info_within; argument = x.argument; left = drop q.next s; is = x.info }
 
     pub command_passes : (test : Test) (b : Bool) → ((a : Option Datainfo) (x : List ℕ) → argument_at q.argument (drop q.info s) ≡ Some (a, x) → b ≡ passes test (Table.command (command_of s q a))) → b ≡ passed (passes test) o
     command_passes test b f = let x = rw e at h in rw x.is (f x.argument (drop q.next s) x.info)

@@ -3,7 +3,7 @@ use Rattle.std.specs.Prelude.{Option, Some, None}
 use Prim.Native.Nat.{ℕ, suc, ◌+◌, ◌-◌, ◌≤◌, ◌<◌}
 use native.Mathlib.Omega.{arith}
 use mathlib.Core.Path.{◌≡◌, refl, sym, ap, ◌∙◌}
-use mathlib.Core.Bool.{Bool, true, false, cond, not, false≢true}
+use mathlib.Core.Bool.{Bool, true, false, cond, not, ◌&&◌, false≢true}
 use mathlib.Core.List.{List, [], ◌∷◌, map}
 use lib.ListN.{length, drop}
 use lib.Dec.{leb, eqb}
@@ -32,7 +32,7 @@ use Rattle.table.proofs.Modules.{with_them, module_as, module_is, table_none, ta
 pub record Opened (s : List ℕ) (q : HeadAt) (t : Table.Table) : Type 0 where
   pub id : t.equipment_id ≡ bytes_of s q.id
   pub description : t.description ≡ bytes_of s q.description
-  pub edition : t.edition ≡ text_if s q.edited q.edition
+  pub edition : t.edition ≡ text_if s q.edition
   pub head : head_at s ≡ Some (Table.with_modules t [], drop q.first s)
   pub left : List ℕ
   pub modules : modules_from s q.first ≡ Some (t.modules, left)
@@ -95,36 +95,18 @@ module _ (s : List ℕ) (r : Option HeadAt) (h : HeadRead s r) (t : Table.Table)
   x : Opened s q t
   x = opened s r h t w q er
 
-  module _ (a : Bool) (ha : a ≡ is_text (bytes_of s q.id)) where
-    pub id_bad : not a ≡ true → false ≡ names_good t
+  module _ (v : Bool) (hv : v ≡ (is_text (bytes_of s q.id) && is_text (bytes_of s q.description) && edition_good (text_if s q.edition) && passed good_names (names_from Modules s q.first))) where
+    texts : v ≡ (is_text t.equipment_id && is_text t.description && edition_good t.edition && good_names (map (λ (m : Table.Module). m.name) t.modules))
+    unfolding names_from
+    texts = hv ∙ rw (x.id, x.description, x.edition, x.modules)
+
+    pub names_bad : v ≡ false → v ≡ names_good t
     unfolding names_good
-    id_bad n = rw (x.id, ← ha, not-true a n)
+    names_bad e = e ∙ rw (← texts, e)
 
-    module _ (na : not a ≡ false) (b : Bool) (hb : b ≡ is_text (bytes_of s q.description)) where
-      pub description_bad : not b ≡ true → false ≡ names_good t
-      unfolding names_good
-      description_bad n = rw (x.id, x.description, ← ha, ← hb, not-false a na, not-true b n)
-
-      module _ (nb : not b ≡ false) (g : Bool) (hg : g ≡ edition_good (text_if s q.edited q.edition)) where
-        pub edition_bad : not g ≡ true → false ≡ names_good t
-        unfolding names_good
-        edition_bad n = rw (x.id, x.description, x.edition, ← ha, ← hb, ← hg, not-false a na, not-false b nb, not-true g n)
-
-        module _ (ng : not g ≡ false) (c : Bool) (hc : c ≡ passed good_names (names_from Modules s q.first)) where
-          unique : c ≡ good_names (map (λ (m : Table.Module). m.name) t.modules)
-          unfolding names_from
-          unique = hc ∙ rw x.modules
-
-          pub modules_misnamed : not c ≡ true → false ≡ names_good t
-          unfolding names_good
-          modules_misnamed n =
-              rw (x.id, x.description, x.edition, ← ha, ← hb, ← hg, not-false a na, not-false b nb, not-false g ng, ← unique, not-true c n)
-
-          pub names_all : (d : Bool) → not c ≡ false → d ≡ passed (all (module_passes Names)) (modules_from s q.first) → d ≡ names_good t
-          unfolding names_good module_passes
-          names_all d n hd =
-              rw (x.id, x.description, x.edition, ← ha, ← hb, ← hg, not-false a na, not-false b nb, not-false g ng, ← unique, not-false c n)
-              (hd ∙ rw x.modules)
+    pub names_all : (d : Bool) → v ≡ true → d ≡ passed (all (module_passes Names)) (modules_from s q.first) → d ≡ names_good t
+    unfolding names_good module_passes
+    names_all d e hd = rw (← texts, e) (hd ∙ rw x.modules)
 
   pub datainfos_all : (d : Bool) → d ≡ passed (all (module_passes Rules)) (modules_from s q.first) → d ≡ datainfos_good t
   unfolding datainfos_good module_passes
@@ -221,17 +203,14 @@ module _ (s : List ℕ) (r : Option HeadAt) (h : HeadRead s r) (t : Table.Table)
       let l = length-map (λ (m : Table.Module). m.name) t.modules in
       omega arith
 
-  pub counts_none : n < 1 → false ≡ counts_good t
-  unfolding counts_good is_between
-  counts_none l = rw (← modules_many, lt-leb 1 n l)
+  module _ (v : Bool) (hv : v ≡ (leb 1 n && leb n 16)) where
+    pub counts_bad : v ≡ false → v ≡ counts_good t
+    unfolding counts_good is_between
+    counts_bad e = e ∙ rw (← modules_many, ← hv, e)
 
-  pub counts_over : 1 ≤ n → 16 < n → false ≡ counts_good t
-  unfolding counts_good is_between
-  counts_over g l = rw (← modules_many, le-leb 1 n g, lt-leb n 16 l)
-
-  pub counts_all : (d : Bool) → 1 ≤ n → n ≤ 16 → d ≡ passed (few 64) (modules_from s q.first) → d ≡ counts_good t
-  unfolding counts_good is_between few
-  counts_all d g l hd = rw (← modules_many, le-leb 1 n g, le-leb n 16 l) (hd ∙ rw y.modules)
+    pub counts_all : (d : Bool) → v ≡ true → d ≡ passed (few 64) (modules_from s q.first) → d ≡ counts_good t
+    unfolding counts_good is_between few
+    counts_all d e hd = rw (← modules_many, ← hv, e) (hd ∙ rw y.modules)
 
 -- ## The number
 

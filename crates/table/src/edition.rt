@@ -1,43 +1,35 @@
 // The edition that a table declares by its `ED` record (M-107).
-ghost use Rattle.std.specs.Prelude.{◌≡◌, Option, Some, None};
+ghost use Rattle.std.specs.Prelude.{◌≡◌, Some, IfSome};
 ghost use Rattle.ascii.specs.Text.{bytes};
 ghost use Rattle.table.specs.Layout.{begins, Readable};
 ghost use Rattle.table.specs.Rules.{edition_good};
 ghost use Rattle.table.specs.Clauses.At.{Inside, text_if, EditionIs};
 
 use crate::layout::{Part, head_at};
-use ascii::names::{is_text, same};
+use ascii::names::is_text;
 
-// "it must begin `ISSE,SECoP,`": 11 bytes
+// "it must begin `ISSE,SECoP,`"
 fn begins_so(text: &[u8]) -> bool
     ensures { result ≡ begins (bytes "ISSE,SECoP,") text.now }
 {
-    if text.len() < 11 {
-        return false;
-    }
-    same(&text[..11], b"ISSE,SECoP,")
+    text.starts_with(b"ISSE,SECoP,")
 }
 
 fn is_good_text(text: &[u8]) -> bool
     ensures { result ≡ edition_good (Some text.now) }
 {
-    if is_text(text) {
-        return begins_so(text);
-    }
-    false
+    is_text(text) && begins_so(text)
 }
 
-// Whether a table's edition is good, if it is edited.
-pub(crate) fn edition_is_good(s: &[u8], edited: bool, edition: Part) -> bool
-    requires { Inside s.now edition }
-    ensures { result ≡ edition_good (text_if s.now edited edition) }
+// Whether a table's edition is good, if it has one.
+pub(crate) fn edition_is_good(s: &[u8], edition: Option<Part>) -> bool
+    requires { IfSome edition (Inside s.now) }
+    ensures { result ≡ edition_good (text_if s.now edition) }
 {
-    if !edited {
-        return true;
+    match edition {
+        Some(p) => is_good_text(&s[p.from..p.to]),
+        None => true,
     }
-    let from = edition.from;
-    let to = edition.to;
-    is_good_text(&s[from..to])
 }
 
 // The edition of a table that can be read.
@@ -45,12 +37,5 @@ pub fn edition_of(s: &[u8]) -> Option<Part>
     requires { Readable s.now }
     ensures { EditionIs s.now result }
 {
-    let Some(h) = head_at(s) else {
-        return None;
-    };
-    let edition = h.edition;
-    if h.edited {
-        return Some(edition);
-    }
-    None
+    head_at(s)?.edition
 }

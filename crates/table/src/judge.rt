@@ -1,6 +1,6 @@
 // What is asked of a table: its number, 1 to 5. Number 1, a table that can't be read, comes before the others, so those are asked of a table
 // that can be read.
-ghost use Rattle.std.specs.Prelude.{◌≡◌, cond, List, ℕ, ◌≤◌, length, drop, Option, Some, None};
+ghost use Rattle.std.specs.Prelude.{◌≡◌, List, ℕ, ◌≤◌, length, drop, Option, Some, IfSome};
 ghost use Rattle.ascii.specs.Bytes.{all};
 ghost use Rattle.ascii.specs.Names.{is_name, is_text};
 ghost use Rattle.datainfo.specs.Datainfo.{Datainfo};
@@ -10,7 +10,7 @@ ghost use Rattle.fit.specs.Fit.{is_stored};
 ghost use Rattle.table.specs.Table.{Table, parameter, command};
 ghost use Rattle.table.specs.Layout.{argument_at, module_at, whole_table, read_table};
 ghost use Rattle.table.specs.Rules.{note_good, counts_good, names_good, datainfos_good, initials_good};
-ghost use Rattle.table.specs.Clauses.At.{bytes_of, Inside, ArgumentReadable, accessible_at, accessibles_from, parameter_of, command_of, module_of};
+ghost use Rattle.table.specs.Clauses.At.{bytes_of, Inside, text_if, ArgumentReadable, accessible_at, accessibles_from, parameter_of, command_of, module_of};
 ghost use Rattle.table.specs.Clauses.At.{modules_from};
 ghost use Rattle.table.specs.declared.judge.Kind.TheVariants as Kind;
 ghost use Rattle.table.specs.declared.judge.Test.TheVariants as Test;
@@ -20,9 +20,8 @@ ghost use Rattle.table.specs.Clauses.Judged.{differs, NamedIs, how_many, Members
 
 use crate::edition::edition_is_good;
 use crate::layout::{
-    Accessible, CommandAt, ModuleAt, ParameterAt, Part, accessible_at,
-    accessible_end, accessibles_end, head_at, heading_at, is_accessible, is_module, is_readable,
-    module_end,
+    Accessible, CommandAt, ModuleAt, ParameterAt, Part, accessible_at, accessible_end,
+    accessibles_end, head_at, heading_at, is_accessible, is_module, is_readable, module_end,
 };
 use ascii::names::{is_name, is_text, same_lowercase};
 use form::is_stored;
@@ -47,9 +46,7 @@ fn part_is_text(s: &[u8], p: Part) -> bool
     requires { Inside s.now p }
     ensures { result ≡ is_text (bytes_of s.now p) }
 {
-    let from = p.from;
-    let to = p.to;
-    is_text(&s[from..to])
+    is_text(&s[p.from..p.to])
 }
 
 // Whether a datainfo passes.
@@ -80,9 +77,7 @@ fn part_is_stored(s: &[u8], info: usize, p: Part) -> bool
     requires { ReadableAt s.now info 4 × Inside s.now p }
     ensures { (d : Datainfo) (x : List ℕ) → datainfo_in 4 (drop info s.now) ≡ Some (d, x) → result ≡ is_stored d (bytes_of s.now p) }
 {
-    let from = p.from;
-    let to = p.to;
-    is_stored(s, info, &s[from..to])
+    is_stored(s, info, &s[p.from..p.to])
 }
 
 // Whether an initial value passes.
@@ -103,16 +98,9 @@ fn parameter_passes(s: &[u8], q: ParameterAt, test: Test) -> bool
     ensures { (d : Datainfo) (x : List ℕ) → datainfo_in 4 (drop q.info s.now) ≡ Some (d, x)
         → result ≡ passes test (parameter (parameter_of s.now q d)) }
 {
-    let description = q.description;
-    let info = q.info;
-    let initial = q.initial;
-    if text_passes(s, description, test) {
-        if info_passes(s, info, test) {
-            return value_passes(s, info, initial, test);
-        }
-        return false;
-    }
-    false
+    text_passes(s, q.description, test)
+        && info_passes(s, q.info, test)
+        && value_passes(s, q.info, q.initial, test)
 }
 
 fn command_passes(s: &[u8], q: CommandAt, test: Test) -> bool
@@ -120,15 +108,7 @@ fn command_passes(s: &[u8], q: CommandAt, test: Test) -> bool
     ensures { (a : Option Datainfo) (x : List ℕ) → argument_at q.argument (drop q.info s.now) ≡ Some (a, x)
         → result ≡ passes test (command (command_of s.now q a)) }
 {
-    let description = q.description;
-    let info = q.info;
-    if text_passes(s, description, test) {
-        if q.argument {
-            return info_passes(s, info, test);
-        }
-        return true;
-    }
-    false
+    text_passes(s, q.description, test) && (!q.argument || info_passes(s, q.info, test))
 }
 
 fn accessible_passes(s: &[u8], at: usize, test: Test) -> bool
@@ -164,16 +144,9 @@ fn accessible_name_at(s: &[u8], at: usize) -> Option<(Part, usize)>
     requires { at ≤ length s.now }
     ensures { NamedIs s.now result (named_at Kind.Accessibles (length s.now) (drop at s.now)) }
 {
-    match accessible_at(s, at) {
-        Some(Accessible::Parameter(q)) => {
-            let name = q.name;
-            Some((name, q.next))
-        }
-        Some(Accessible::Command(q)) => {
-            let name = q.name;
-            Some((name, q.next))
-        }
-        None => None,
+    match accessible_at(s, at)? {
+        Accessible::Parameter(q) => Some((q.name, q.next)),
+        Accessible::Command(q) => Some((q.name, q.next)),
     }
 }
 
@@ -181,15 +154,9 @@ fn module_name_at(s: &[u8], at: usize) -> Option<(Part, usize)>
     requires { at ≤ length s.now }
     ensures { NamedIs s.now result (named_at Kind.Modules (length s.now) (drop at s.now)) }
 {
-    let Some(m) = heading_at(s, at) else {
-        return None;
-    };
-    let name = m.name;
-    let next = m.next;
-    let Some(e) = accessibles_end(s, next) else {
-        return None;
-    };
-    Some((name, e))
+    let m = heading_at(s, at)?;
+    let e = accessibles_end(s, m.next)?;
+    Some((m.name, e))
 }
 
 // The name of a record of a kind.
@@ -219,11 +186,7 @@ fn parts_differ(s: &[u8], p: Part, q: Part) -> bool
     requires { Inside s.now p × Inside s.now q }
     ensures { result ≡ differs (bytes_of s.now p) (bytes_of s.now q) }
 {
-    let a = p.from;
-    let b = p.to;
-    let c = q.from;
-    let d = q.to;
-    !same_lowercase(&s[a..b], &s[c..d])
+    !same_lowercase(&s[p.from..p.to], &s[q.from..q.to])
 }
 
 // Whether a name differs from all names of the records that follow.
@@ -248,9 +211,7 @@ fn part_is_name(s: &[u8], p: Part) -> bool
     requires { Inside s.now p }
     ensures { result ≡ is_name (bytes_of s.now p) }
 {
-    let from = p.from;
-    let to = p.to;
-    is_name(&s[from..to])
+    is_name(&s[p.from..p.to])
 }
 
 // Whether the names of the records that follow are good, and unique when lowercased.
@@ -263,10 +224,7 @@ fn all_named_well(s: &[u8], at: usize, kind: Kind) -> bool
         let Some((name, e)) = name_at(s, i, kind) else {
             return false;
         };
-        if !part_is_name(s, name) {
-            return false;
-        }
-        if !is_new(s, e, kind, name) {
+        if !part_is_name(s, name) || !is_new(s, e, kind, name) {
             return false;
         }
         i = e;
@@ -291,35 +249,28 @@ pub fn count(s: &[u8], at: usize, kind: Kind) -> usize
     n
 }
 
-fn note_is_good(s: &[u8], noted: bool, note: Part) -> bool
-    requires { Inside s.now note }
-    ensures { result ≡ note_good (cond noted (Some (bytes_of s.now note)) None) }
+fn note_is_good(s: &[u8], note: Option<Part>) -> bool
+    requires { IfSome note (Inside s.now) }
+    ensures { result ≡ note_good (text_if s.now note) }
 {
-    if noted {
-        return part_is_text(s, note);
+    match note {
+        Some(p) => part_is_text(s, p),
+        None => true,
     }
-    true
 }
 
 // Whether a module's texts and its accessibles' names are good.
 fn heading_is_good(s: &[u8], m: ModuleAt) -> bool
-    requires { (Inside s.now m.description × Inside s.now m.note) × (m.next ≤ length s.now) }
+    requires { (Inside s.now m.description × IfSome m.note (Inside s.now)) × (m.next ≤ length s.now) }
     ensures { result ≡ head_passes Test.Names s.now m }
 {
-    let description = m.description;
-    let note = m.note;
-    let next = m.next;
-    if !part_is_text(s, description) {
-        return false;
-    }
-    if !note_is_good(s, m.noted, note) {
-        return false;
-    }
-    all_named_well(s, next, Kind::Accessibles)
+    part_is_text(s, m.description)
+        && note_is_good(s, m.note)
+        && all_named_well(s, m.next, Kind::Accessibles)
 }
 
 fn heading_passes(s: &[u8], m: ModuleAt, test: Test) -> bool
-    requires { (Inside s.now m.description × Inside s.now m.note) × (m.next ≤ length s.now) }
+    requires { (Inside s.now m.description × IfSome m.note (Inside s.now)) × (m.next ≤ length s.now) }
     ensures { result ≡ head_passes test s.now m }
 {
     match test {
@@ -336,11 +287,7 @@ fn module_passes(s: &[u8], at: usize, test: Test) -> bool
     let Some(m) = heading_at(s, at) else {
         return false;
     };
-    let next = m.next;
-    if !heading_passes(s, m, test) {
-        return false;
-    }
-    accessibles_pass(s, next, test)
+    heading_passes(s, m, test) && accessibles_pass(s, m.next, test)
 }
 
 // Whether all modules that follow pass.
@@ -365,15 +312,9 @@ fn members_at(s: &[u8], at: usize) -> Option<(usize, usize)>
     requires { at ≤ length s.now }
     ensures { MembersAre s.now result (module_at (length s.now) (drop at s.now)) }
 {
-    let Some(m) = heading_at(s, at) else {
-        return None;
-    };
-    let next = m.next;
-    let Some(e) = accessibles_end(s, next) else {
-        return None;
-    };
-    let n = count(s, next, Kind::Accessibles);
-    Some((n, e))
+    let m = heading_at(s, at)?;
+    let e = accessibles_end(s, m.next)?;
+    Some((count(s, m.next, Kind::Accessibles), e))
 }
 
 // Whether the modules that follow have at most so many accessibles in all.
@@ -403,15 +344,8 @@ fn counts_good(s: &[u8]) -> bool
     let Some(h) = head_at(s) else {
         return false;
     };
-    let first = h.first;
-    let n = count(s, first, Kind::Modules);
-    if n < 1 {
-        return false;
-    }
-    if MODULES < n {
-        return false;
-    }
-    accessibles_are_few(s, first, ACCESSIBLES)
+    let n = count(s, h.first, Kind::Modules);
+    (1..=MODULES).contains(&n) && accessibles_are_few(s, h.first, ACCESSIBLES)
 }
 
 // Number 3: whether names and texts are good, and names unique where they have to be.
@@ -421,23 +355,11 @@ fn names_good(s: &[u8]) -> bool
     let Some(h) = head_at(s) else {
         return false;
     };
-    let id = h.id;
-    let description = h.description;
-    let edition = h.edition;
-    let first = h.first;
-    if !part_is_text(s, id) {
-        return false;
-    }
-    if !part_is_text(s, description) {
-        return false;
-    }
-    if !edition_is_good(s, h.edited, edition) {
-        return false;
-    }
-    if !all_named_well(s, first, Kind::Modules) {
-        return false;
-    }
-    modules_pass(s, first, Test::Names)
+    part_is_text(s, h.id)
+        && part_is_text(s, h.description)
+        && edition_is_good(s, h.edition)
+        && all_named_well(s, h.first, Kind::Modules)
+        && modules_pass(s, h.first, Test::Names)
 }
 
 // Number 4: whether all datainfos keep their own rules.
@@ -447,8 +369,7 @@ fn datainfos_good(s: &[u8]) -> bool
     let Some(h) = head_at(s) else {
         return false;
     };
-    let first = h.first;
-    modules_pass(s, first, Test::Rules)
+    modules_pass(s, h.first, Test::Rules)
 }
 
 // Number 5: whether all initial values are in stored form and fit.
@@ -458,8 +379,7 @@ fn initials_good(s: &[u8]) -> bool
     let Some(h) = head_at(s) else {
         return false;
     };
-    let first = h.first;
-    modules_pass(s, first, Test::Initials)
+    modules_pass(s, h.first, Test::Initials)
 }
 
 // The lowest of the numbers 1 to 5 that are the table's, or 0. Number 6 is the structure report's.

@@ -46,24 +46,30 @@ pub enum Accessible {
     Command(CommandAt),
 }
 
-// An `MO` record with its `NO` record, if it is noted. `next` is where its accessibles begin.
+// An `MO` record with the text of its `NO` record, if it has one. `next` is where its accessibles begin.
 #[derive(Clone, Copy)]
 pub struct ModuleAt {
     pub name: Part,
     pub description: Part,
-    pub noted: bool,
-    pub note: Part,
+    pub note: Option<Part>,
     pub next: usize,
 }
 
-// What stands before the modules, with the text of an `ED` record if it is edited. `first` is where the first module's record begins.
+// What stands before the modules, with the text of the `ED` record, if there is one. `first` is where the first module's record begins.
 #[derive(Clone, Copy)]
 pub struct HeadAt {
     pub id: Part,
     pub description: Part,
-    pub edited: bool,
-    pub edition: Part,
+    pub edition: Option<Part>,
     pub first: usize,
+}
+
+// Whether the two bytes a and b stand there, which are a mark.
+fn is_mark(s: &[u8], at: usize, a: u8, b: u8) -> bool
+    requires { at ≤ length s.now }
+    ensures { result ≡ begins (a ∷ b ∷ []) (drop at s.now) }
+{
+    s[at..].starts_with(&[a, b])
 }
 
 // Past a mark of the two bytes a and b.
@@ -71,26 +77,10 @@ fn mark_end(s: &[u8], at: usize, a: u8, b: u8) -> Option<usize>
     requires { at ≤ length s.now }
     ensures { Ends s.now result (after (a ∷ b ∷ []) (drop at s.now)) }
 {
-    if s.len() - at < 2 {
-        return None;
+    if is_mark(s, at, a, b) {
+        return Some(at + 2);
     }
-    if s[at] != a {
-        return None;
-    }
-    if s[at + 1] != b {
-        return None;
-    }
-    Some(at + 2)
-}
-
-fn is_mark(s: &[u8], at: usize, a: u8, b: u8) -> bool
-    requires { at ≤ length s.now }
-    ensures { result ≡ begins (a ∷ b ∷ []) (drop at s.now) }
-{
-    match mark_end(s, at, a, b) {
-        Some(_) => true,
-        None => false,
-    }
+    None
 }
 
 // A length of k bytes and as many bytes.
@@ -98,15 +88,15 @@ fn sized_at(s: &[u8], at: usize, k: usize) -> Option<Part>
     requires { (at ≤ length s.now) × (k ≤ 8) }
     ensures { Sized s.now at k result }
 {
-    let Some((n, from)) = unsigned(s, at, k) else {
-        return None;
-    };
+    let (n, from) = unsigned(s, at, k)?;
     let size = n as usize;
     if s.len() - from < size {
         return None;
     }
-    let to = from + size;
-    Some(Part { from, to })
+    Some(Part {
+        from,
+        to: from + size,
+    })
 }
 
 // A record's mark a and b, and two texts: a name or an equipment id, and a description. So begin the `ND` record and each other
@@ -115,16 +105,9 @@ fn texts_at(s: &[u8], at: usize, a: u8, b: u8) -> Option<(Part, Part)>
     requires { at ≤ length s.now }
     ensures { TextsAt s.now result (texts_at (a ∷ b ∷ []) (drop at s.now)) }
 {
-    let Some(first) = mark_end(s, at, a, b) else {
-        return None;
-    };
-    let Some(name) = sized_at(s, first, 1) else {
-        return None;
-    };
-    let second = name.to;
-    let Some(description) = sized_at(s, second, 1) else {
-        return None;
-    };
+    let first = mark_end(s, at, a, b)?;
+    let name = sized_at(s, first, 1)?;
+    let description = sized_at(s, name.to, 1)?;
     Some((name, description))
 }
 
@@ -133,43 +116,28 @@ fn flag_at(s: &[u8], at: usize) -> Option<(bool, usize)>
     requires { at ≤ length s.now }
     ensures { FlagIs s.now result (flag (drop at s.now)) }
 {
-    if s.len() <= at {
-        return None;
+    match s.get(at)? {
+        0 => Some((false, at + 1)),
+        1 => Some((true, at + 1)),
+        _ => None,
     }
-    if s[at] == 0 {
-        return Some((false, at + 1));
-    }
-    if s[at] == 1 {
-        return Some((true, at + 1));
-    }
-    None
 }
 
 fn parameter_at(s: &[u8], at: usize) -> Option<Accessible>
     requires { at ≤ length s.now }
     ensures { AccessibleIs s.now result (parameter_at (length s.now) (drop at s.now)) }
 {
-    let Some((name, description)) = texts_at(s, at, b'P', b'A') else {
-        return None;
-    };
-    let c = description.to;
-    let Some((readonly, info)) = flag_at(s, c) else {
-        return None;
-    };
-    let Some(e) = datainfo_end(s, info, DATAINFO_LEVELS) else {
-        return None;
-    };
-    let Some(initial) = sized_at(s, e, 2) else {
-        return None;
-    };
-    let next = initial.to;
+    let (name, description) = texts_at(s, at, b'P', b'A')?;
+    let (readonly, info) = flag_at(s, description.to)?;
+    let end = datainfo_end(s, info, DATAINFO_LEVELS)?;
+    let initial = sized_at(s, end, 2)?;
     Some(Accessible::Parameter(ParameterAt {
         name,
         description,
         readonly,
         info,
         initial,
-        next,
+        next: initial.to,
     }))
 }
 
@@ -188,16 +156,9 @@ fn command_at(s: &[u8], at: usize) -> Option<Accessible>
     requires { at ≤ length s.now }
     ensures { AccessibleIs s.now result (command_at (drop at s.now)) }
 {
-    let Some((name, description)) = texts_at(s, at, b'C', b'M') else {
-        return None;
-    };
-    let c = description.to;
-    let Some((argument, info)) = flag_at(s, c) else {
-        return None;
-    };
-    let Some(next) = argument_end(s, info, argument) else {
-        return None;
-    };
+    let (name, description) = texts_at(s, at, b'C', b'M')?;
+    let (argument, info) = flag_at(s, description.to)?;
+    let next = argument_end(s, info, argument)?;
     Some(Accessible::Command(CommandAt {
         name,
         description,
@@ -212,10 +173,7 @@ pub fn is_accessible(s: &[u8], at: usize) -> bool
     requires { at ≤ length s.now }
     ensures { result ≡ accessible_begins (drop at s.now) }
 {
-    if is_mark(s, at, b'P', b'A') {
-        return true;
-    }
-    is_mark(s, at, b'C', b'M')
+    is_mark(s, at, b'P', b'A') || is_mark(s, at, b'C', b'M')
 }
 
 pub fn accessible_at(s: &[u8], at: usize) -> Option<Accessible>
@@ -232,10 +190,9 @@ pub fn accessible_end(s: &[u8], at: usize) -> Option<usize>
     requires { at ≤ length s.now }
     ensures { Ends s.now result (rest (accessible_at (length s.now) (drop at s.now))) }
 {
-    match accessible_at(s, at) {
-        Some(Accessible::Parameter(p)) => Some(p.next),
-        Some(Accessible::Command(c)) => Some(c.next),
-        None => None,
+    match accessible_at(s, at)? {
+        Accessible::Parameter(p) => Some(p.next),
+        Accessible::Command(c) => Some(c.next),
     }
 }
 
@@ -246,26 +203,21 @@ pub(crate) fn accessibles_end(s: &[u8], at: usize) -> Option<usize>
 {
     let mut i = at;
     while is_accessible(s, i) {
-        let Some(e) = accessible_end(s, i) else {
-            return None;
-        };
-        i = e;
+        i = accessible_end(s, i)?;
     }
     Some(i)
 }
 
-// A text after a mark of the two bytes a and b, if the mark is there: a note, or an edition.
-fn marked_at(s: &[u8], at: usize, a: u8, b: u8) -> Option<(bool, Part)>
+// A text after a mark of the two bytes a and b, if the mark is there, and the position after it: a note, or an edition.
+fn marked_at(s: &[u8], at: usize, a: u8, b: u8) -> Option<(Option<Part>, usize)>
     requires { at ≤ length s.now }
     ensures { MarkedIs s.now (a ∷ b ∷ []) at result }
 {
     let Some(from) = mark_end(s, at, a, b) else {
-        return Some((false, Part { from: at, to: at }));
+        return Some((None, at));
     };
-    let Some(text) = sized_at(s, from, 1) else {
-        return None;
-    };
-    Some((true, text))
+    let text = sized_at(s, from, 1)?;
+    Some((Some(text), text.to))
 }
 
 // Whether a module follows.
@@ -281,18 +233,11 @@ pub fn heading_at(s: &[u8], at: usize) -> Option<ModuleAt>
     requires { at ≤ length s.now }
     ensures { HeadingIs s.now result (heading_at (drop at s.now)) }
 {
-    let Some((name, description)) = texts_at(s, at, b'M', b'O') else {
-        return None;
-    };
-    let c = description.to;
-    let Some((noted, note)) = marked_at(s, c, b'N', b'O') else {
-        return None;
-    };
-    let next = note.to;
+    let (name, description) = texts_at(s, at, b'M', b'O')?;
+    let (note, next) = marked_at(s, description.to, b'N', b'O')?;
     Some(ModuleAt {
         name,
         description,
-        noted,
         note,
         next,
     })
@@ -302,11 +247,8 @@ pub fn module_end(s: &[u8], at: usize) -> Option<usize>
     requires { at ≤ length s.now }
     ensures { Ends s.now result (rest (module_at (length s.now) (drop at s.now))) }
 {
-    let Some(m) = heading_at(s, at) else {
-        return None;
-    };
-    let next = m.next;
-    accessibles_end(s, next)
+    let m = heading_at(s, at)?;
+    accessibles_end(s, m.next)
 }
 
 // Past the modules that follow.
@@ -316,10 +258,7 @@ fn modules_end(s: &[u8], at: usize) -> Option<usize>
 {
     let mut i = at;
     while is_module(s, i) {
-        let Some(e) = module_end(s, i) else {
-            return None;
-        };
-        i = e;
+        i = module_end(s, i)?;
     }
     Some(i)
 }
@@ -328,18 +267,11 @@ fn modules_end(s: &[u8], at: usize) -> Option<usize>
 pub fn head_at(s: &[u8]) -> Option<HeadAt>
     ensures { HeadRead s.now result }
 {
-    let Some((id, description)) = texts_at(s, 0, b'N', b'D') else {
-        return None;
-    };
-    let c = description.to;
-    let Some((edited, edition)) = marked_at(s, c, b'E', b'D') else {
-        return None;
-    };
-    let first = edition.to;
+    let (id, description) = texts_at(s, 0, b'N', b'D')?;
+    let (edition, first) = marked_at(s, description.to, b'E', b'D')?;
     Some(HeadAt {
         id,
         description,
-        edited,
         edition,
         first,
     })
@@ -355,8 +287,7 @@ pub fn is_readable(s: &[u8]) -> bool
     let Some(h) = head_at(s) else {
         return false;
     };
-    let first = h.first;
-    let Some(last) = modules_end(s, first) else {
+    let Some(last) = modules_end(s, h.first) else {
         return false;
     };
     let Some(end) = mark_end(s, last, b'E', b'N') else {

@@ -1,5 +1,5 @@
 -- What the code that reads records answers: positions of the table's bytes, and what they stand for. Assumes nothing.
-use Rattle.std.specs.Prelude.{ℕ, ◌-◌, ◌≤◌, ◌≡◌, Bool, false, cond, ◌||◌, List, [], length, take, drop, Option, Some, None}
+use Rattle.std.specs.Prelude.{ℕ, ◌-◌, ◌≤◌, ◌≡◌, Bool, cond, ◌||◌, List, [], length, take, drop, Option, Some, None, IfSome}
 use Rattle.ascii.specs.Text.{bytes}
 use Rattle.ascii.specs.Bytes.{◌>>=◌, after, part}
 use Rattle.ascii.specs.Numbers.{unsigned}
@@ -129,19 +129,26 @@ AccessibleIs s None o = o ≡ None
 
 -- ## A text after a mark
 
--- the text of a part, where it is there
-abbrev pub text_if : List ℕ → Bool → Part → Option (List ℕ)
-text_if s there p = cond there (Some (bytes_of s p)) None
+-- the text of a part, if there is one
+abbrev pub text_if : List ℕ → Option Part → Option (List ℕ)
+text_if s None = None
+text_if s (Some p) = Some (bytes_of s p)
 
--- such a text is the part p, where it is there; an empty part where it is not
-pub record MarkedRead (s mark : List ℕ) (at : ℕ) (there : Bool) (p : Part) : Type 0 where
-  pub is : marked_at mark (drop at s) ≡ Some (text_if s there p, drop p.to s)
-  pub inside : Inside s p
-  pub none : there ≡ false → p.from ≡ p.to
+-- where such a part ends, which begins at a position if it is there
+abbrev pub end_if : ℕ → Option Part → ℕ
+end_if at None = at
+end_if at (Some p) = p.to
+
+-- such a text is that of the part p, if there is one, and j is the position after it
+pub record MarkedRead (s mark : List ℕ) (at : ℕ) (p : Option Part) (j : ℕ) : Type 0 where
+  pub is : marked_at mark (drop at s) ≡ Some (text_if s p, drop j s)
+  pub inside : IfSome p (Inside s)
+  pub within : j ≤ length s
+  pub end : j ≡ end_if at p
 
 -- the answer of a reader of a note or an edition
-abbrev pub MarkedIs : List ℕ → List ℕ → ℕ → Option (Bool × Part) → Type 0
-MarkedIs s mark at (Some (there, p)) = MarkedRead s mark at there p
+abbrev pub MarkedIs : List ℕ → List ℕ → ℕ → Option (Option Part × ℕ) → Type 0
+MarkedIs s mark at (Some (p, j)) = MarkedRead s mark at p j
 MarkedIs s mark at None = marked_at mark (drop at s) ≡ None
 
 -- ## Modules
@@ -159,22 +166,21 @@ module_of s q =
     record {
       name = bytes_of s q.name;
       description = bytes_of s q.description;
-      note = cond q.noted (Some (bytes_of s q.note)) None;
+      note = text_if s q.note;
       accessibles = [];
     }
 
--- o is the module of which q has the positions, with no accessibles yet; `between` is the description's length byte. A note ends where the
--- accessibles begin, and no note is an empty part there
+-- o is the module of which q has the positions, with no accessibles yet; `between` is the description's length byte. The accessibles begin
+-- where the note ends, and without one where the description does
 pub record ModuleIs (s : List ℕ) (q : ModuleAt) (o : Option (Table.Module × List ℕ)) : Type 0 where
   pub is : o ≡ Some (module_of s q, drop q.next s)
   pub name : Inside s q.name
   pub description : Inside s q.description
-  pub note : Inside s q.note
+  pub note : IfSome q.note (Inside s)
   pub next_within : q.next ≤ length s
   pub between : unsigned 1 (drop q.name.to s) ≡ Some (q.description.to - q.description.from, drop q.description.from s)
-  pub note_read : note_at (drop q.description.to s) ≡ Some (cond q.noted (Some (bytes_of s q.note)) None, drop q.next s)
-  pub note_end : q.note.to ≡ q.next
-  pub noteless : q.noted ≡ false → q.note.from ≡ q.next
+  pub note_read : note_at (drop q.description.to s) ≡ Some (text_if s q.note, drop q.next s)
+  pub note_end : q.next ≡ end_if q.description.to q.note
 
 abbrev pub HeadingIs : List ℕ → Option ModuleAt → Option (Table.Module × List ℕ) → Type 0
 HeadingIs s (Some q) o = ModuleIs s q o
@@ -192,7 +198,7 @@ head_of s q =
     record {
       equipment_id = bytes_of s q.id;
       description = bytes_of s q.description;
-      edition = text_if s q.edited q.edition;
+      edition = text_if s q.edition;
       modules = [];
     }
 
@@ -201,7 +207,7 @@ pub record HeadIs (s : List ℕ) (q : HeadAt) : Type 0 where
   pub is : head_at s ≡ Some (head_of s q, drop q.first s)
   pub id : Inside s q.id
   pub description : Inside s q.description
-  pub edition : Inside s q.edition
+  pub edition : IfSome q.edition (Inside s)
   pub within : q.first ≤ length s
 
 -- the answer of a reader of the head of s

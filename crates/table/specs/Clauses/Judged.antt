@@ -1,5 +1,5 @@
 -- What the code that judges a table answers about its parts. Assumes nothing.
-use Rattle.std.specs.Prelude.{ℕ, ◌+◌, ◌≤◌, ◌≡◌, Bool, true, false, cond, not, ◌&&◌, List, map, leb, length, drop, Option, Some, None}
+use Rattle.std.specs.Prelude.{ℕ, ◌+◌, ◌≤◌, ◌≡◌, Bool, true, false, not, ◌&&◌, List, map, leb, length, drop, Option, Some, None}
 use Rattle.ascii.specs.Text.{bytes}
 use Rattle.ascii.specs.Bytes.{◌>>=◌, all, same}
 use Rattle.ascii.specs.Names.{is_text, lowercase}
@@ -11,7 +11,7 @@ use Rattle.table.specs.Table.{Accessible, Module, Table}
 use Rattle.table.specs.Layout.{begins, module_at}
 use Rattle.table.specs.Rules.{accessible_name, accessible_count, note_good, accessible_names_good, module_names_good, rules_kept}
 use Rattle.table.specs.Rules.{initial_good, first_fault, faults_below6}
-use Rattle.table.specs.Clauses.At.{bytes_of, Inside, accessible_begins, accessible_at, accessibles_from, modules_from}
+use Rattle.table.specs.Clauses.At.{bytes_of, Inside, text_if, accessible_begins, accessible_at, accessibles_from, modules_from}
 use Rattle.table.specs.declared.layout.Part.{Part}
 use Rattle.table.specs.declared.layout.ModuleAt.{ModuleAt}
 use Rattle.table.specs.declared.judge.Test.{Test}
@@ -97,7 +97,7 @@ how_many n (Some q) = n + length q.0
 -- what is asked of a module before its accessibles
 unfoldable pub head_passes : Test → List ℕ → ModuleAt → Bool
 head_passes Names s m =
-    is_text (bytes_of s m.description) && note_good (cond m.noted (Some (bytes_of s m.note)) None)
+    is_text (bytes_of s m.description) && note_good (text_if s m.note)
     && passed good_names (names_from Accessibles s m.next)
 head_passes Rules s m = true
 head_passes Initials s m = true

@@ -3,9 +3,9 @@ use Rattle.table.specs.Clauses.At.{bytes_of}
 use Rattle.table.proofs.Editions.{unedited_good, edited_good}
 use Rattle.table.proofs.edition.edition_is_good.Goals as goal
 
-pub returns-then-not-edited : goal.returns-then-not-edited
-returns-then-not-edited c = search unedited_good
-
-pub returns : goal.returns
+pub returns-in-Some : goal.returns-in-Some
 unfolding bytes_of
-returns c = search edited_good
+returns-in-Some c = search edited_good
+
+pub returns-in-None : goal.returns-in-None
+returns-in-None c = search unedited_good

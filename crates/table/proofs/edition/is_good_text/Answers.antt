@@ -5,5 +5,5 @@ use Rattle.table.proofs.edition.is_good_text.Goals as goal
 pub returns-then-is_text : goal.returns-then-is_text
 returns-then-is_text c = search text_begins
 
-pub returns : goal.returns
-returns c = search text_not
+pub returns-else-is_text : goal.returns-else-is_text
+returns-else-is_text c = search text_not

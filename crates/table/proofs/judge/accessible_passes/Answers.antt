@@ -1,14 +1,8 @@
 -- `table::judge::accessible_passes` meets its contract. Assumes nothing.
 use Rattle.std.specs.Prelude.{Some}
 use mathlib.Core.Path.{ap, ◌∙◌}
-use Rattle.table.proofs.Tests.{parameter_text, parameter_initial, parameter_readable, command_text, command_readable, parameter_passes, command_passes, bad_passes}
+use Rattle.table.proofs.Tests.{parameter_passes, command_passes, bad_passes}
 use Rattle.table.proofs.judge.accessible_passes.Goals as goal
-
-pub parameter_passes-requires : goal.parameter_passes-requires
-parameter_passes-requires c = ((search (parameter_text, c.in-Some-Parameter.is ∙ ap Some c.in-Some-Parameter.field-0-is), search (parameter_initial, c.in-Some-Parameter.is ∙ ap Some c.in-Some-Parameter.field-0-is)), search (parameter_readable, c.in-Some-Parameter.is ∙ ap Some c.in-Some-Parameter.field-0-is))
-
-pub command_passes-requires : goal.command_passes-requires
-command_passes-requires c = (search (command_text, c.in-Some-Command.is ∙ ap Some c.in-Some-Command.field-0-is), search (command_readable, c.in-Some-Command.is ∙ ap Some c.in-Some-Command.field-0-is))
 
 pub returns-in-Some-Parameter : goal.returns-in-Some-Parameter
 returns-in-Some-Parameter c = search (parameter_passes, c.in-Some-Parameter.is ∙ ap Some c.in-Some-Parameter.field-0-is)

@@ -1,10 +1,5 @@
 use Rattle.table.proofs.Whole.{few_last, members_within, members_less, few_bad, few_over, few_next}
-use native.Mathlib.Omega.{arith}
-use mathlib.Core.Path.{refl}
 use Rattle.table.proofs.judge.accessibles_are_few.Goals as goal
-
-pub loop-n-init : goal.loop-n-init
-loop-n-init c = (omega arith, refl)
 
 pub returns-in_default : goal.returns-in_default
 returns-in_default c = search few_bad

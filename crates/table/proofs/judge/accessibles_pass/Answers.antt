@@ -1,12 +1,7 @@
 use Rattle.table.proofs.Tests.{accessibles_passed, accessibles_unread, accessibles_pass_on, accessibles_failed}
 use Rattle.table.proofs.Modules.{accessibles_less}
 use Rattle.ascii.proofs.Bytes.{ended_within}
-use native.Mathlib.Omega.{arith}
-use mathlib.Core.Path.{refl}
 use Rattle.table.proofs.judge.accessibles_pass.Goals as goal
-
-pub loop-test-init : goal.loop-test-init
-loop-test-init c = (omega arith, refl)
 
 pub returns-then-not-accessible_passes : goal.returns-then-not-accessible_passes
 returns-then-not-accessible_passes c = search accessibles_failed

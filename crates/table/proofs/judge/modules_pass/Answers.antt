@@ -1,12 +1,7 @@
 use Rattle.table.proofs.Tests.{modules_passed, modules_unread, modules_pass_on, modules_failed}
 use Rattle.table.proofs.Modules.{modules_less}
 use Rattle.ascii.proofs.Bytes.{ended_within}
-use native.Mathlib.Omega.{arith}
-use mathlib.Core.Path.{refl}
 use Rattle.table.proofs.judge.modules_pass.Goals as goal
-
-pub loop-test-init : goal.loop-test-init
-loop-test-init c = (omega arith, refl)
 
 pub returns-then-not-module_passes : goal.returns-then-not-module_passes
 returns-then-not-module_passes c = search modules_failed

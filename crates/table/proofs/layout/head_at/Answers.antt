@@ -1,16 +1,12 @@
 -- `table::layout::head_at` meets its contract. Assumes nothing.
 use Rattle.table.proofs.Modules.{head_bad, head_read, head_unedited}
-use Rattle.table.proofs.Records.{texts_within}
 use Rattle.table.proofs.layout.head_at.Goals as goal
 
-pub returns-in_default : goal.returns-in_default
-returns-in_default c = search head_bad
+pub returns-in_err-id : goal.returns-in_err-id
+returns-in_err-id c = rw c.from_residual.ensures (search (head_bad, c.in_err-id.was))
 
-pub marked_at-requires : goal.marked_at-requires
-marked_at-requires c = search texts_within
-
-pub returns-in_default-marked_at : goal.returns-in_default-marked_at
-returns-in_default-marked_at c = search head_unedited
+pub returns-in_err-edition : goal.returns-in_err-edition
+returns-in_err-edition c = rw c.from_residual-in_err-edition.ensures (search (head_unedited, c.in_ok-id.was, c.in_err-edition.was))
 
 pub returns : goal.returns
-returns c = search head_read
+returns c = search (head_read, c.in_ok-id.was, c.in_ok-edition.was)

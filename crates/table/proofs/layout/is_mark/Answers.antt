@@ -1,9 +1,7 @@
 -- `table::layout::is_mark` meets its contract. Assumes nothing.
-use Rattle.table.proofs.Records.{mark_is, mark_isn't}
+use Rattle.table.proofs.Records.{rest_begins}
+use mathlib.Core.Path.{◌∙◌}
 use Rattle.table.proofs.layout.is_mark.Goals as goal
 
-pub returns-in-Some : goal.returns-in-Some
-returns-in-Some c = search mark_is
-
-pub returns-in-None : goal.returns-in-None
-returns-in-None c = search mark_isn't
+pub returns : goal.returns
+returns c = c.starts_with.ensures.value ∙ rest_begins c.args.s.now c.args.at _

@@ -1,6 +1,5 @@
 -- `table::layout::is_readable` meets its contract. Assumes nothing.
-use Rattle.table.proofs.Modules.{head_within, readable_long, readable_headless, readable_unmodelled, readable_endless, readable_end}
-use Rattle.ascii.proofs.Bytes.{ended_within}
+use Rattle.table.proofs.Modules.{readable_long, readable_headless, readable_unmodelled, readable_endless, readable_end}
 use Rattle.table.proofs.layout.is_readable.Goals as goal
 
 pub returns-then-s-gt-TABLE : goal.returns-then-s-gt-TABLE
@@ -9,14 +8,8 @@ returns-then-s-gt-TABLE c = search readable_long
 pub returns-in_default : goal.returns-in_default
 returns-in_default c = search readable_headless
 
-pub modules_end-requires : goal.modules_end-requires
-modules_end-requires c = search head_within
-
 pub returns-in_default-modules_end : goal.returns-in_default-modules_end
 returns-in_default-modules_end c = search readable_unmodelled
-
-pub mark_end-requires : goal.mark_end-requires
-mark_end-requires c = search ended_within
 
 pub returns-in_default-mark_end : goal.returns-in_default-mark_end
 returns-in_default-mark_end c = search readable_endless

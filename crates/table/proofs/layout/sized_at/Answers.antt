@@ -1,15 +1,12 @@
 -- `table::layout::sized_at` meets its contract. Assumes nothing.
-use Rattle.table.proofs.Records.{sized_short, sized_within, sized_long, sized_good}
+use Rattle.table.proofs.Records.{sized_short, sized_long, sized_good}
 use Rattle.table.proofs.layout.sized_at.Goals as goal
 
-pub returns-in_default : goal.returns-in_default
-returns-in_default c = search sized_short
-
-pub overflow_sub-s : goal.overflow_sub-s
-overflow_sub-s c = search sized_within
+pub returns-in_err-n : goal.returns-in_err-n
+returns-in_err-n c = rw c.from_residual.ensures (search (sized_short, c.in_err-n.was))
 
 pub returns-then-s-from : goal.returns-then-s-from
-returns-then-s-from c = search sized_long
+returns-then-s-from c = search (sized_long, c.in_ok-n.was)
 
 pub returns : goal.returns
-returns c = search sized_good
+returns c = search (sized_good, c.in_ok-n.was)
