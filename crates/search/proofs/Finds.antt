@@ -1,13 +1,12 @@
 -- Laws of searches for parameters and commands by name and by number. Assumes nothing.
 use Rattle.std.specs.Prelude.{Option, Some, None, slice_get}
-use Prim.Native.Nat.{ℕ, zero, suc, ◌+◌, ◌-◌, ◌≤◌, ◌<◌}
+use Prim.Native.Nat.{ℕ, zero, suc, ◌+◌, ◌-◌, ◌≤◌}
 use native.Mathlib.Numerals.{add-one}
 use native.Mathlib.Omega.{arith}
 use mathlib.Core.Path.{◌≡◌, refl, sym, ap, ◌∙◌}
-use mathlib.Core.Bool.{Bool, true, false, cond, not, ◌&&◌}
+use mathlib.Core.Bool.{Bool, true, false, cond, ◌&&◌}
 use mathlib.Core.List.{List, [], ◌∷◌}
-use lib.ListN.{length, drop}
-use borrow.Author.Tests.{not-true, not-false}
+use lib.ListN.{drop}
 use Rattle.ascii.specs.Bytes.{same}
 use Rattle.ascii.proofs.Lists.{both, same_is}
 use Rattle.table.specs.Table as Table
@@ -15,13 +14,12 @@ use Rattle.table.specs.Layout.{table_of}
 use Rattle.table.specs.Search.{Placed, parameters_of, commands_of, parameters, commands, first_from, first, find_parameter, find_command}
 use Rattle.table.specs.declared.layout.ParameterAt.{ParameterAt}
 use Rattle.table.specs.declared.layout.CommandAt.{CommandAt}
-use Rattle.table.specs.Clauses.At.{bytes_of, Inside, parameter_of, command_of}
+use Rattle.table.specs.Clauses.At.{bytes_of, parameter_of, command_of}
 use Rattle.table.proofs.Accessibles.{in_some}
 use Rattle.table.proofs.Search.{is_named}
 use Rattle.search.specs.declared.cursor.Cursor.{Cursor}
 use Rattle.search.specs.Clauses.Left.{placed, left_from, OnWay, After, FirstIs, Ended, FirstCursor, NextParameterIs, NextCommandIs}
 use Rattle.search.proofs.Lefts.{drop_next}
-use Rattle.search.proofs.Walks.{walk_less}
 use Rattle.search.specs.Clauses.Found.{ParameterFound, CommandFound, ParameterNumbered}
 
 -- ## Lists
@@ -54,9 +52,6 @@ module _ {A : Type 0} (of : List Table.Accessible → List A) (l : Table.Table �
     pub way : OnWay s c
     pub few : n ≤ c.at
     pub left : left_from of s c ≡ Some (drop n (l (table_of s)))
-
-  pub counted_way : (n : ℕ) (c : Cursor) → Counted n c → OnWay s c
-  counted_way n c h = h.way
 
   module _ (n : ℕ) (c : Cursor) (h : Counted n c) where
     pub counted_end : Ended of s c → drop n (l (table_of s)) ≡ []
@@ -93,9 +88,6 @@ module _ {A : Type 0} (of : List Table.Accessible → List A) (l : Table.Table �
   unfolding first
   sought_start c h = record { counted = h; finds = refl }
 
-  pub sought_way : (n : ℕ) (c : Cursor) → Sought n c → OnWay s c
-  sought_way n c h = h.counted.way
-
   module _ (n : ℕ) (c : Cursor) (h : Sought n c) where
     sought_end : Ended of s c → first (is_named name m a) (l (table_of s)) ≡ None
     unfolding first_from
@@ -128,51 +120,14 @@ module _ {A : Type 0} (of : List Table.Accessible → List A) (l : Table.Table �
             finds = step ∙ rw (z, ← (add-one n));
           }
 
--- ## Where the next one lies
-
-after_room : (s : List ℕ) (c e : Cursor) → After s c e → (n : ℕ) → n ≤ c.at → n + 1 ≤ length s
-after_room s c e a n h = let x = a.later in let y = a.way.fits.within in omega arith
-
-module _ (s : List ℕ) (c : Cursor) (r : Option (ParameterAt × Cursor)) (hr : NextParameterIs s c r) (q : ParameterAt) (e : Cursor) (z : r ≡ Some (q, e)) where
-  pub parameter_home : Inside s e.name
-  parameter_home = (rw z at hr).after.way.fits.name
-
-  pub parameter_inside : Inside s q.name
-  parameter_inside = (rw z at hr).held.name
-
-  pub parameter_begun : 0 < e.modules
-  parameter_begun = (rw z at hr).after.begun
-
-  pub parameter_falls : length s - e.at < length s - c.at
-  parameter_falls = walk_less s c e (rw z at hr).after
-
-  pub parameter_room : (n : ℕ) → n ≤ c.at → n + 1 ≤ length s
-  parameter_room n h = after_room s c e (rw z at hr).after n h
-
-module _ (s : List ℕ) (c : Cursor) (r : Option (CommandAt × Cursor)) (hr : NextCommandIs s c r) (q : CommandAt) (e : Cursor) (z : r ≡ Some (q, e)) where
-  pub command_home : Inside s e.name
-  command_home = (rw z at hr).after.way.fits.name
-
-  pub command_inside : Inside s q.name
-  command_inside = (rw z at hr).held.name
-
-  pub command_begun : 0 < e.modules
-  command_begun = (rw z at hr).after.begun
-
-  pub command_falls : length s - e.at < length s - c.at
-  command_falls = walk_less s c e (rw z at hr).after
-
-  pub command_room : (n : ℕ) → n ≤ c.at → n + 1 ≤ length s
-  command_room n h = after_room s c e (rw z at hr).after n h
-
 -- ## One law for each way through a search
 
 module _ (m a x y : List ℕ) (b : Bool) (h : b ≡ same m x) where
-  pub named_not : not b ≡ true → false ≡ (same m x && same a y)
-  named_not e = rw (← h, not-true b e)
+  pub named_not : b ≡ false → b ≡ (same m x && same a y)
+  named_not e = e ∙ rw (← h, e)
 
-  pub named_so : (d : Bool) → not b ≡ false → d ≡ same a y → d ≡ (same m x && same a y)
-  named_so d e g = rw (← h, not-false b e) g
+  pub named_so : (d : Bool) → b ≡ true → d ≡ same a y → d ≡ (same m x && same a y)
+  named_so d e g = rw (← h, e) g
 
 abbrev pub SoughtParameter : List ℕ → List ℕ → List ℕ → ℕ → Cursor → Type 0
 SoughtParameter s m a n c = Sought parameters_of parameters parameter_name s m a n c

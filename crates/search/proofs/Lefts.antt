@@ -56,7 +56,7 @@ split {A} a (Some q) l x e =
 -- ## Whether an accessible is next
 
 module _ (s : List ℕ) (c : Cursor) where
-  pub next_none : c.modules ≡ 0 → false ≡ follows s c
+  pub next_none : c.modules ≡ 0 → not (eqb c.modules 0) ≡ follows s c
   unfolding follows
   next_none e = rw (eq-eqb c.modules 0 e)
 

@@ -5,8 +5,7 @@ ghost use Rattle.table.specs.Layout.{Readable};
 ghost use Rattle.search.specs.Clauses.Left.{follows, OnWay, FirstCursor, RecordIs, name_of, NextAccessibleIs, NextParameterIs, NextCommandIs};
 
 use table::layout::{
-    Accessible, CommandAt, ParameterAt, Part, accessible_at, head_at, heading_at,
-    is_accessible,
+    Accessible, CommandAt, ParameterAt, Part, accessible_at, head_at, heading_at, is_accessible,
 };
 
 // Where the next record begins, how many modules have begun, and the name of the latest.
@@ -38,11 +37,13 @@ pub fn first_cursor(s: &[u8]) -> Cursor
             name: Part { from: 0, to: 0 },
         };
     };
-    let at = h.first;
     Cursor {
-        at,
+        at: h.first,
         modules: 0,
-        name: Part { from: at, to: at },
+        name: Part {
+            from: h.first,
+            to: h.first,
+        },
     }
 }
 
@@ -51,11 +52,7 @@ fn is_next(s: &[u8], c: Cursor) -> bool
     requires { c.at ≤ length s.now }
     ensures { result ≡ follows s.now c }
 {
-    let at = c.at;
-    if c.modules == 0 {
-        return false;
-    }
-    is_accessible(s, at)
+    c.modules != 0 && is_accessible(s, c.at)
 }
 
 // Into the next module.
@@ -63,17 +60,13 @@ fn enter(s: &[u8], c: Cursor) -> Record
     requires { OnWay s.now c × (follows s.now c ≡ false) }
     ensures { RecordIs s.now c result }
 {
-    let at = c.at;
-    let modules = c.modules;
-    let Some(m) = heading_at(s, at) else {
+    let Some(m) = heading_at(s, c.at) else {
         return Record::End;
     };
-    let next = m.next;
-    let name = m.name;
     Record::Module(Cursor {
-        at: next,
-        modules: modules + 1,
-        name,
+        at: m.next,
+        modules: c.modules + 1,
+        name: m.name,
     })
 }
 
@@ -82,35 +75,12 @@ fn next_record(s: &[u8], c: Cursor) -> Record
     requires { OnWay s.now c }
     ensures { RecordIs s.now c result }
 {
-    let at = c.at;
-    let modules = c.modules;
-    let name = c.name;
     if !is_next(s, c) {
         return enter(s, c);
     }
-    match accessible_at(s, at) {
-        Some(Accessible::Parameter(q)) => {
-            let next = q.next;
-            Record::Parameter(
-                q,
-                Cursor {
-                    at: next,
-                    modules,
-                    name,
-                },
-            )
-        }
-        Some(Accessible::Command(q)) => {
-            let next = q.next;
-            Record::Command(
-                q,
-                Cursor {
-                    at: next,
-                    modules,
-                    name,
-                },
-            )
-        }
+    match accessible_at(s, c.at) {
+        Some(Accessible::Parameter(q)) => Record::Parameter(q, Cursor { at: q.next, ..c }),
+        Some(Accessible::Command(q)) => Record::Command(q, Cursor { at: q.next, ..c }),
         None => Record::End,
     }
 }
@@ -133,18 +103,10 @@ pub fn next_accessible(s: &[u8], c: Cursor) -> Option<(Accessible, Cursor)>
     let mut i = c;
     loop {
         match next_record(s, i) {
-            Record::Parameter(q, e) => {
-                return Some((Accessible::Parameter(q), e));
-            }
-            Record::Command(q, e) => {
-                return Some((Accessible::Command(q), e));
-            }
-            Record::Module(e) => {
-                i = e;
-            }
-            Record::End => {
-                return None;
-            }
+            Record::Parameter(q, e) => return Some((Accessible::Parameter(q), e)),
+            Record::Command(q, e) => return Some((Accessible::Command(q), e)),
+            Record::Module(e) => i = e,
+            Record::End => return None,
         }
     }
 }
@@ -155,22 +117,13 @@ pub fn next_parameter(s: &[u8], c: Cursor) -> Option<(ParameterAt, Cursor)>
     ensures { NextParameterIs s.now c result }
 {
     let mut i = c;
-    loop {
-        match next_record(s, i) {
-            Record::Parameter(q, e) => {
-                return Some((q, e));
-            }
-            Record::Command(_, e) => {
-                i = e;
-            }
-            Record::Module(e) => {
-                i = e;
-            }
-            Record::End => {
-                return None;
-            }
+    while let Some((a, e)) = next_accessible(s, i) {
+        match a {
+            Accessible::Parameter(q) => return Some((q, e)),
+            Accessible::Command(_) => i = e,
         }
     }
+    None
 }
 
 // Past parameters, and into the modules that follow.
@@ -179,20 +132,11 @@ pub(crate) fn next_command(s: &[u8], c: Cursor) -> Option<(CommandAt, Cursor)>
     ensures { NextCommandIs s.now c result }
 {
     let mut i = c;
-    loop {
-        match next_record(s, i) {
-            Record::Command(q, e) => {
-                return Some((q, e));
-            }
-            Record::Parameter(_, e) => {
-                i = e;
-            }
-            Record::Module(e) => {
-                i = e;
-            }
-            Record::End => {
-                return None;
-            }
+    while let Some((a, e)) = next_accessible(s, i) {
+        match a {
+            Accessible::Command(q) => return Some((q, e)),
+            Accessible::Parameter(_) => i = e,
         }
     }
+    None
 }

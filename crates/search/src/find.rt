@@ -16,10 +16,7 @@ fn part_is(s: &[u8], p: Part, name: &[u8]) -> bool
     requires { Inside s.now p }
     ensures { result ≡ same name.now (bytes_of s.now p) }
 {
-    let from = p.from;
-    let to = p.to;
-    let c = compare(name, &s[from..to]);
-    c.same
+    compare(name, &s[p.from..p.to]).same
 }
 
 // The first module of a name among those that follow.
@@ -31,9 +28,7 @@ fn module_from(s: &[u8], at: usize, name: &[u8]) -> Option<(usize, usize)>
     let mut n = 0;
     let mut i = at;
     while is_next(s, i, Kind::Modules) {
-        let Some((p, e)) = name_at(s, i, Kind::Modules) else {
-            return None;
-        };
+        let (p, e) = name_at(s, i, Kind::Modules)?;
         if part_is(s, p, name) {
             return Some((n, i));
         }
@@ -47,11 +42,8 @@ pub fn find_module(s: &[u8], name: &[u8]) -> Option<(usize, usize)>
     requires { Readable s.now }
     ensures { FindsModule s.now name.now result }
 {
-    let Some(h) = head_at(s) else {
-        return None;
-    };
-    let first = h.first;
-    module_from(s, first, name)
+    let h = head_at(s)?;
+    module_from(s, h.first, name)
 }
 
 // Whether a module's name and an accessible's name are those that are sought.
@@ -59,10 +51,7 @@ pub fn are_named(s: &[u8], p: Part, q: Part, module: &[u8], name: &[u8]) -> bool
     requires { Inside s.now p × Inside s.now q }
     ensures { result ≡ (same «module».now (bytes_of s.now p) && same name.now (bytes_of s.now q)) }
 {
-    if !part_is(s, p, module) {
-        return false;
-    }
-    part_is(s, q, name)
+    part_is(s, p, module) && part_is(s, q, name)
 }
 
 pub fn find_parameter(s: &[u8], module: &[u8], name: &[u8]) -> Option<(usize, usize, ParameterAt)>
@@ -71,19 +60,14 @@ pub fn find_parameter(s: &[u8], module: &[u8], name: &[u8]) -> Option<(usize, us
 {
     let mut k = 0;
     let mut c = first_cursor(s);
-    loop {
-        let Some((q, e)) = next_parameter(s, c) else {
-            return None;
-        };
-        let p = e.name;
-        let a = q.name;
-        if are_named(s, p, a, module, name) {
-            let home = e.modules - 1;
-            return Some((k, home, q));
+    while let Some((q, e)) = next_parameter(s, c) {
+        if are_named(s, e.name, q.name, module, name) {
+            return Some((k, e.modules - 1, q));
         }
         k += 1;
         c = e;
     }
+    None
 }
 
 pub fn find_command(s: &[u8], module: &[u8], name: &[u8]) -> Option<(usize, usize, CommandAt)>
@@ -92,19 +76,14 @@ pub fn find_command(s: &[u8], module: &[u8], name: &[u8]) -> Option<(usize, usiz
 {
     let mut k = 0;
     let mut c = first_cursor(s);
-    loop {
-        let Some((q, e)) = next_command(s, c) else {
-            return None;
-        };
-        let p = e.name;
-        let a = q.name;
-        if are_named(s, p, a, module, name) {
-            let home = e.modules - 1;
-            return Some((k, home, q));
+    while let Some((q, e)) = next_command(s, c) {
+        if are_named(s, e.name, q.name, module, name) {
+            return Some((k, e.modules - 1, q));
         }
         k += 1;
         c = e;
     }
+    None
 }
 
 // The parameter of a number, with the cursor after it.
@@ -114,16 +93,14 @@ pub fn parameter_by_number(s: &[u8], k: usize) -> Option<(ParameterAt, Cursor)>
 {
     let mut i = 0;
     let mut c = first_cursor(s);
-    loop {
-        let Some((q, e)) = next_parameter(s, c) else {
-            return None;
-        };
+    while let Some((q, e)) = next_parameter(s, c) {
         if i == k {
             return Some((q, e));
         }
         i += 1;
         c = e;
     }
+    None
 }
 
 // How many modules the table has.
@@ -134,6 +111,5 @@ pub fn module_count(s: &[u8]) -> usize
     let Some(h) = head_at(s) else {
         return 0;
     };
-    let first = h.first;
-    count(s, first, Kind::Modules)
+    count(s, h.first, Kind::Modules)
 }

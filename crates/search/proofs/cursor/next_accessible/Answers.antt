@@ -1,11 +1,5 @@
-use Rattle.search.proofs.Walks.{picks_accessibles, walk_start, walk_way, module_less, one_parameter, one_command, into_module, walk_end}
+use Rattle.search.proofs.Walks.{picks_accessibles, module_less, one_parameter, one_command, into_module, walk_end}
 use Rattle.search.proofs.cursor.next_accessible.Goals as goal
-
-pub loop-q-init : goal.loop-q-init
-loop-q-init c = search walk_start
-
-pub next_record-requires : goal.next_record-requires
-next_record-requires c = search walk_way
 
 pub returns-in-Parameter : goal.returns-in-Parameter
 returns-in-Parameter c = search one_parameter

@@ -1,12 +1,8 @@
 -- `search::cursor::next_record` meets its contract. Assumes nothing.
 use Rattle.std.specs.Prelude.{Some}
 use mathlib.Core.Path.{ap, ◌∙◌}
-use borrow.Author.Rules.{rules}
-use Rattle.search.proofs.Lefts.{not_next, so_next, record_parameter, record_command, record_bad}
+use Rattle.search.proofs.Lefts.{so_next, record_parameter, record_command, record_bad}
 use Rattle.search.proofs.cursor.next_record.Goals as goal
-
-pub enter-requires : goal.enter-requires
-enter-requires c = (search rules, search not_next)
 
 pub returns-in-Some-Parameter : goal.returns-in-Some-Parameter
 returns-in-Some-Parameter c = search (record_parameter, so_next, c.in-Some-Parameter.is ∙ ap Some c.in-Some-Parameter.field-0-is)

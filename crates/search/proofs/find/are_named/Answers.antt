@@ -2,8 +2,8 @@
 use Rattle.search.proofs.Finds.{named_not, named_so}
 use Rattle.search.proofs.find.are_named.Goals as goal
 
-pub returns-then-not-part_is : goal.returns-then-not-part_is
-returns-then-not-part_is c = search named_not
+pub returns-then-part_is : goal.returns-then-part_is
+returns-then-part_is c = search named_so
 
-pub returns : goal.returns
-returns c = search named_so
+pub returns-else-part_is : goal.returns-else-part_is
+returns-else-part_is c = search named_not

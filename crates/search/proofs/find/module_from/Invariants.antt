@@ -4,8 +4,8 @@ use lib.ListN.{length}
 use Prim.Native.Nat.{◌≤◌, ◌-◌}
 use Rattle.search.proofs.find.module_from.Given as goal
 
-abbrev pub invariant-loop-p : goal.invariant-loop-p
-invariant-loop-p l = ((l.i ≤ length l.s) × (l.n ≤ l.i)) × Lefts l.s l.at l.name l.n l.i
+abbrev pub invariant-loop-at : goal.invariant-loop-at
+invariant-loop-at l = ((l.i ≤ length l.s) × (l.n ≤ l.i)) × Lefts l.s l.at l.name l.n l.i
 
-abbrev pub decreases-loop-p : goal.decreases-loop-p
-decreases-loop-p l = length l.s - l.i
+abbrev pub decreases-loop-at : goal.decreases-loop-at
+decreases-loop-at l = length l.s - l.i

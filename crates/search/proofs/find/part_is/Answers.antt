@@ -7,4 +7,4 @@ use Rattle.search.proofs.find.part_is.Goals as goal
 
 pub returns : goal.returns
 unfolding bytes_of compared
-returns c = ap (λ (x : Compared). x.same) c.compare-c.ensures
+returns c = ap (λ (x : Compared). x.same) c.compare.ensures
