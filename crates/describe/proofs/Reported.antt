@@ -101,13 +101,6 @@ module _ (s : List ℕ) (i : ℕ) (r : Option A.Accessible) (h : AccessibleIs s 
   pub accessible_bad : r ≡ None → Says (told accessible_text (accessible_at (length s) (drop i s))) d at e z
   accessible_bad k = says_nothing (ap (told accessible_text) (rw k at h))
 
-module _ (s : List ℕ) (r : Option A.Accessible) (o : Option (Table.Accessible × List ℕ)) (h : AccessibleIs s r o) where
-  pub parameter_name_lem : (q : ParameterAt) → r ≡ Some (A.TheVariants.Parameter q) → Inside s q.name
-  parameter_name_lem q e = (rw e at h).name
-
-  pub command_name_lem : (q : CommandAt) → r ≡ Some (A.TheVariants.Command q) → Inside s q.name
-  command_name_lem q e = (rw e at h).name
-
 -- ## As many records as follow
 
 -- `one` reads a record and `more` the others
@@ -204,12 +197,6 @@ module _ (s : List ℕ) (i : ℕ) (h : Option ModuleAt) (hh : HeadingIs s h (hea
   module _ (m : ModuleAt) (z : h ≡ Some m) where
     pub module_name_lem : Inside s m.name
     module_name_lem = (rw z at hh).name
-
-    pub module_description : Inside s m.description
-    module_description = (rw z at hh).description
-
-    pub module_next : m.next ≤ length s
-    module_next = (rw z at hh).next_within
 
     pub module_told : {d0 d1 d2 d3 d4 : List ℕ} {p0 p1 p2 p3 p4 : ℕ} → Emits d0 p0 (quoted (bytes_of s m.name) ++ bytes ":" ++ (bytes "{\"interface_classes\":[],\"description\":" ++ quoted (bytes_of s m.description))) d1 p1 → Emits d1 p1 (bytes ",\"accessibles\":{") d2 p2 → Says (told accessibles_text (accessibles_from s m.next)) d2 p2 d3 p3 → Emits d3 p3 (bytes "}}") d4 p4 → Says (told module_text (module_at (length s) (drop i s))) d0 p0 d4 p4
     unfolding module_of

@@ -16,8 +16,8 @@ use emit::{emit, emit_comma, emit_key, emit_string};
 use infos::{emit_datainfo, emit_own};
 use limits::DATAINFO_LEVELS;
 use table::layout::{
-    Accessible, CommandAt, ParameterAt, Part, accessible_at, accessible_end,
-    head_at, heading_at, is_accessible, is_module, module_end,
+    Accessible, CommandAt, ParameterAt, Part, accessible_at, accessible_end, head_at, heading_at,
+    is_accessible, is_module, module_end,
 };
 
 // A part of the table as a key.
@@ -25,9 +25,7 @@ fn emit_part_key(out: &mut [u8], at: usize, s: &[u8], p: Part) -> usize
     requires { Inside s.now p }
     ensures { Emits out.old at (quoted (bytes_of s.now p) ++ bytes ":") out.new result }
 {
-    let from = p.from;
-    let to = p.to;
-    emit_key(out, at, &s[from..to])
+    emit_key(out, at, &s[p.from..p.to])
 }
 
 // A part of the table as a string.
@@ -35,9 +33,7 @@ fn emit_part(out: &mut [u8], at: usize, s: &[u8], p: Part) -> usize
     requires { Inside s.now p }
     ensures { Emits out.old at (quoted (bytes_of s.now p)) out.new result }
 {
-    let from = p.from;
-    let to = p.to;
-    emit_string(out, at, &s[from..to])
+    emit_string(out, at, &s[p.from..p.to])
 }
 
 // The same with what stands before it.
@@ -71,9 +67,10 @@ fn emit_readonly(out: &mut [u8], at: usize, readonly: bool) -> usize
     ensures { Emits out.old at (readonly_text readonly) out.new result }
 {
     if readonly {
-        return emit(out, at, b",\"readonly\":true,\"datainfo\":");
+        emit(out, at, b",\"readonly\":true,\"datainfo\":")
+    } else {
+        emit(out, at, b",\"readonly\":false,\"datainfo\":")
     }
-    emit(out, at, b",\"readonly\":false,\"datainfo\":")
 }
 
 fn emit_parameter(out: &mut [u8], at: usize, s: &[u8], q: ParameterAt) -> usize
@@ -81,12 +78,9 @@ fn emit_parameter(out: &mut [u8], at: usize, s: &[u8], q: ParameterAt) -> usize
     ensures { Says (told (λ d. accessible_text (parameter (parameter_of s.now q d))) (datainfo_in 4 (drop q.info s.now)))
         out.old at out.new result }
 {
-    let name = q.name;
-    let description = q.description;
-    let info = q.info;
-    let a = emit_named(out, at, b"{\"description\":", s, name, description);
+    let a = emit_named(out, at, b"{\"description\":", s, q.name, q.description);
     let b = emit_readonly(out, a, q.readonly);
-    let c = emit_own(out, b, s, info);
+    let c = emit_own(out, b, s, q.info);
     emit(out, c, b"}")
 }
 
@@ -107,12 +101,9 @@ fn emit_command(out: &mut [u8], at: usize, s: &[u8], q: CommandAt) -> usize
     ensures { Says (told (λ a. accessible_text (command (command_of s.now q a))) (argument_at q.argument (drop q.info s.now)))
         out.old at out.new result }
 {
-    let name = q.name;
-    let description = q.description;
-    let info = q.info;
-    let a = emit_named(out, at, b"{\"description\":", s, name, description);
+    let a = emit_named(out, at, b"{\"description\":", s, q.name, q.description);
     let b = emit(out, a, b",\"datainfo\":{\"type\":\"command\"");
-    let c = emit_argument(out, b, s, info, q.argument);
+    let c = emit_argument(out, b, s, q.info, q.argument);
     emit(out, c, b"}}")
 }
 
@@ -155,13 +146,10 @@ fn emit_module(out: &mut [u8], at: usize, s: &[u8], i: usize) -> usize
     let Some(m) = heading_at(s, i) else {
         return at;
     };
-    let name = m.name;
-    let description = m.description;
-    let next = m.next;
     let label = b"{\"interface_classes\":[],\"description\":";
-    let a = emit_named(out, at, label, s, name, description);
+    let a = emit_named(out, at, label, s, m.name, m.description);
     let b = emit(out, a, b",\"accessibles\":{");
-    let c = emit_accessibles(out, b, s, next);
+    let c = emit_accessibles(out, b, s, m.next);
     emit(out, c, b"}}")
 }
 
@@ -203,12 +191,9 @@ fn emit_report(out: &mut [u8], at: usize, s: &[u8]) -> usize
     let Some(h) = head_at(s) else {
         return at;
     };
-    let id = h.id;
-    let description = h.description;
-    let first = h.first;
     let a = emit(out, at, b"{\"modules\":{");
-    let b = emit_modules(out, a, s, first);
-    emit_texts(out, b, s, id, description)
+    let b = emit_modules(out, a, s, h.first);
+    emit_texts(out, b, s, h.id, h.description)
 }
 
 // How long the report of the table s is.

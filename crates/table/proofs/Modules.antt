@@ -17,7 +17,7 @@ use Rattle.table.specs.Layout.{begins, accessibles_at, marked_at, note_at, modul
 use Rattle.table.specs.declared.layout.Part.{Part}
 use Rattle.table.specs.declared.layout.ModuleAt.{ModuleAt}
 use Rattle.table.specs.declared.layout.HeadAt.{HeadAt}
-use Rattle.table.specs.Clauses.At.{Inside, Sized, texts_at, TextsAt, accessible_begins, accessible_at, accessibles_from, MarkedRead, MarkedIs, heading_at, module_of, ModuleIs, HeadingIs, modules_from, head_of, HeadIs, HeadRead}
+use Rattle.table.specs.Clauses.At.{Sized, texts_at, TextsAt, accessible_begins, accessible_at, accessibles_from, MarkedRead, MarkedIs, heading_at, module_of, ModuleIs, HeadingIs, modules_from, head_of, HeadIs, HeadRead}
 use Rattle.table.proofs.Records.{text_bad, text_is, text_inside}
 use Rattle.table.proofs.Accessibles.{goes_on, texts_then, rest_none, Got, got}
 use Rattle.table.proofs.Enough.{before, accessibles_stop, accessibles_more, accessible_less, modules_stop, modules_more, module_less}
@@ -189,12 +189,6 @@ module _ (s : List ℕ) (t : Option (Part × Part)) (ht : TextsAt s t (texts_at 
     head_unedited z = head_as ∙ rw ((rw e at ht).is, rw z at hn)
 
 module _ (s : List ℕ) (r : Option HeadAt) (h : HeadRead s r) (q : HeadAt) (e : r ≡ Some q) where
-  pub head_id : Inside s q.id
-  head_id = (rw e at h).id
-
-  pub head_description : Inside s q.description
-  head_description = (rw e at h).description
-
   pub head_within : q.first ≤ length s
   head_within = (rw e at h).within
 

@@ -22,7 +22,7 @@ use Rattle.table.specs.declared.layout.Accessible as A
 use Rattle.table.specs.declared.layout.ModuleAt.{ModuleAt}
 use Rattle.table.specs.declared.judge.Kind.{Kind}
 use Rattle.table.specs.declared.judge.Kind.TheVariants.{Modules, Accessibles}
-use Rattle.table.specs.Clauses.At.{bytes_of, Inside, accessible_begins, accessible_at, accessibles_from, parameter_of, command_of, AccessibleIs, heading_at, module_of, HeadingIs}
+use Rattle.table.specs.Clauses.At.{bytes_of, accessible_begins, accessible_at, accessibles_from, parameter_of, command_of, AccessibleIs, heading_at, module_of, HeadingIs}
 use Rattle.table.specs.Clauses.Judged.{passed, kind_begins, named_at, names_from, NameIs, NamedIs, differs, how_many}
 use Rattle.table.proofs.Accessibles.{got, in_some, rest_none}
 use Rattle.table.proofs.Enough.{before, accessibles_stop, accessibles_more, accessible_less, modules_stop, modules_more, module_less}
@@ -76,9 +76,6 @@ module _ (kind : Kind) (s : List ℕ) (at : ℕ) where
   name_accessible r e h = rw e h
 
 module _ (s : List ℕ) (r : Option (Part × ℕ)) (o : Option (List ℕ × List ℕ)) (h : NamedIs s r o) (p : Part) (j : ℕ) (e : r ≡ Some (p, j)) where
-  pub name_inside : Inside s p
-  name_inside = (rw e at h).inside
-
   pub name_within : j ≤ length s
   name_within = (rw e at h).within
 

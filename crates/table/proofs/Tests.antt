@@ -1,6 +1,6 @@
 -- Laws of what is asked of a table's records, one for each way through a function that asks it. Assumes nothing.
 use Rattle.std.specs.Prelude.{Option, Some, None}
-use Prim.Native.Nat.{ℕ, ◌≤◌}
+use Prim.Native.Nat.{ℕ}
 use native.Mathlib.Omega.{arith}
 use mathlib.Core.Path.{◌≡◌, refl, sym, ap, ◌∙◌}
 use mathlib.Core.Bool.{Bool, true, false, not, ◌&&◌}
@@ -149,18 +149,12 @@ module _ (s : List ℕ) (r : Option A.Accessible) (o : Option (Table.Accessible 
     pub parameter_text : Inside s q.description
     parameter_text = (rw e at h).description
 
-    pub parameter_info : q.info ≤ length s
-    parameter_info = (rw e at h).info_within
-
     pub parameter_passes : (test : Test) (b : Bool) → ((d : Datainfo) (x : List ℕ) → datainfo_in 4 (drop q.info s) ≡ Some (d, x) → b ≡ passes test (Table.parameter (parameter_of s q d))) → b ≡ passed (passes test) o
     parameter_passes test b f = let x = rw e at h in rw x.is (f x.datainfo x.left x.info)
 
   module _ (q : CommandAt) (e : r ≡ Some (A.TheVariants.Command q)) where
     pub command_text : Inside s q.description
     command_text = (rw e at h).description
-
-    pub command_info : q.info ≤ length s
-    command_info = (rw e at h).info_within
 
     pub command_passes : (test : Test) (b : Bool) → ((a : Option Datainfo) (x : List ℕ) → argument_at q.argument (drop q.info s) ≡ Some (a, x) → b ≡ passes test (Table.command (command_of s q a))) → b ≡ passed (passes test) o
     command_passes test b f = let x = rw e at h in rw x.is (f x.argument (drop q.next s) x.info)

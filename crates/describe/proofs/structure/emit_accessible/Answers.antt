@@ -1,15 +1,8 @@
 -- `describe::structure::emit_accessible` meets its contract. Assumes nothing.
 use Rattle.std.specs.Prelude.{Some}
 use mathlib.Core.Path.{ap, ◌∙◌}
-use Rattle.describe.proofs.Reported.{parameter_name_lem, command_name_lem, accessible_parameter, accessible_command, accessible_bad}
-use Rattle.table.proofs.Tests.{parameter_text, parameter_info, command_text, command_info}
+use Rattle.describe.proofs.Reported.{accessible_parameter, accessible_command, accessible_bad}
 use Rattle.describe.proofs.structure.emit_accessible.Goals as goal
-
-pub emit_parameter-requires : goal.emit_parameter-requires
-emit_parameter-requires c = ((search (parameter_name_lem, c.in-Some-Parameter.is ∙ ap Some c.in-Some-Parameter.field-0-is), search (parameter_text, c.in-Some-Parameter.is ∙ ap Some c.in-Some-Parameter.field-0-is)), search (parameter_info, c.in-Some-Parameter.is ∙ ap Some c.in-Some-Parameter.field-0-is))
-
-pub emit_command-requires : goal.emit_command-requires
-emit_command-requires c = ((search (command_name_lem, c.in-Some-Command.is ∙ ap Some c.in-Some-Command.field-0-is), search (command_text, c.in-Some-Command.is ∙ ap Some c.in-Some-Command.field-0-is)), search (command_info, c.in-Some-Command.is ∙ ap Some c.in-Some-Command.field-0-is))
 
 pub returns-in-Some-Parameter : goal.returns-in-Some-Parameter
 returns-in-Some-Parameter c = search (accessible_parameter, c.in-Some-Parameter.is ∙ ap Some c.in-Some-Parameter.field-0-is)

@@ -7,6 +7,6 @@ pub returns-then-readonly : goal.returns-then-readonly
 unfolding bytes
 returns-then-readonly c = search readonly_true
 
-pub returns : goal.returns
+pub returns-else-readonly : goal.returns-else-readonly
 unfolding bytes
-returns c = search readonly_false
+returns-else-readonly c = search readonly_false
