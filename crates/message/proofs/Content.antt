@@ -1,7 +1,7 @@
 -- Laws of a line's content: without one final carriage return, and of printable bytes alone. Assumes nothing.
 use Prim.Native.Nat.{ℕ, suc, ◌-◌, ◌≤◌, ◌<◌}
 use native.Mathlib.Omega.{arith}
-use borrow.Author.Tests.{eq-eqb, ne_eqb}
+use borrow.Author.Tests.{ne_eqb}
 use mathlib.Core.Path.{◌≡◌, refl, sym, ap, ◌∙◌}
 use mathlib.Core.Bool.{Bool, true, false, cond}
 use mathlib.Core.List.{List, [], ◌∷◌, ◌++◌}
@@ -26,29 +26,30 @@ without_last (x ∷ y ∷ ys) b = ap (λ (l : List ℕ). x ∷ l) (without_last 
     go true = refl
     go false = refl
 
-pub no_line : (xs : List ℕ) → length xs ≡ 0 → UpTo xs 0 (without_return xs)
-unfolding without_return
-no_line [] h = record { is = refl; within = omega arith }
-no_line (x ∷ xs) h = absurd (omega arith)
+pub one_return : (xs : List ℕ) → xs ≡ take (length xs - 1) xs ++ (13 ∷ []) → UpTo xs (length xs - 1) (without_return xs)
+one_return xs e = record { is = sym (ap without_return e ∙ without_last (take (length xs - 1) xs) 13); within = omega arith }
 
-module _ (xs : List ℕ) (some : length xs ≡ 0 → ⊥) where
-  last : xs ≡ take (length xs - 1) xs ++ (get_or xs (length xs - 1) 0 ∷ [])
-  last =
-      let n : length xs ≤ suc (length xs - 1) = omega arith in
+module _ (xs : List ℕ) (n : (front : List ℕ) → xs ≡ front ++ (13 ∷ []) → ⊥) where
+  last : (length xs ≡ 0 → ⊥) → xs ≡ take (length xs - 1) xs ++ (get_or xs (length xs - 1) 0 ∷ [])
+  last some =
+      let k : length xs ≤ suc (length xs - 1) = omega arith in
       let h : length xs - 1 < length xs = omega arith in
-      sym (take_all (suc (length xs - 1)) xs n) ∙ take-suc xs (length xs - 1) 0 h
+      sym (take_all (suc (length xs - 1)) xs k) ∙ take-suc xs (length xs - 1) 0 h
 
-  without : without_return xs ≡ cond (eqb (get_or xs (length xs - 1) 0) 13) (take (length xs - 1) xs) xs
-  without =
-      ap without_return last
-      ∙ without_last (take (length xs - 1) xs) (get_or xs (length xs - 1) 0)
-      ∙ ap (cond (eqb (get_or xs (length xs - 1) 0) 13) (take (length xs - 1) xs)) (sym last)
+  kept : (length xs ≡ 0 → ⊥) → without_return xs ≡ xs
+  kept some =
+      let e = last some in
+      let b = get_or xs (length xs - 1) 0 in
+      let m : b ≡ 13 → ⊥ = λ h. n (take (length xs - 1) xs) (e ∙ ap (λ (x : ℕ). take (length xs - 1) xs ++ (x ∷ [])) h) in
+      ap without_return e ∙ without_last (take (length xs - 1) xs) b ∙ rw (ne_eqb b 13 m) (sym e)
 
-  pub one_return : get_or xs (length xs - 1) 0 ≡ 13 → UpTo xs (length xs - 1) (without_return xs)
-  one_return e = record { is = sym (without ∙ rw (eq-eqb _ _ e)); within = omega arith }
-
-  pub no_return : (get_or xs (length xs - 1) 0 ≡ 13 → ⊥) → UpTo xs (length xs) (without_return xs)
-  no_return e = record { is = take_all (length xs) xs (omega arith) ∙ sym (without ∙ rw (ne_eqb _ _ e)); within = omega arith }
+  pub no_return : UpTo xs (length xs) (without_return xs)
+  unfolding without_return
+  no_return = record { is = take_all (length xs) xs (omega arith) ∙ sym (or_none xs kept); within = omega arith }
+    where
+      or_none : (ys : List ℕ) → ((length ys ≡ 0 → ⊥) → without_return ys ≡ ys) → without_return ys ≡ ys
+      or_none [] h = refl
+      or_none (y ∷ ys) h = h (λ e. omega arith)
 
 module _ (xs : List ℕ) (r : ℕ) (e : UpTo xs r (without_return xs)) {t : Bool} (d : t ≡ all is_printable (take r xs)) where
   pub content_is : t ≡ true → UpTo xs r (content (whole xs))

@@ -1,14 +1,17 @@
 -- Laws of a part that is cut at the first and the second of some byte. Assumes nothing.
-use Prim.Native.Nat.{ℕ, ◌+◌, ◌-◌, ◌≤◌, ◌<◌}
-use native.Mathlib.Numerals.{add-one}
+use Prim.Native.Nat.{ℕ, suc, ◌+◌, ◌-◌, ◌≤◌, ◌<◌}
 use native.Mathlib.Omega.{arith}
-use borrow.Author.Tests.{eq-eqb, ne_eqb}
 use mathlib.Core.Path.{◌≡◌, refl, sym, ap, ◌∙◌}
-use mathlib.Core.Bool.{Bool, true, false, cond, not}
+use mathlib.Core.Bool.{Bool, true, false, cond}
 use mathlib.Core.List.{List, [], ◌∷◌, ◌++◌}
-use lib.ListN.{length, take, drop, get_or, length-append, length-drop, drop_of_length-le}
-use lib.Seq.{take_at, drop_at, take-add, take-take, drop-drop, drop-cons, length-take-le}
-use lib.Dec.{eqb}
+use Rattle.std.specs.Prelude.{Option, Some, None}
+use Rattle.std.specs.Option.{unwrap_or}
+use Rattle.std.specs.List.{prefix_len, position_or_len}
+use Rattle.std.proofs.lemmas.Bool.{ltb-false}
+use Rattle.std.proofs.lemmas.List.Sums.{prefix_len-le-length}
+use lib.ListN.{length, take, drop, length-append, length-drop, drop_of_length-le}
+use lib.Seq.{take_at, drop_at, take-add, take-take, take_all, drop-drop, length-take-le}
+use lib.Dec.{eqb, ltb}
 use Rattle.ascii.specs.Bytes.{take_while, drop_while, tail}
 use Rattle.ascii.proofs.Bytes.{tail_drop}
 use Rattle.message.specs.declared.line.Part.{Part}
@@ -16,21 +19,38 @@ use Rattle.message.specs.Clauses.Parsed.{Within, before, from_stop, after, Stops
 
 -- ## The first of some byte
 
--- what is left from position i on
-module _ (s : List ℕ) (from stop i : ℕ) (l : from ≤ i) (e : from_stop stop (drop from s) ≡ from_stop stop (drop i s)) where
-  step : i < length s → from_stop stop (drop i s) ≡ cond (not (eqb (get_or s i 0) stop)) (from_stop stop (drop (i + 1) s)) (drop i s)
-  unfolding from_stop drop_while
-  step h = rw (add-one, drop-cons s i 0 h)
+dropped : (p : ℕ → Bool) (xs : List ℕ) → drop_while p xs ≡ drop (prefix_len p xs) xs
+unfolding drop_while
+dropped p [] = refl
+dropped p (x ∷ xs) = go (p x) (dropped p xs)
+  where
+    go : (t : Bool) → drop_while p xs ≡ drop (prefix_len p xs) xs → cond t (drop_while p xs) (x ∷ xs) ≡ drop (cond t (1 + prefix_len p xs) 0) (x ∷ xs)
+    go true e =
+        let s : 1 + prefix_len p xs ≡ suc (prefix_len p xs) = omega arith in
+        e ∙ sym (ap (λ (k : ℕ). drop k (x ∷ xs)) s)
+    go false e = refl
 
-  pub find_more : i < length s → (get_or s i 0 ≡ stop → ⊥) → from_stop stop (drop from s) ≡ from_stop stop (drop (i + 1) s)
-  find_more h n = e ∙ step h ∙ rw (ne_eqb _ _ n)
+at_or : (i n : ℕ) → i ≤ n → unwrap_or (cond (ltb i n) (Some i) None) n ≡ i
+at_or i n l = go (ltb i n) refl
+  where
+    go : (t : Bool) → ltb i n ≡ t → unwrap_or (cond t (Some i) None) n ≡ i
+    go true e = refl
+    go false e = let h = ltb-false i n e in omega arith
 
-  pub find_here : i < length s → get_or s i 0 ≡ stop → Stops s from stop i
-  find_here h q = record { is = e ∙ step h ∙ rw (eq-eqb _ _ q); low = l; high = omega arith }
-
-  pub find_end : length s ≤ i → i ≤ length s → Stops s from stop i
-  unfolding from_stop drop_while
-  find_end h g = record { is = e ∙ rw (drop_of_length-le s h); low = l; high = g }
+-- the position that `position` finds in what is left, or its length
+pub found :
+    (s : List ℕ) (from stop : ℕ) → from ≤ length s → (o : Option ℕ) (r : ℕ)
+    → (let rest = take (length s - from) (drop from s) in
+    o ≡ cond (ltb (position_or_len (λ b. eqb b stop) rest) (length rest)) (Some (position_or_len (λ b. eqb b stop) rest)) None
+    → r ≡ unwrap_or o (length rest) → Stops s from stop (from + r))
+unfolding from_stop
+found s from stop h o r e u =
+    let d = length-drop from s in
+    let w : take (length s - from) (drop from s) ≡ drop from s = take_all (length s - from) (drop from s) (omega arith) in
+    let i = position_or_len (λ b. eqb b stop) (drop from s) in
+    let l : i ≤ length (drop from s) = prefix_len-le-length _ (drop from s) in
+    let q : r ≡ i = rw w at (u ∙ ap (λ (x : Option ℕ). unwrap_or x (length (take (length s - from) (drop from s)))) e) ∙ at_or i _ l in
+    record { is = dropped _ (drop from s) ∙ drop-drop i from s ∙ rw q; low = omega arith; high = omega arith }
 
 pub past_one : (s : List ℕ) (at : ℕ) → at < length s → Goes s at (at + 1)
 past_one s at h = record { is = tail_drop s at; low = omega arith; high = omega arith }

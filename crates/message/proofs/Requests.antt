@@ -38,7 +38,7 @@ module _ (xs : List ℕ) (end : ℕ) (e : UpTo xs end (content (whole xs))) wher
       let w : take (end - 0) xs ≡ content (whole xs) = ap (λ (n : ℕ). take n xs) (sub-zero end) ∙ e.is in
       let n : end ≡ length (content (whole xs)) = sym (length-take-le end xs e.within) ∙ ap length e.is in
       record {
-        Some = rw (← e.is, length-take-le end xs e.within) (omega arith);
+        some = rw (← e.is, length-take-le end xs e.within) (omega arith);
         action_is = k.first ∙ rw w;
         specifier_is = k.second ∙ rw w;
         payload_is = k.rest ∙ rw w;

@@ -22,15 +22,12 @@ struct Cut {
     pub rest: Part,
 }
 
-// A line with its three parts, or that it has no content.
+// The three parts of a line that has content.
 #[derive(Clone, Copy)]
-pub enum Parsed {
-    Line {
-        action: Part,
-        specifier: Part,
-        payload: Part,
-    },
-    Bad,
+pub struct Line {
+    pub action: Part,
+    pub specifier: Part,
+    pub payload: Part,
 }
 
 // Whether modules are switched on or off.
@@ -78,14 +75,11 @@ pub enum Request {
 fn return_end(line: &[u8]) -> usize
     ensures { UpTo line.now result (without_return line.now) }
 {
-    let n = line.len();
-    if n == 0 {
-        return 0;
+    if line.ends_with(b"\r") {
+        line.len() - 1
+    } else {
+        line.len()
     }
-    if line[n - 1] == 13 {
-        return n - 1;
-    }
-    n
 }
 
 // Where the content of a line ends: at 0 where a byte is outside 32 to 126.
@@ -93,10 +87,7 @@ fn content_end(line: &[u8]) -> usize
     ensures { UpTo line.now result (content (whole line.now)) }
 {
     let end = return_end(line);
-    if all_printable(&line[..end]) {
-        return end;
-    }
-    0
+    if all_printable(&line[..end]) { end } else { 0 }
 }
 
 // The position of the first `stop` from a position on, or the end.
@@ -104,14 +95,8 @@ fn find(s: &[u8], from: usize, stop: u8) -> usize
     requires { from ≤ length s.now }
     ensures { Stops s.now from stop result }
 {
-    let mut i = from;
-    while i < s.len() {
-        if s[i] == stop {
-            return i;
-        }
-        i += 1;
-    }
-    i
+    let rest = &s[from..];
+    from + rest.iter().position(|b| *b == stop).unwrap_or(rest.len())
 }
 
 // The position after the byte at a position, or the end.
@@ -127,40 +112,40 @@ fn cut_at(line: &[u8], whole: Part, stop: u8) -> Cut
     requires { Within line.now whole }
     ensures { Cuts line.now whole stop result }
 {
-    let from = whole.from;
-    let to = whole.to;
-    let s = &line[..to];
-    let first = find(s, from, stop);
+    let s = &line[..whole.to];
+    let first = find(s, whole.from, stop);
     let next = past(s, first);
     let second = find(s, next, stop);
-    let rest = past(s, second);
     Cut {
-        first: Part { from, to: first },
+        first: Part {
+            from: whole.from,
+            to: first,
+        },
         second: Part {
             from: next,
             to: second,
         },
-        rest: Part { from: rest, to },
+        rest: Part {
+            from: past(s, second),
+            to: whole.to,
+        },
     }
 }
 
 // A line's action, specifier and data, parted at the first and second space.
-pub fn part_line(line: &[u8]) -> Parsed
+pub fn part_line(line: &[u8]) -> Option<Line>
     ensures { Parses line.now result }
 {
     let end = content_end(line);
     if end == 0 {
-        return Parsed::Bad;
+        return None;
     }
     let cut = cut_at(line, Part { from: 0, to: end }, b' ');
-    let action = cut.first;
-    let specifier = cut.second;
-    let payload = cut.rest;
-    Parsed::Line {
-        action,
-        specifier,
-        payload,
-    }
+    Some(Line {
+        action: cut.first,
+        specifier: cut.second,
+        payload: cut.rest,
+    })
 }
 
 // The word that an action is.
@@ -205,9 +190,7 @@ fn is_name_part(line: &[u8], name: Part) -> bool
     requires { Within line.now name }
     ensures { result ≡ is_name (part line.now name) }
 {
-    let from = name.from;
-    let to = name.to;
-    is_name(&line[from..to])
+    is_name(&line[name.from..name.to])
 }
 
 // All modules, or the one whose name stands before the first `:`.
@@ -215,16 +198,15 @@ fn scoped_request(line: &[u8], specifier: Part, switch: Switch) -> Request
     requires { Within line.now specifier }
     ensures { AsksScoped line.now specifier switch result }
 {
-    let from = specifier.from;
-    if from == specifier.to {
+    if specifier.from == specifier.to {
         return Request::All(switch);
     }
     let cut = cut_at(line, specifier, b':');
-    let name = cut.first;
-    if !is_name_part(line, name) {
-        return Request::Malformed;
+    if is_name_part(line, cut.first) {
+        Request::Scoped(switch, cut.first)
+    } else {
+        Request::Malformed
     }
-    Request::Scoped(switch, name)
 }
 
 // An accessible, by its module's name before the first `:` and its own up to the second or to the end.
@@ -233,15 +215,11 @@ fn named_request(line: &[u8], specifier: Part, verb: Verb) -> Request
     ensures { AsksNamed line.now specifier verb result }
 {
     let cut = cut_at(line, specifier, b':');
-    let module = cut.first;
-    if !is_name_part(line, module) {
-        return Request::Malformed;
+    if is_name_part(line, cut.first) && is_name_part(line, cut.second) {
+        Request::Named(verb, cut.first, cut.second)
+    } else {
+        Request::Malformed
     }
-    let accessible = cut.second;
-    if !is_name_part(line, accessible) {
-        return Request::Malformed;
-    }
-    Request::Named(verb, module, accessible)
 }
 
 // What a line asks for, by its action and specifier.
@@ -249,10 +227,7 @@ pub fn request_of(line: &[u8], action: Part, specifier: Part) -> Request
     requires { (Within line.now action) × (Within line.now specifier) }
     ensures { Asks line.now action specifier result }
 {
-    let from = action.from;
-    let to = action.to;
-    let word = action_of(&line[from..to]);
-    match word {
+    match action_of(&line[action.from..action.to]) {
         Action::Identify => Request::Identify,
         Action::Describe => Request::Describe,
         Action::Ping => Request::Ping,
@@ -268,7 +243,5 @@ pub fn is_null(line: &[u8], payload: Part) -> bool
     requires { Within line.now payload }
     ensures { result ≡ all is_space (part line.now payload) }
 {
-    let from = payload.from;
-    let to = payload.to;
-    all_spaces(&line[from..to])
+    all_spaces(&line[payload.from..payload.to])
 }

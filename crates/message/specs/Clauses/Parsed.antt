@@ -7,8 +7,7 @@ use Rattle.message.specs.Request as R
 use Rattle.message.specs.Request.{scoped, named, or_null, request}
 use Rattle.message.specs.declared.line.Part.{Part}
 use Rattle.message.specs.declared.line.Cut.{Cut}
-use Rattle.message.specs.declared.line.Parsed.{Parsed}
-use Rattle.message.specs.declared.line.Parsed.TheVariants.{Line, Bad}
+use Rattle.message.specs.declared.line.Line.{Line}
 use Rattle.message.specs.declared.line.Switch.{Switch}
 use Rattle.message.specs.declared.line.Switch.TheVariants.{On, Off}
 use Rattle.message.specs.declared.line.Verb.{Verb}
@@ -70,7 +69,7 @@ pub record Cuts (xs : List ℕ) (p : Part) (stop : ℕ) (r : Cut) : Type 0 where
 -- the three parts of a line that has content: the action begins with it, the specifier after the first space and the data after the second,
 -- or where the content ends
 pub record Parted (xs : List ℕ) (action specifier payload : Part) : Type 0 where
-  pub Some : 0 < length (content (whole xs))
+  pub some : 0 < length (content (whole xs))
   pub action_is : part xs action ≡ (parts_of (content (whole xs))).action
   pub specifier_is : part xs specifier ≡ (parts_of (content (whole xs))).specifier
   pub payload_is : part xs payload ≡ (parts_of (content (whole xs))).payload
@@ -81,10 +80,10 @@ pub record Parted (xs : List ℕ) (action specifier payload : Part) : Type 0 whe
   pub specifier_at : specifier.from + length (after_space (content (whole xs))) ≡ length (content (whole xs))
   pub payload_at : payload.from + length (after_space (after_space (content (whole xs)))) ≡ length (content (whole xs))
 
--- a line without content is bad
-abbrev pub Parses : List ℕ → Parsed → Type 0
-Parses xs Bad = content (whole xs) ≡ []
-Parses xs (Line a s p) = Parted xs a s p
+-- a line without content has no parts
+abbrev pub Parses : List ℕ → Option Line → Type 0
+Parses xs None = content (whole xs) ≡ []
+Parses xs (Some l) = Parted xs l.action l.specifier l.payload
 
 -- ## Requests
 

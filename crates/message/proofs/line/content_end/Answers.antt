@@ -10,5 +10,5 @@ slice_bounds-all_printable-end c = sym (length-take-le _ _ c.return_end-end.ensu
 pub returns-then-all_printable : goal.returns-then-all_printable
 returns-then-all_printable c = search content_is
 
-pub returns : goal.returns
-returns c = search content_none
+pub returns-else-all_printable : goal.returns-else-all_printable
+returns-else-all_printable c = search content_none

@@ -1,19 +1,20 @@
 -- `message::say::fault_number` meets its contract. Assumes nothing.
+use mathlib.Core.Path.{◌≡◌, refl}
+use Prim.Native.Nat.{◌+◌}
+use denote.Enum.Declared.{tag_of}
 use Rattle.message.specs.Error.{fault_number}
+use Rattle.message.specs.Clauses.Said.{fault_as}
+use Rattle.message.specs.contracts.say.Fault.{the_type}
+use Rattle.message.specs.declared.say.Fault.{Fault}
+use Rattle.message.specs.declared.say.Fault.TheVariants.{HardwareError, CommunicationFailed, ReadFailed, OutOfRange}
 use Rattle.message.proofs.say.fault_number.Goals as goal
 
-pub returns-in-HardwareError : goal.returns-in-HardwareError
+numbered : (f : Fault) → tag_of the_type f + 1 ≡ fault_number (fault_as f)
 unfolding fault_number
-returns-in-HardwareError c = rw c.in-HardwareError.is
+numbered HardwareError = refl
+numbered CommunicationFailed = refl
+numbered ReadFailed = refl
+numbered OutOfRange = refl
 
-pub returns-in-CommunicationFailed : goal.returns-in-CommunicationFailed
-unfolding fault_number
-returns-in-CommunicationFailed c = rw c.in-CommunicationFailed.is
-
-pub returns-in-ReadFailed : goal.returns-in-ReadFailed
-unfolding fault_number
-returns-in-ReadFailed c = rw c.in-ReadFailed.is
-
-pub returns-in-OutOfRange : goal.returns-in-OutOfRange
-unfolding fault_number
-returns-in-OutOfRange c = rw c.in-OutOfRange.is
+pub returns : goal.returns
+returns c = numbered c.args.fault

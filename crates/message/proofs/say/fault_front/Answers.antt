@@ -1,8 +1,8 @@
--- `message::say::fault_front_length` meets its contract. Assumes nothing.
+-- `message::say::fault_front` meets its contract. Assumes nothing.
 use Rattle.ascii.specs.Text.{bytes}
 use Rattle.message.specs.Error.{fault_name}
 use Rattle.message.specs.Clauses.Said.{fault_front}
-use Rattle.message.proofs.say.fault_front_length.Goals as goal
+use Rattle.message.proofs.say.fault_front.Goals as goal
 
 pub returns-in-HardwareError : goal.returns-in-HardwareError
 unfolding fault_front fault_name bytes

@@ -1,8 +1,8 @@
--- `message::say::class_report_length` meets its contract. Assumes nothing.
+-- `message::say::class_report` meets its contract. Assumes nothing.
 use Rattle.ascii.specs.Text.{bytes}
 use Rattle.message.specs.Error.{class_name, class_text}
 use Rattle.message.specs.Reply.{class_report}
-use Rattle.message.proofs.say.class_report_length.Goals as goal
+use Rattle.message.proofs.say.class_report.Goals as goal
 
 pub returns-in-ProtocolError : goal.returns-in-ProtocolError
 unfolding class_report class_name class_text bytes
