@@ -1,17 +1,21 @@
 -- Laws of records that are counted where they stand. Assumes nothing.
 use Rattle.std.specs.Prelude.{None}
-use Prim.Native.Nat.{ℕ, ◌+◌, ◌-◌, ◌/◌, ◌%◌, ◌≤◌, ◌<◌}
+use Prim.Native.Nat.{ℕ, ◌+◌, ◌-◌, ◌*◌, ◌/◌, ◌%◌, ◌≤◌, ◌<◌}
 use native.Mathlib.Nat.{div-add-mod', zero-add, add-zero, add_assoc}
 use native.Mathlib.Omega.{arith}
 use borrow.Author.Tests.{eq-eqb, ne_eqb}
+use Rattle.std.proofs.lemmas.Bool.{eqb-true}
+use mir.Syntax.{w16}
+use Rattle.std.specs.List.{starts_with}
+use Rattle.std.specs.Int.{from_be_bytes, from_bool}
 use mathlib.Core.Bool.{Bool, true, false, cond, not, ◌&&◌, false≢true}
 use mathlib.Core.List.{List, [], ◌∷◌, ◌++◌, append_assoc}
 use mathlib.Core.Path.{◌≡◌, refl, sym, ap, ap₂, ◌∙◌}
 use lib.Dec.{eqb}
-use lib.ListN.{length, take, drop, length-append, length-drop}
-use lib.Seq.{sets-eq, take-append_seam, drop-append_seam, drop-drop}
+use lib.ListN.{length, take, drop, length-append, length-drop, drop_of_length-le}
+use lib.Seq.{sets-eq, take_all, take-append_seam, drop-append_seam, drop-drop}
 use Rattle.ascii.specs.Text.{bytes}
-use Rattle.ascii.specs.Bytes.{same, head, all, after, is_some}
+use Rattle.ascii.specs.Bytes.{head, all, after, is_some}
 use Rattle.ascii.specs.Numbers.{two_bytes}
 use Rattle.ascii.specs.Clauses.Writer.{Puts}
 use Rattle.ascii.specs.Clauses.Reader.{ByteAt}
@@ -43,42 +47,35 @@ line_begins (b ∷ w) h (y ∷ l) x = go (eqb y b) (line_begins w (all_parts (λ
     go true e = e
     go false e = refl
 
--- the front of a text is compared with the word, where the text is long enough
-front_begins : (w xs : List ℕ) → length w ≤ length xs → same (take (length w) xs) w ≡ begins w xs
-unfolding begins after same
-front_begins [] xs h = refl
-front_begins (b ∷ w) [] h = absurd (omega arith)
-front_begins (b ∷ w) (y ∷ xs) h = go (eqb y b) (front_begins w xs (omega arith))
+swapped : (x y : ℕ) → eqb x y ≡ eqb y x
+swapped x y = go (eqb x y) refl
   where
-    go : (t : Bool) → same (take (length w) xs) w ≡ is_some (after w xs) → (t && same (take (length w) xs) w) ≡ is_some (cond t (after w xs) None)
-    go true e = e
-    go false e = refl
+    go : (t : Bool) → eqb x y ≡ t → t ≡ eqb y x
+    go true e = sym (eq-eqb y x (sym (eqb-true x y e)))
+    go false e = sym (ne_eqb y x (λ h. false≢true (sym e ∙ eq-eqb x y (sym h))))
 
-short_begins : (w xs : List ℕ) → length xs < length w → false ≡ begins w xs
+-- the front of a text is compared with the word
+front_begins : (w xs : List ℕ) → starts_with eqb xs w ≡ begins w xs
 unfolding begins after
-short_begins [] xs h = absurd (omega arith)
-short_begins (b ∷ w) [] h = refl
-short_begins (b ∷ w) (y ∷ xs) h = go (eqb y b) (short_begins w xs (omega arith))
+front_begins [] xs = refl
+front_begins (b ∷ w) [] = refl
+front_begins (b ∷ w) (y ∷ xs) = rw (swapped b y) (go (eqb y b) (front_begins w xs))
   where
-    go : (t : Bool) → false ≡ is_some (after w xs) → false ≡ is_some (cond t (after w xs) None)
+    go : (t : Bool) → starts_with eqb xs w ≡ is_some (after w xs) → (t && starts_with eqb xs w) ≡ is_some (cond t (after w xs) None)
     go true e = e
     go false e = refl
 
 module _ (out : List ℕ) (at : ℕ) where
-  pub error_none : length out < 6 → false ≡ begins (bytes "error_") (drop at out)
-  unfolding bytes
-  error_none h = short_begins (bytes "error_") (drop at out) (rw length-drop (omega arith))
+  pub error_past : length out < at → false ≡ begins (bytes "error_") (drop at out)
+  unfolding begins after bytes
+  error_past h = let l : length out ≤ at = omega arith in rw (drop_of_length-le out l)
 
-  pub error_past : 6 ≤ length out → length out - 6 < at → false ≡ begins (bytes "error_") (drop at out)
-  unfolding bytes
-  error_past g h = short_begins (bytes "error_") (drop at out) (rw length-drop (omega arith))
-
-  pub error_front : 6 ≤ length out → at ≤ length out - 6 → {t : Bool} → t ≡ same (take (at + 6 - at) (drop at out)) (bytes "error_")
+  pub error_front : at ≤ length out → {t : Bool} → t ≡ starts_with eqb (take (length out - at) (drop at out)) (bytes "error_")
       → t ≡ begins (bytes "error_") (drop at out)
-  unfolding bytes
-  error_front g h e =
-      let n : at + 6 - at ≡ 6 = omega arith in
-      e ∙ ap (λ (k : ℕ). same (take k (drop at out)) (bytes "error_")) n ∙ front_begins (bytes "error_") (drop at out) (rw length-drop (omega arith))
+  error_front h {t} e =
+      let d = length-drop at out in
+      let w : take (length out - at) (drop at out) ≡ drop at out = take_all (length out - at) (drop at out) (omega arith) in
+      rw w at e ∙ front_begins (bytes "error_") (drop at out)
 
 -- ## A record and what follows it
 
@@ -177,7 +174,7 @@ size_of (order_command c p v) = omega arith
 -- ## The record at a position, by the code's tests
 
 module _ (out : List ℕ) (at m d : ℕ) {b : ℕ} (first : ByteAt out at b) where
-  pub not_marked : (b ≡ m → ⊥) → false ≡ is_to out at m d
+  pub not_marked : (b ≡ m → ⊥) → eqb b m ≡ is_to out at m d
   unfolding is_to
   not_marked h = rw (← first.is, ne_eqb b m h)
 
@@ -185,23 +182,27 @@ module _ (out : List ℕ) (at m d : ℕ) {b : ℕ} (first : ByteAt out at b) whe
   unfolding is_to
   marked h {e} second = rw (← first.is, eq-eqb b m h, ← second.is)
 
+-- a test as a number
+as_number : (t : Bool) → from_bool t ≡ cond t 1 0
+as_number true = refl
+as_number false = refl
+
 module _ (out : List ℕ) (at d : ℕ) {t : Bool} where
-  pub no_reply : t ≡ is_to out at 82 d → t ≡ false → 0 ≡ error_at out at d
+  pub no_reply : t ≡ is_to out at 82 d → t ≡ false → {r : ℕ} → r ≡ from_bool t → r ≡ error_at out at d
   unfolding error_at
-  no_reply e f = rw (← e, f)
+  no_reply e f i = i ∙ rw (← e, f)
 
   pub a_reply : t ≡ is_to out at 82 d → t ≡ true → {u : Bool} → u ≡ begins (bytes "error_") (drop (at + 5) out)
-      → {r : ℕ} → r ≡ cond u 1 0 → r ≡ error_at out at d
+      → {r : ℕ} → r ≡ from_bool u → r ≡ error_at out at d
   unfolding error_at
-  a_reply e f g i = i ∙ rw (← e, f, ← g)
+  a_reply e f {u} g i = i ∙ as_number u ∙ rw (← e, f, ← g)
 
-  pub an_update : t ≡ is_to out at 85 d → t ≡ true → 1 ≡ update_at out at d
+  pub update_counted : t ≡ is_to out at 85 d → {r : ℕ} → r ≡ from_bool t → r ≡ update_at out at d
   unfolding update_at
-  an_update e f = rw (← e, f)
+  update_counted e i = i ∙ as_number t ∙ rw (← e)
 
-  pub no_update : t ≡ is_to out at 85 d → t ≡ false → 0 ≡ update_at out at d
-  unfolding update_at
-  no_update e f = rw (← e, f)
+pub big_endian : (h l : ℕ) → from_be_bytes w16 (h ∷ l ∷ []) ≡ 256 * h + l
+big_endian h l = omega arith
 
 one_or_none : (b : Bool) → cond b 1 0 ≤ 1
 one_or_none true = omega arith

@@ -2,7 +2,7 @@
 use Rattle.std.specs.Prelude.{Some}
 use Prim.Native.Nat.{ℕ, ◌+◌, ◌/◌, ◌%◌, ◌≤◌, ◌<◌}
 use native.Mathlib.Omega.{arith}
-use mathlib.Core.Path.{◌≡◌, sym, ap, subst, ◌∙◌}
+use mathlib.Core.Path.{◌≡◌, sym, ap, ◌∙◌}
 use mathlib.Core.List.{List, [], ◌∷◌, ◌++◌, append_assoc}
 use lib.ListN.{length, length-append}
 use Rattle.ascii.specs.Text.{bytes}
@@ -10,11 +10,8 @@ use Rattle.ascii.specs.Numbers.{two_bytes}
 use Rattle.ascii.specs.Clauses.Writer.{Puts}
 use Rattle.ascii.proofs.Puts.{puts_length, puts_both}
 use Rattle.message.specs.Error.{Denial}
-use Rattle.message.specs.Reply.{Held, failed, DataReport, Reply, describing, reply_line, update_word, update_line, error, optionally, report_text}
-use Rattle.message.specs.Clauses.Said.{fault_as, held_by, report_of}
-use Rattle.message.specs.declared.say.Fault.{Fault}
-use Rattle.message.specs.declared.say.Sensor.{Sensor}
-use Rattle.message.specs.declared.say.Sensor.TheVariants.{Works, Fails}
+use Rattle.message.specs.Reply.{Held, DataReport, Reply, describing, reply_line, update_line, error, optionally, report_text}
+use Rattle.message.specs.Clauses.Said.{report_of}
 use Rattle.message.proofs.Said.{two_1, two_2, error_length, report_length}
 use Rattle.outbox.specs.Outbox.{Record, final, update, mark, client, body, encode}
 use Rattle.outbox.specs.Clauses.Written.{sealed, Room, LineRoom, RoomFor, describing_start}
@@ -34,28 +31,20 @@ module _ (d m : List ℕ) (at c n : ℕ) where
       pub header_2 : p < length e
       header_2 = let t = three in omega arith
 
-      module _ (f : List ℕ) (q : ℕ) (y : Puts e p (c ∷ []) f q) where
-        pub header_3 : q < length f
-        header_3 =
-            let t = three in
-            let l = puts_length y in
-            let s = y.ends in
-            omega arith
-
-        pub header_4 : (g : List ℕ) (r : ℕ) → Puts f q (n / 256 ∷ []) g r → r < length g
-        header_4 g r z =
-            let t = three in
-            let l = puts_length y in
-            let s = y.ends in
-            let k = puts_length z in
-            let u = z.ends in
-            omega arith
+      pub header_3 : (f : List ℕ) (q : ℕ) → Puts e p (c ∷ []) f q → q + 2 ≤ length f
+      header_3 f q y =
+          let t = three in
+          let l = puts_length y in
+          let s = y.ends in
+          omega arith
 
   pub header_all :
-      (e f g i : List ℕ) (p q r j : ℕ) → Puts d at m e p → Puts e p (c ∷ []) f q → Puts f q (n / 256 ∷ []) g r → Puts g r (n % 256 ∷ []) i j
-      → Puts d at (m ++ (c ∷ two_bytes n)) i j
+      (e f g : List ℕ) (p q r : ℕ) → n ≤ 65535 → Puts d at m e p → Puts e p (c ∷ []) f q → Puts f q (n / 256 % 256 ∷ n % 256 ∷ []) g r
+      → Puts d at (m ++ (c ∷ two_bytes n)) g r
   unfolding two_bytes
-  header_all e f g i p q r j x y z w = puts_both x (puts_both y (puts_both z w))
+  header_all e f g p q r h x y z =
+      let k : n / 256 % 256 ≡ n / 256 = omega arith in
+      puts_both x (puts_both y (rw k at z))
 
 -- ## A record with its body, of which n is the length
 
@@ -174,36 +163,6 @@ module _ (d : List ℕ) (at c : ℕ) (r : Reply) (k : ℕ) (s : k ≡ length (re
       → Puts d at (encode (final c r)) g i
   unfolding sealed encode mark client body
   final_all e f g p q i x y z = line_all d at (bytes "RP") c (reply_line r) k s e f g p q i x y z
-
--- ## An update, by whether the parameter can be read
-
-module _ (s : Sensor) (d : List ℕ) (at c : ℕ) (m a v : List ℕ) (t : ℕ) where
-  module _ (w : s ≡ Works) where
-    word : update_word (held_by s v) ≡ bytes "update "
-    unfolding update_word
-    word = rw w
-
-    pub works_room : RoomFor d at (update c (report_of m a (held_by s v) t)) → LineRoom d at (bytes "UP") c (bytes "update " ++ report_text (report_of m a (held_by s v) t))
-    unfolding update_line
-    works_room h =
-        subst (λ l. LineRoom d at (bytes "UP") c (l ++ report_text (report_of m a (held_by s v) t))) word (line_of_update d at c (report_of m a (held_by s v) t) h)
-
-    pub works_put : {x : List ℕ} {p : ℕ} → Puts d at (sealed (bytes "UP") c (bytes "update " ++ report_text (report_of m a (held_by s v) t) ++ bytes "\n")) x p
-        → Puts d at (encode (update c (report_of m a (held_by s v) t))) x p
-    unfolding sealed encode mark client body update_line
-    works_put {x} {p} y = subst (λ l. Puts d at (sealed (bytes "UP") c (l ++ report_text (report_of m a (held_by s v) t) ++ bytes "\n")) x p) (sym word) y
-
-  module _ (f : Fault) (w : s ≡ Fails f) where
-    pub fails_room : RoomFor d at (update c (report_of m a (held_by s v) t))
-        → LineRoom d at (bytes "UP") c (bytes "error_update " ++ report_text (report_of m a (failed (fault_as f)) t))
-    unfolding update_line update_word
-    fails_room h = line_of_update d at c (report_of m a (failed (fault_as f)) t) (subst (λ s. RoomFor d at (update c (report_of m a (held_by s v) t))) w h)
-
-    pub fails_put : {x : List ℕ} {p : ℕ}
-        → Puts d at (sealed (bytes "UP") c (bytes "error_update " ++ report_text (report_of m a (failed (fault_as f)) t) ++ bytes "\n")) x p
-        → Puts d at (encode (update c (report_of m a (held_by s v) t))) x p
-    unfolding sealed encode mark client body update_line update_word
-    fails_put {x} {p} y = subst (λ s. Puts d at (encode (update c (report_of m a (held_by s v) t))) x p) (sym w) y
 
 -- ## What has room is short
 

@@ -1,12 +1,11 @@
 // What is sent to a client, counted by reading the records off an outbox.
-ghost use Rattle.std.specs.Prelude.{◌≡◌, cond, List, ◌+◌, ◌≤◌, drop};
+ghost use Rattle.std.specs.Prelude.{◌≡◌, List, ◌+◌, ◌≤◌, drop};
 ghost use Rattle.ascii.specs.Text.{bytes};
 ghost use Rattle.message.specs.Reply.{begins};
 ghost use Rattle.outbox.specs.Outbox.{Record};
 ghost use Rattle.outbox.specs.Clauses.Tallied.{size_at, is_to, error_at, update_at, Holds, tally_of};
 
 use ascii::byte;
-use ascii::names::same;
 
 // Errors replied to a client, and updates sent to it.
 #[derive(Clone, Copy)]
@@ -19,13 +18,7 @@ pub struct Tally {
 fn is_error(out: &[u8], at: usize) -> bool
     ensures { result ≡ begins (bytes "error_") (drop at out.now) }
 {
-    if out.len() < 6 {
-        return false;
-    }
-    if out.len() - 6 < at {
-        return false;
-    }
-    same(&out[at..at + 6], b"error_")
+    at <= out.len() && out[at..].starts_with(b"error_")
 }
 
 // Whether the record at a position has a mark that begins with this byte, and is to this client.
@@ -33,16 +26,7 @@ fn is_to(out: &[u8], at: usize, mark: u8, client: u8) -> bool
     requires { at ≤ 65536 }
     ensures { result ≡ is_to out.now at mark client }
 {
-    if byte(out, at) != mark {
-        return false;
-    }
-    byte(out, at + 2) == client
-}
-
-fn one_if(b: bool) -> u32
-    ensures { result ≡ cond b 1 0 }
-{
-    if b { 1 } else { 0 }
+    byte(out, at) == mark && byte(out, at + 2) == client
 }
 
 // 1 where it is an error that is replied to the client.
@@ -50,10 +34,7 @@ fn error_at(out: &[u8], at: usize, client: u8) -> u32
     requires { at ≤ 65536 }
     ensures { result ≡ error_at out.now at client }
 {
-    if is_to(out, at, b'R', client) {
-        return one_if(is_error(out, at + 5));
-    }
-    0
+    u32::from(is_to(out, at, b'R', client) && is_error(out, at + 5))
 }
 
 // 1 where it is an update to the client.
@@ -61,10 +42,7 @@ fn update_at(out: &[u8], at: usize, client: u8) -> u32
     requires { at ≤ 65536 }
     ensures { result ≡ update_at out.now at client }
 {
-    if is_to(out, at, b'U', client) {
-        return 1;
-    }
-    0
+    u32::from(is_to(out, at, b'U', client))
 }
 
 // The position after it.
@@ -72,9 +50,7 @@ fn past_record(out: &[u8], at: usize) -> usize
     requires { at ≤ 65536 }
     ensures { result ≡ at + 5 + size_at out.now at }
 {
-    let high = byte(out, at + 3) as usize;
-    let low = byte(out, at + 4) as usize;
-    at + 5 + (256 * high + low)
+    at + 5 + u16::from_be_bytes([byte(out, at + 3), byte(out, at + 4)]) as usize
 }
 
 // Of the records in the first `written` bytes.

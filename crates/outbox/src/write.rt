@@ -1,9 +1,9 @@
 // Outbox records, written at a position of a lent buffer: mark, client byte, length in two bytes, body.
-ghost use Rattle.std.specs.Prelude.{◌∷◌, ◌++◌, ◌+◌, ◌≤◌, length, Some, None};
+ghost use Rattle.std.specs.Prelude.{◌≡◌, ◌∷◌, ◌++◌, ◌+◌, ◌≤◌, ℕ, List, Option, length, Some, None};
 ghost use Rattle.ascii.specs.Text.{bytes};
 ghost use Rattle.ascii.specs.Numbers.{two_bytes};
 ghost use Rattle.ascii.specs.Clauses.Writer.{Puts};
-ghost use Rattle.message.specs.Reply.{valued, report_text, optionally, identification, pong, counted, error};
+ghost use Rattle.message.specs.Reply.{valued, report_text, optionally, identification, pong, counted, error, DataReport, reply_line, update_word};
 ghost use Rattle.message.specs.Clauses.Said.{denial_of, held_by, report_of, counted_text};
 ghost use Rattle.outbox.specs.Outbox.{encode, final, update, order_change, order_command};
 ghost use Rattle.outbox.specs.Clauses.Written.{sealed, Room, LineRoom, RoomFor, describing_start, told_reply, switched_reply};
@@ -39,8 +39,7 @@ fn put_header(out: &mut [u8], at: usize, mark: &[u8], client: u8, size: usize) -
 {
     let second = put(out, at, mark);
     let third = put_byte(out, second, client);
-    let fourth = put_byte(out, third, (size / 256) as u8);
-    put_byte(out, fourth, (size % 256) as u8)
+    put(out, third, &(size as u16).to_be_bytes())
 }
 
 // The identification of the first edition. The line has 36 bytes, and its line feed is the 37th.
@@ -129,39 +128,27 @@ pub fn put_describing_start(out: &mut [u8], at: usize, client: u8, size: usize) 
     put(out, line, b"describing . ")
 }
 
-// A word alone, `active` or `inactive`.
-fn put_final_word(out: &mut [u8], at: usize, client: u8, word: &[u8]) -> usize
-    requires { LineRoom out.old at (bytes "RP") client (optionally word.now None) }
-    ensures { Puts out.old at (sealed (bytes "RP") client (optionally word.now None ++ bytes "\n")) out.new result }
+fn switched_word(switched: Switched) -> &'static [u8]
+    ensures { (m : Option (List ℕ)) → optionally result.now m ≡ reply_line (switched_reply switched m) }
 {
-    let size = word.len();
-    let line = put_header(out, at, b"RP", client, size + 1);
-    let end = put_word(out, line, word);
-    put_byte(out, end, 10)
+    match switched {
+        Switched::Active => b"active",
+        Switched::Inactive => b"inactive",
+    }
 }
 
+// A word alone, `active` or `inactive`.
 pub fn put_final_switched(out: &mut [u8], at: usize, client: u8, switched: Switched) -> usize
     requires { RoomFor out.old at (final client (switched_reply switched None)) }
     ensures { Puts out.old at (encode (final client (switched_reply switched None))) out.new result }
 {
-    match switched {
-        Switched::Active => put_final_word(out, at, client, b"active"),
-        Switched::Inactive => put_final_word(out, at, client, b"inactive"),
-    }
-}
-
-// A word with a module's name.
-fn put_final_word_name(out: &mut [u8], at: usize, client: u8, word: &[u8], name: &[u8]) -> usize
-    requires { LineRoom out.old at (bytes "RP") client (optionally word.now (Some name.now)) }
-    ensures { Puts out.old at (sealed (bytes "RP") client (optionally word.now (Some name.now) ++ bytes "\n"))
-        out.new result }
-{
-    let size = word_name_length(word, name);
-    let line = put_header(out, at, b"RP", client, size + 1);
-    let end = put_word_name(out, line, word, name);
+    let word = switched_word(switched);
+    let line = put_header(out, at, b"RP", client, word.len() + 1);
+    let end = put_word(out, line, word);
     put_byte(out, end, 10)
 }
 
+// A word with a module's name.
 pub fn put_final_switched_name(
     out: &mut [u8],
     at: usize,
@@ -172,10 +159,11 @@ pub fn put_final_switched_name(
     requires { RoomFor out.old at (final client (switched_reply switched (Some name.now))) }
     ensures { Puts out.old at (encode (final client (switched_reply switched (Some name.now)))) out.new result }
 {
-    match switched {
-        Switched::Active => put_final_word_name(out, at, client, b"active", name),
-        Switched::Inactive => put_final_word_name(out, at, client, b"inactive", name),
-    }
+    let word = switched_word(switched);
+    let size = word_name_length(word, name);
+    let line = put_header(out, at, b"RP", client, size + 1);
+    let end = put_word_name(out, line, word, name);
+    put_byte(out, end, 10)
 }
 
 // A word that ends with a space, and a report.
@@ -203,36 +191,18 @@ fn put_named_record(
     put_byte(out, end, 10)
 }
 
-// The reply with a word and a value.
-fn put_told(
-    out: &mut [u8],
-    at: usize,
-    client: u8,
-    word: &[u8],
-    module: &[u8],
-    accessible: &[u8],
-    value: &[u8],
-    time: u64,
-) -> usize
-    requires { LineRoom out.old at (bytes "RP") client (word.now ++ report_text (report_of «module».now accessible.now (valued value.now) time)) }
-    ensures { Puts out.old at (sealed (bytes "RP") client
-        (word.now ++ report_text (report_of «module».now accessible.now (valued value.now) time)
-        ++ bytes "\n")) out.new result }
+fn told_word(told: Told) -> &'static [u8]
+    ensures { (r : DataReport) → result.now ++ report_text r ≡ reply_line (told_reply told r) }
 {
-    put_named_record(
-        out,
-        at,
-        b"RP",
-        client,
-        word,
-        module,
-        accessible,
-        Sensor::Works,
-        value,
-        time,
-    )
+    match told {
+        Told::Reply => b"reply ",
+        Told::Changed => b"changed ",
+        Told::Done => b"done ",
+        Told::Checked => b"checked ",
+    }
 }
 
+// The reply with a word and a value.
 pub fn put_final_report(
     out: &mut [u8],
     at: usize,
@@ -247,33 +217,30 @@ pub fn put_final_report(
     ensures { Puts out.old at (encode (final client (told_reply told
         (report_of «module».now accessible.now (valued value.now) time)))) out.new result }
 {
-    match told {
-        Told::Reply => put_told(out, at, client, b"reply ", module, accessible, value, time),
-        Told::Changed => put_told(
-            out,
-            at,
-            client,
-            b"changed ",
-            module,
-            accessible,
-            value,
-            time,
-        ),
-        Told::Done => put_told(out, at, client, b"done ", module, accessible, value, time),
-        Told::Checked => put_told(
-            out,
-            at,
-            client,
-            b"checked ",
-            module,
-            accessible,
-            value,
-            time,
-        ),
-    }
+    put_named_record(
+        out,
+        at,
+        b"RP",
+        client,
+        told_word(told),
+        module,
+        accessible,
+        Sensor::Works,
+        value,
+        time,
+    )
 }
 
 // `update`, or `error_update` where the parameter can't be read.
+fn update_word(sensor: Sensor) -> &'static [u8]
+    ensures { (v : List ℕ) → result.now ≡ update_word (held_by sensor v) }
+{
+    match sensor {
+        Sensor::Works => b"update ",
+        Sensor::Fails(_) => b"error_update ",
+    }
+}
+
 pub fn put_update(
     out: &mut [u8],
     at: usize,
@@ -288,23 +255,18 @@ pub fn put_update(
     ensures { Puts out.old at (encode (update client
         (report_of «module».now accessible.now (held_by sensor value.now) time))) out.new result }
 {
-    match sensor {
-        Sensor::Works => put_named_record(
-            out, at, b"UP", client, b"update ", module, accessible, sensor, value, time,
-        ),
-        Sensor::Fails(_fault) => put_named_record(
-            out,
-            at,
-            b"UP",
-            client,
-            b"error_update ",
-            module,
-            accessible,
-            sensor,
-            value,
-            time,
-        ),
-    }
+    put_named_record(
+        out,
+        at,
+        b"UP",
+        client,
+        update_word(sensor),
+        module,
+        accessible,
+        sensor,
+        value,
+        time,
+    )
 }
 
 // An order to the driver: a number and a value or an argument.
