@@ -4,7 +4,8 @@ use native.Mathlib.Numerals.{add-one}
 use native.Mathlib.Omega.{arith}
 use mathlib.Core.Path.{◌≡◌, refl, sym, ap, ◌∙◌}
 use mathlib.Core.Bool.{Bool, true, false, not, ◌&&◌, ◌||◌}
-use mathlib.Core.List.{List}
+use mathlib.Core.List.{List, [], ◌∷◌}
+use Rattle.std.specs.List.{list_any}
 use lib.Dec.{eqb, ltb}
 use lib.ListN.{length, get_or, take, drop, drop_of_length-le}
 use lib.Seq.{drop-cons}
@@ -15,6 +16,11 @@ use Rattle.state.specs.declared.Brief.{Brief}
 use Rattle.state.specs.declared.Clients.{Clients}
 use Rattle.state.specs.View.{is_set, bit, line_bytes, client_at}
 use Rattle.state.specs.Fit.{client_unfit, past_last}
+
+pub any_is : (p : ℕ → Bool) (xs : List ℕ) → list_any p xs ≡ any p xs
+unfolding any
+any_is p [] = refl
+any_is p (x ∷ xs) = ap (λ (t : Bool). p x || t) (any_is p xs)
 
 -- some element passes, tried from the front
 module _ (p : ℕ → Bool) (xs : List ℕ) (i : ℕ) where

@@ -24,9 +24,10 @@ pub fn without_bit(mask: u16, i: usize) -> u16
     ensures { (j : ℕ) → bit result j ≡ bit mask j && not (eqb j i) }
 {
     if has_bit(mask, i) {
-        return mask ^ (1 << i);
+        mask ^ (1 << i)
+    } else {
+        mask
     }
-    mask
 }
 
 // The first n bits too.
@@ -35,10 +36,8 @@ pub fn with_bits(mask: u16, n: usize) -> u16
     ensures { (j : ℕ) → bit result j ≡ bit mask j || ltb j n }
 {
     let mut all = mask;
-    let mut i = 0;
-    while i < n {
+    for i in 0..n {
         all = with_bit(all, i);
-        i += 1;
     }
     all
 }
@@ -55,5 +54,5 @@ pub fn is_past(mask: u16, n: usize) -> bool
 pub fn bit_count(mask: u16) -> u32
     ensures { result ≡ count (bit mask) (below 16) }
 {
-    u16::count_ones(mask)
+    mask.count_ones()
 }

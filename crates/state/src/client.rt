@@ -25,13 +25,12 @@ pub fn opened(s: Clients, c: usize) -> Clients
     active[c] = 0;
     let mut length = s.length;
     length[c] = 0;
-    let lines = s.lines;
     Clients {
         open,
         overlong,
         active,
         length,
-        lines,
+        ..s
     }
 }
 
@@ -48,13 +47,12 @@ pub fn closed(s: Clients, c: usize) -> Clients
     active[c] = 0; // so no update goes to it
     let mut length = s.length;
     length[c] = 0;
-    let lines = s.lines;
     Clients {
         open,
         overlong,
         active,
         length,
-        lines,
+        ..s
     }
 }
 
@@ -62,13 +60,18 @@ pub fn closed(s: Clients, c: usize) -> Clients
 pub fn bare_of(s: State) -> Bare
     ensures { result ≡ bare_of s }
 {
-    let clients = s.clients;
-    let open = clients.open;
-    let overlong = clients.overlong;
-    let active = clients.active;
-    let length = clients.length;
-    let settings = s.settings;
-    let counts = s.counts;
+    let State {
+        clients,
+        settings,
+        counts,
+    } = s;
+    let Clients {
+        open,
+        overlong,
+        active,
+        length,
+        ..
+    } = clients;
     Bare {
         clients: Brief {
             open,
@@ -85,13 +88,17 @@ pub fn bare_of(s: State) -> Bare
 pub fn with_lines(s: Bare, lines: [u8; CLIENTS * LINE]) -> State
     ensures { result ≡ lined s lines }
 {
-    let brief = s.clients;
-    let open = brief.open;
-    let overlong = brief.overlong;
-    let active = brief.active;
-    let length = brief.length;
-    let settings = s.settings;
-    let counts = s.counts;
+    let Bare {
+        clients,
+        settings,
+        counts,
+    } = s;
+    let Brief {
+        open,
+        overlong,
+        active,
+        length,
+    } = clients;
     State {
         clients: Clients {
             open,
@@ -110,17 +117,14 @@ pub fn ended(s: Brief, c: usize) -> Brief
     requires { c < 8 }
     ensures { result ≡ brief_ended s c }
 {
-    let open = s.open;
     let mut overlong = s.overlong;
     overlong[c] = 0;
-    let active = s.active;
     let mut length = s.length;
     length[c] = 0;
     Brief {
-        open,
         overlong,
-        active,
         length,
+        ..s
     }
 }
 
@@ -129,17 +133,9 @@ pub fn with_active(s: Brief, c: usize, mask: u16) -> Brief
     requires { c < 8 }
     ensures { result ≡ brief_active s c mask }
 {
-    let open = s.open;
-    let overlong = s.overlong;
     let mut active = s.active;
     active[c] = mask;
-    let length = s.length;
-    Brief {
-        open,
-        overlong,
-        active,
-        length,
-    }
+    Brief { active, ..s }
 }
 
 // "The bytes a piece uses join its client's"; "once over 1,024, only that" is kept. The bytes are written to the lines.
@@ -152,27 +148,19 @@ pub fn joined(s: Brief, lines: &mut [u8], c: usize, bytes: &[u8]) -> Brief
         return s;
     }
     let mut length = s.length;
-    let open = s.open;
-    let active = s.active;
     let size = length[c] as usize;
     if LINE - size < bytes.len() {
         overlong[c] = 1;
         length[c] = 0;
         return Brief {
-            open,
             overlong,
-            active,
             length,
+            ..s
         };
     }
     put(lines, LINE * c + size, bytes);
     length[c] = (size + bytes.len()) as u16;
-    Brief {
-        open,
-        overlong,
-        active,
-        length,
-    }
+    Brief { length, ..s }
 }
 
 pub fn is_open(s: Clients, c: usize) -> bool
@@ -189,24 +177,14 @@ pub fn is_active(s: Brief, c: usize, i: usize) -> bool
     ensures { result ≡ is_active (client_at (with_lines s []) c) i }
 {
     let open = s.open;
-    if open[c] == 0 {
-        return false;
-    }
     let active = s.active;
-    has_bit(active[c], i)
+    open[c] != 0 && has_bit(active[c], i)
 }
 
 fn has_feed(bytes: &[u8]) -> bool
     ensures { result ≡ any (λ b. eqb b 10) bytes.now }
 {
-    let mut i = 0;
-    while i < bytes.len() {
-        if bytes[i] == 10 {
-            return true;
-        }
-        i += 1;
-    }
-    false
+    bytes.contains(&b'\n')
 }
 
 // Whether a client inside an overlong line keeps bytes of it.
@@ -215,11 +193,8 @@ fn keeps_dropped(s: Brief, c: usize) -> bool
     ensures { result ≡ is_set s.overlong c && is_set s.length c }
 {
     let overlong = s.overlong;
-    if overlong[c] == 0 {
-        return false;
-    }
     let length = s.length;
-    length[c] != 0
+    overlong[c] != 0 && length[c] != 0
 }
 
 // Whether a closed client has bytes, an overlong line or active modules.
@@ -228,19 +203,10 @@ fn keeps_closed(s: Brief, c: usize) -> bool
     ensures { result ≡ not (is_set s.open c) && (is_set s.length c || is_set s.overlong c || is_set s.active c) }
 {
     let open = s.open;
-    if open[c] != 0 {
-        return false;
-    }
     let length = s.length;
-    if length[c] != 0 {
-        return true;
-    }
     let overlong = s.overlong;
-    if overlong[c] != 0 {
-        return true;
-    }
     let active = s.active;
-    active[c] != 0
+    open[c] == 0 && (length[c] != 0 || overlong[c] != 0 || active[c] != 0)
 }
 
 // The faults of one client in the order of document 01. A line over 1,024 bytes is not looked at: it may reach past the lines.
@@ -254,8 +220,7 @@ fn client_unfit(s: Brief, lines: &[u8], modules: usize, c: usize) -> bool
         return true;
     }
     let from = LINE * c;
-    let to = from + length;
-    if has_feed(&lines[from..to]) {
+    if has_feed(&lines[from..from + length]) {
         return true;
     }
     if keeps_dropped(s, c) {
@@ -273,12 +238,10 @@ pub fn clients_unfit(s: Brief, lines: &[u8], modules: usize) -> bool
     requires { (modules ≤ 16) × (length lines.now ≡ 8192) }
     ensures { result ≡ any (client_unfit modules (with_lines s lines.now)) client_numbers }
 {
-    let mut c = 0;
-    while c < CLIENTS {
+    for c in 0..CLIENTS {
         if client_unfit(s, lines, modules, c) {
             return true;
         }
-        c += 1;
     }
     false
 }

@@ -16,19 +16,13 @@ pub fn cleared(s: State, c: usize) -> State
     requires { c < 8 }
     ensures { Cleared s c result }
 {
-    let clients = s.clients;
-    let settings = s.settings;
     let mut counts = s.counts;
     counts[c] = Counts {
         lines: 0,
         errors: 0,
         updates: 0,
     };
-    State {
-        clients,
-        settings,
-        counts,
-    }
+    State { counts, ..s }
 }
 
 // "lines completed": one more of client c.
@@ -36,16 +30,9 @@ pub fn line_counted(s: Bare, c: usize) -> Bare
     requires { c < 8 }
     ensures { LineCounted s c result }
 {
-    let clients = s.clients;
-    let settings = s.settings;
     let mut counts = s.counts;
-    let one = counts[c];
-    counts[c] = counted(one, 1, 0, 0);
-    Bare {
-        clients,
-        settings,
-        counts,
-    }
+    counts[c] = counted(counts[c], 1, 0, 0);
+    Bare { counts, ..s }
 }
 
 // Client c's counts, after what an outbox has for it.
@@ -62,20 +49,11 @@ pub fn sent_counted(s: Bare, out: &[u8], written: usize) -> Bare
     requires { written ≤ 65536 }
     ensures { SentCounted s out.now written result }
 {
-    let clients = s.clients;
-    let settings = s.settings;
     let mut counts = s.counts;
-    let mut c = 0;
-    while c < CLIENTS {
-        let one = counts[c];
-        counts[c] = with_sent(one, out, written, c as u8);
-        c += 1;
+    for c in 0..CLIENTS {
+        counts[c] = with_sent(counts[c], out, written, c as u8);
     }
-    Bare {
-        clients,
-        settings,
-        counts,
-    }
+    Bare { counts, ..s }
 }
 
 // A count of 32 bits is at most where it stops.

@@ -57,11 +57,8 @@ pub fn shown<'a>(
     let lengths = s.length;
     let size = lengths[k] as usize;
     if size == 0 {
-        let from = initial.from;
-        let to = initial.to;
-        return &table[from..to];
+        return &table[initial.from..initial.to];
     }
     let first = PLACE * k;
-    let last = first + size;
-    &values[first..last]
+    &values[first..first + size]
 }

@@ -6,5 +6,5 @@ use Rattle.state.proofs.bits.without_bit.Goals as goal
 pub returns-then-has_bit : goal.returns-then-has_bit
 returns-then-has_bit c = clear_bit c.args.mask c.args.i c.requires (sym c.has_bit.ensures ∙ c.if-has_bit.true)
 
-pub returns : goal.returns
-returns c = clear_none c.args.mask c.args.i (sym c.has_bit.ensures ∙ c.if-has_bit.false)
+pub returns-else-has_bit : goal.returns-else-has_bit
+returns-else-has_bit c = clear_none c.args.mask c.args.i (sym c.has_bit.ensures ∙ c.if-has_bit.false)

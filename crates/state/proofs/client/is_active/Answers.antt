@@ -2,8 +2,8 @@
 use Rattle.state.proofs.Judged.{closed_inactive, open_active}
 use Rattle.state.proofs.client.is_active.Goals as goal
 
-pub returns-then-open-c-eq0 : goal.returns-then-open-c-eq0
-returns-then-open-c-eq0 c = search closed_inactive
+pub returns-then-open-c-ne0 : goal.returns-then-open-c-ne0
+returns-then-open-c-ne0 c = search open_active
 
-pub returns : goal.returns
-returns c = search open_active
+pub returns-else-open-c-ne0 : goal.returns-else-open-c-ne0
+returns-else-open-c-ne0 c = rw c.if-open-c-ne0.false (search closed_inactive)

@@ -1,5 +1,4 @@
 -- `state::count::sent_counted` meets its contract: of the first c clients what is sent has been counted. Assumes nothing.
-use Prim.Native.Nat.{◌-◌, ◌≤◌}
 use mathlib.Core.List.{List}
 use mathlib.Core.Path.{◌≡◌}
 use Rattle.outbox.specs.Outbox.{Record}
@@ -8,7 +7,4 @@ use Rattle.state.specs.Clauses.Counted.{sent_counted}
 use Rattle.state.proofs.count.sent_counted.Given as goal
 
 abbrev pub invariant-loop-c : goal.invariant-loop-c
-invariant-loop-c l = (l.c ≤ 8) × ((rs : List Record) → Holds l.out l.written rs → l.counts ≡ sent_counted l.initial.counts rs l.c)
-
-abbrev pub decreases-loop-c : goal.decreases-loop-c
-decreases-loop-c l = 8 - l.c
+invariant-loop-c l = (rs : List Record) → Holds l.out l.written rs → l.counts ≡ sent_counted l.initial.counts rs l.c
