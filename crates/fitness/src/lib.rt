@@ -39,8 +39,7 @@ fn setting_unfit(table: &[u8], values: &[u8], settings: Settings, k: usize, info
         return false;
     }
     let at = PLACE * k;
-    let end = at + size;
-    !is_stored(table, info, &values[at..end])
+    !is_stored(table, info, &values[at..at + size])
 }
 
 // "Places past the last parameter are not looked at." An accepted table has at most 64 accessibles.
@@ -48,18 +47,15 @@ fn settings_unfit(table: &[u8], values: &[u8], settings: Settings) -> bool
     requires { (table_number table.now ≡ 0) × (16384 ≤ length values.now) }
     ensures { result ≡ settings_unfit settings values.now 0 (parameters (table_of table.now)) }
 {
-    let mut k = 0;
     let mut cursor = first_cursor(table);
-    while k < ACCESSIBLES {
+    for k in 0..ACCESSIBLES {
         let Some((p, next)) = next_parameter(table, cursor) else {
             return false;
         };
-        let info = p.info;
-        if setting_unfit(table, values, settings, k, info) {
+        if setting_unfit(table, values, settings, k, p.info) {
             return true;
         }
         cursor = next;
-        k += 1;
     }
     false
 }
@@ -69,8 +65,6 @@ pub fn is_unfit(table: &[u8], values: &[u8], state: Bare, lines: &[u8]) -> bool
     requires { (table_number table.now ≡ 0) × ((16384 ≤ length values.now) × (length lines.now ≡ 8192)) }
     ensures { result ≡ is_unfit (table_of table.now) (lined state lines.now) values.now }
 {
-    if clients_unfit(state.clients, lines, module_count(table)) {
-        return true;
-    }
-    settings_unfit(table, values, state.settings)
+    clients_unfit(state.clients, lines, module_count(table))
+        || settings_unfit(table, values, state.settings)
 }

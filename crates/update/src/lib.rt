@@ -52,9 +52,10 @@ fn put_update_to(
         (report_of «module».now accessible.now (held_by sensor value.now) time) (c ∷ []))) out.new result }
 {
     if is_active(clients, c, home) {
-        return put_update(out, at, c as u8, module, accessible, sensor, value, time);
+        put_update(out, at, c as u8, module, accessible, sensor, value, time)
+    } else {
+        at
     }
-    at
 }
 
 // "an update to each open client with M active ..": of a parameter of the module of number `home`, with a value unless its sensor fails
@@ -76,12 +77,10 @@ pub fn put_updates_to(
         (report_of «module».now accessible.now (held_by sensor value.now) time) client_numbers)) out.new result }
 {
     let mut end = at;
-    let mut c = 0;
-    while c < CLIENTS {
+    for c in 0..CLIENTS {
         end = put_update_to(
             out, end, clients, c, home, module, accessible, sensor, value, time,
         );
-        c += 1;
     }
     end
 }
@@ -112,16 +111,12 @@ fn put_shown<'a>(
     ensures { Puts out.old at (encode_all (cond (wanted scope (next.modules - 1))
         (update client (shown_report table.now settings values.now k p next) ∷ []) [])) out.new result }
 {
-    let home = next.modules - 1;
-    if !wants(scope, home) {
+    if !wants(scope, next.modules - 1) {
         return at;
     }
-    let home_name = next.name;
-    let module = bytes_of(table, home_name);
-    let own_name = p.name;
-    let name = bytes_of(table, own_name);
-    let initial = p.initial;
-    let value = shown(table, values, settings, k, initial);
+    let module = bytes_of(table, next.name);
+    let name = bytes_of(table, p.name);
+    let value = shown(table, values, settings, k, p.initial);
     let sensor = sensor_at(settings, k);
     let times = settings.time;
     put_update(out, at, client, module, name, sensor, value, times[k])
@@ -140,17 +135,25 @@ pub fn put_updates_of<'a>(
     ensures { Puts out.old 0 (encode_all (updates_of client (wanted scope)
         (view table.now (unlined state) values.now).values 0 (parameters (table_of table.now)))) out.new result }
 {
-    let settings = state.settings;
     let mut end = 0;
-    let mut k = 0;
     let mut cursor = first_cursor(table);
-    while k < ACCESSIBLES {
+    for k in 0..ACCESSIBLES {
         let Some((p, next)) = next_parameter(table, cursor) else {
             return end;
         };
-        end = put_shown(table, values, out, end, settings, client, scope, k, p, next);
+        end = put_shown(
+            table,
+            values,
+            out,
+            end,
+            state.settings,
+            client,
+            scope,
+            k,
+            p,
+            next,
+        );
         cursor = next;
-        k += 1;
     }
     end
 }
@@ -160,7 +163,5 @@ pub fn bytes_of(table: &[u8], p: Part) -> &[u8]
     requires { Inside table.now p }
     ensures { result.now ≡ bytes_of table.now p }
 {
-    let from = p.from;
-    let to = p.to;
-    &table[from..to]
+    &table[p.from..p.to]
 }

@@ -1,10 +1,6 @@
 -- `fitness::settings_unfit` meets its contract. The loop's invariant: the settings of the first k parameters are fit. Assumes nothing.
-use Prim.Native.Nat.{◌-◌, ◌≤◌}
 use Rattle.fitness.proofs.Unfits.{Passed}
 use Rattle.fitness.proofs.settings_unfit.Given as goal
 
 abbrev pub invariant-loop-k : goal.invariant-loop-k
-invariant-loop-k l = (l.k ≤ 64) × Passed l.table l.values l.settings l.k l.cursor
-
-abbrev pub decreases-loop-k : goal.decreases-loop-k
-decreases-loop-k l = 64 - l.k
+invariant-loop-k l = Passed l.table l.values l.settings l.k l.cursor

@@ -9,5 +9,5 @@ put_update-requires c = search (to_room, rules)
 pub returns-then-is_active : goal.returns-then-is_active
 returns-then-is_active c = search to_active
 
-pub returns : goal.returns
-returns c = search to_none
+pub returns-else-is_active : goal.returns-else-is_active
+returns-else-is_active c = search to_none

@@ -1,5 +1,4 @@
 -- `update::put_updates_to` meets its contract. The loop's invariant: the updates to the clients below c are written. Assumes nothing.
-use Prim.Native.Nat.{◌-◌, ◌≤◌}
 use mathlib.Core.List.{[]}
 use lib.ListN.{drop}
 use Rattle.message.specs.Clauses.Said.{held_by, report_of}
@@ -12,7 +11,4 @@ use Rattle.update.proofs.put_updates_to.Given as goal
 abbrev pub invariant-loop-c : goal.invariant-loop-c
 invariant-loop-c l = let s = client_at (with_lines l.clients []) in
     let r = report_of l.module l.accessible (held_by l.sensor l.value) l.time in
-    (l.c ≤ 8) × Going l.initial.out l.at (updates_to s l.home r client_numbers) (updates_to s l.home r (drop l.c client_numbers)) l.out l.end
-
-abbrev pub decreases-loop-c : goal.decreases-loop-c
-decreases-loop-c l = 8 - l.c
+    Going l.initial.out l.at (updates_to s l.home r client_numbers) (updates_to s l.home r (drop l.c client_numbers)) l.out l.end
