@@ -33,8 +33,7 @@ pub fn activate_all<'a>(
     ensures { (t : ℕ) → Comes table.now (unlined state) values.now out.old client t result values.now
         out.new (Request.activate None) }
 {
-    let clients = state.clients;
-    let active = clients.active;
+    let active = state.clients.active;
     let mask = active[client as usize];
     let all = with_bits(mask, module_count(table));
     let told = put_updates_of(table, values, out, state, client, Scope::All);
@@ -56,8 +55,7 @@ pub fn activate<'a>(
     ensures { (t : ℕ) → ComesTo table.now (unlined state) values.now out.old client t result values.now
         out.new (λ w n c t. activates w n c t (λ j. eqb j i) (Some «module».now)) }
 {
-    let clients = state.clients;
-    let active = clients.active;
+    let active = state.clients.active;
     let mask = active[client as usize];
     let more = with_bit(mask, i);
     let told = put_updates_of(table, values, out, state, client, Scope::Module(i));

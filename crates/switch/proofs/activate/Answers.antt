@@ -5,7 +5,6 @@ use mathlib.Core.List.{[]}
 use Rattle.state.specs.Clauses.Bare.{unlined}
 use Rattle.state.proofs.Becomes.{brief_sized}
 use Rattle.switch.proofs.Switches.{few, active_room, activated_one}
-use borrow.Author.Rules.{rules}
 use Rattle.switch.proofs.activate.Goals as goal
 
 pub with_bit-more-requires : goal.with_bit-more-requires

@@ -2,7 +2,6 @@
 use Rattle.std.specs.Prelude.{None}
 use mathlib.Core.Bool.{true}
 use mathlib.Core.List.{[]}
-use borrow.Author.Rules.{rules}
 use Rattle.fitness.proofs.Unfits.{few_counted}
 use Rattle.report.proofs.Faults.{accepted_readable}
 use Rattle.state.specs.Clauses.Bare.{unlined}

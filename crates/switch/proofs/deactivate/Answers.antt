@@ -1,7 +1,6 @@
 -- `switch::deactivate` meets its contract. Assumes nothing.
 use Rattle.std.specs.Prelude.{Some}
 use Rattle.switch.proofs.Switches.{inactive_room, one_inactive}
-use borrow.Author.Rules.{rules}
 use Rattle.switch.proofs.deactivate.Goals as goal
 
 pub without_bit-fewer-requires : goal.without_bit-fewer-requires
