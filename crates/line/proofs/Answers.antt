@@ -55,7 +55,7 @@ use Rattle.line.specs.Clauses.Answered.{AnswersLine, RepliesLine}
 use Rattle.line.specs.Clauses.Names.{SoughtFor}
 use Rattle.line.proofs.Seeks.{line_steps_lem}
 use Rattle.seek.specs.declared.locate.Placed.{Placed}
-use Rattle.message.specs.declared.line.Parsed as P
+use Rattle.message.specs.declared.line.Line.{Line}
 use Rattle.line.specs.Clauses.Concluded.{StatusNumbered, Concludable, Denies, Keeps, Passes, Switches, Sets, Concludes}
 use Rattle.line.proofs.Carried.{part_short}
 
@@ -264,7 +264,7 @@ module _ (table : List ℕ) (s : Bare) (values before : List ℕ) (c t : ℕ) (g
 
   -- a line without content seeks nothing
   pub bad_replied :
-      (index xs : List ℕ) (w : P.Parsed) → Parses xs w → w ≡ P.TheVariants.Bad → (after : List ℕ) (written : ℕ)
+      (index xs : List ℕ) (w : Option Line) → Parses xs w → w ≡ None → (after : List ℕ) (written : ℕ)
       → Puts before 0 (encode (final c (error [] [] (class (class_of ProtocolError))))) after written
       → RepliesLine table s values before c t index xs (record { answered = record { state = s; written = written }; steps = 0 }) values after
   unfolding request_steps parts_of before_space after_space take_while drop_while tail request same bytes

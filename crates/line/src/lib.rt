@@ -11,7 +11,7 @@ ghost use Rattle.state.specs.Clauses.Bare.{unlined};
 
 use conclude::{bytes_of, conclude};
 use locating::sought;
-use message::line::{Parsed, Part, Request, part_line, request_of};
+use message::line::{Part, Request, part_line, request_of};
 use message::say::{Class, Denial};
 use outbox::write::put_final_error;
 use outcome::{Answered, Replied};
@@ -107,12 +107,7 @@ pub fn answer_line(
     ensures { RepliesLine table.now state values.old out.old client time index.now
         line.now result values.new out.new }
 {
-    let Parsed::Line {
-        action,
-        specifier,
-        payload,
-    } = part_line(line)
-    else {
+    let Some(parts) = part_line(line) else {
         let denial = Denial::Class(Class::ProtocolError);
         let written = put_final_error(out, 0, client, b"", b"", denial);
         return Replied {
@@ -121,6 +116,16 @@ pub fn answer_line(
         };
     };
     reply_parts(
-        table, values, out, state, client, time, index, line, action, specifier, payload,
+        table,
+        values,
+        out,
+        state,
+        client,
+        time,
+        index,
+        line,
+        parts.action,
+        parts.specifier,
+        parts.payload,
     )
 }

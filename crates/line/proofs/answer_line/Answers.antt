@@ -14,4 +14,4 @@ pub returns-in_default : goal.returns-in_default
 returns-in_default c = search bad_replied
 
 pub reply_parts-requires : goal.reply_parts-requires
-reply_parts-requires c = (c.requires.0, (c.requires.1.0, (c.requires.1.1, subst (Parses c.args.line.now) c.in-Line.is c.part_line.ensures)))
+reply_parts-requires c = (c.requires.0, (c.requires.1.0, (c.requires.1.1, subst (Parses c.args.line.now) c.in-Some.is c.part_line.ensures)))
