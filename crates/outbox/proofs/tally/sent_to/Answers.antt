@@ -1,9 +1,6 @@
 use native.Mathlib.Omega.{arith}
-use Rattle.outbox.proofs.Tallied.{walk_begins, walk_on, walk_ends, error_low, update_low}
+use Rattle.outbox.proofs.Tallied.{walk_on, walk_ends, error_low, update_low}
 use Rattle.outbox.proofs.tally.sent_to.Goals as goal
-
-pub loop-at-init : goal.loop-at-init
-loop-at-init c = (omega arith, (omega arith, search walk_begins))
 
 pub overflow_add-errors : goal.overflow_add-errors
 overflow_add-errors c = omega (arith, error_low _ _ _ _ c.error_at-errors.ensures)

@@ -1,11 +1,7 @@
 -- `outbox::write::put_counted_record` meets its contract. Assumes nothing.
-use native.Mathlib.Omega.{arith}
 use Rattle.ascii.specs.Text.{bytes}
 use Rattle.outbox.proofs.Written.{line_0, line_1, line_2, line_3, line_all}
 use Rattle.outbox.proofs.write.put_counted_record.Goals as goal
-
-pub overflow_add-size : goal.overflow_add-size
-overflow_add-size c = omega (arith, line_0 _ _ _ _ _ _ c.counted_length-size.ensures c.requires)
 
 pub put_header-line-requires : goal.put_header-line-requires
 unfolding bytes

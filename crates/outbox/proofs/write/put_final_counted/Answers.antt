@@ -1,9 +1,6 @@
 -- `outbox::write::put_final_counted` meets its contract. Assumes nothing.
-use Rattle.outbox.proofs.Tallied.{text_part, text_room, text_put}
+use Rattle.outbox.proofs.Tallied.{text_room, text_put}
 use Rattle.outbox.proofs.write.put_final_counted.Goals as goal
-
-pub slice_bounds-put_counted_record-end : goal.slice_bounds-put_counted_record-end
-slice_bounds-put_counted_record-end c = text_part _ _ c.put_counts-end.ensures
 
 pub put_counted_record-requires : goal.put_counted_record-requires
 put_counted_record-requires c = text_room c.args.counts c.args.modules c.put_counts-end.ensures _ _ _ c.args.time c.requires

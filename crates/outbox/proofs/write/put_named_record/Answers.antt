@@ -1,4 +1,3 @@
-use native.Mathlib.Omega.{arith}
 use Rattle.outbox.proofs.Written.{report_names}
 use Rattle.ascii.specs.Text.{bytes}
 use Rattle.outbox.proofs.Written.{line_0, line_1, line_2, line_3, line_all}
@@ -6,9 +5,6 @@ use Rattle.outbox.proofs.write.put_named_record.Goals as goal
 
 pub named_length-size-requires : goal.named_length-size-requires
 named_length-size-requires c = search report_names
-
-pub overflow_add-size : goal.overflow_add-size
-overflow_add-size c = omega (arith, line_0 _ _ _ _ _ _ c.named_length-size.ensures c.requires)
 
 pub put_header-line-requires : goal.put_header-line-requires
 unfolding bytes
