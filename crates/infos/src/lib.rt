@@ -18,8 +18,8 @@ ghost use Rattle.infos.specs.Clauses.Texts.{NameEnds, NamesOptional, StaysFirst,
 ghost use Rattle.infos.specs.Clauses.Texts.{member_text};
 ghost use Rattle.infos.specs.Clauses.Texts.{count_text, list_text};
 
+use ascii::byte;
 use ascii::numbers::{signed, unsigned};
-use ascii::{byte};
 use datainfo::layout::{field_end, member_end, named_end, wide};
 use datainfo::rules::{limit_at, named_at};
 use emit::{

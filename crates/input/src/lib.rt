@@ -27,7 +27,8 @@ pub fn read_full<R: Read>(input: &mut R, space: &mut [u8]) -> io::Result<usize>
 
 // The next byte, or 0 at the end of the input.
 pub fn read_byte<R: Read>(input: &mut R) -> io::Result<u8>
-    ensures byte { IfOk result (λ b. Consumes (R.remaining input.old) (R.remaining input.new) (b ∷ []) ⊎ (Consumes (R.remaining input.old) (R.remaining input.new) [] × IsAtEnd (R.remaining input.new) × (b ≡ 0))) }
+    ensures byte { IfOk result (λ b. Consumes (R.remaining input.old) (R.remaining input.new) (b ∷ [])
+        ⊎ (Consumes (R.remaining input.old) (R.remaining input.new) [] × IsAtEnd (R.remaining input.new) × (b ≡ 0))) }
 {
     let mut space = [0; 1];
     let n = read_full(input, &mut space)?;

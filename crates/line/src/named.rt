@@ -16,7 +16,7 @@ use message::say::Class;
 use outcome::Outcome;
 use search::locate::Located;
 use state::Bare;
-use table::edition::{edition_of};
+use table::edition::edition_of;
 use table::layout::{CommandAt, ParameterAt};
 
 // The error where what a verb takes is not there.

@@ -25,7 +25,7 @@ use search::locate::Located;
 use state::Bare;
 use state::bits::bit_count;
 use state::count::counts_of;
-use table::edition::{edition_of};
+use table::edition::edition_of;
 
 // The identification of the first edition, or the one that the table gives.
 fn identify(table: &[u8], out: &mut [u8], client: u8) -> Outcome

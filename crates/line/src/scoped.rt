@@ -8,7 +8,7 @@ ghost use Rattle.state.specs.Clauses.Bare.{unlined};
 use message::line::Switch;
 use message::say::Class;
 use outcome::Outcome;
-use search::find::{find_module};
+use search::find::find_module;
 use state::Bare;
 use switch::{activate, activate_all, deactivate, deactivate_all};
 

@@ -18,7 +18,7 @@ use std::rt::Files;
 use std::{env, io};
 use summary::figured::put_figures;
 use summary::{put_start, put_summary};
-use time::{time_argument};
+use time::time_argument;
 
 // A table that is too long is refused (1), so one byte more than the longest is enough.
 const TABLE: usize = 16385;

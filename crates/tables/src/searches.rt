@@ -5,10 +5,7 @@ ghost use Rattle.table.specs.Layout.{Readable};
 
 use describe::judge::table_number;
 use input::{read_byte, read_full};
-use search::find::{
-    find_command, find_module, find_parameter,
-    module_count, parameter_by_number,
-};
+use search::find::{find_command, find_module, find_parameter, module_count, parameter_by_number};
 use std::io;
 use std::io::{Read, Write};
 use table::layout::{CommandAt, ParameterAt, is_readable};

@@ -1,6 +1,7 @@
 -- What the code promises that asks number 3 (good names) or number 4 (its own rules) of a datainfo in the table's bytes. Both are asked of
 -- a datainfo and of each inside it; `names` says which one. The steps of the walk say nothing of what can't be read. Assumes nothing.
-use Rattle.std.specs.Prelude.{ℕ, zero, suc, ◌≤◌, ◌≡◌, Bool, true, false, cond, not, ◌&&◌, List, [], ◌∷◌, map, length, get_or, take, drop, eqb, ℤ, pos, Option, Some, None, unwrap_or}
+use Rattle.std.specs.Prelude.{ℕ, zero, suc, ◌≤◌, ◌≡◌, Bool, true, false, cond, not, ◌&&◌, List, [], ◌∷◌, map, length, get_or}
+use Rattle.std.specs.Prelude.{take, drop, eqb, ℤ, pos, Option, Some, None, unwrap_or}
 use Rattle.ascii.specs.Bytes.{◌>>=◌, all, any, same}
 use Rattle.ascii.specs.Names.{is_name, lowercase}
 use Rattle.ascii.specs.Numbers.{unsigned, signed}

@@ -1,6 +1,7 @@
 -- What the code keeps of a parameter's settings, and how that stands for their figures. A number from -2,147,483,648 on is kept as how far it lies above
 -- that, so that all that is kept is no negative number. Assumes nothing.
-use Rattle.std.specs.Prelude.{ℕ, ◌+◌, ◌-◌, ◌*◌, ◌≤◌, Bool, true, cond, List, [], ◌∷◌, ◌++◌, map, ◌≡◌, eqb, ltb, leb, ℤ, pos, negsuc, length, get_or, set, drop, Some}
+use Rattle.std.specs.Prelude.{ℕ, ◌+◌, ◌-◌, ◌*◌, ◌≤◌, Bool, true, cond, List, [], ◌∷◌, ◌++◌, map, ◌≡◌, eqb, ltb}
+use Rattle.std.specs.Prelude.{leb, ℤ, pos, negsuc, length, get_or, set, drop, Some}
 use Rattle.std.proofs.Math.IntN.{sub_ℕ}
 use Rattle.ascii.specs.Text.{bytes}
 use Rattle.ascii.specs.Numbers.{decimal, integer, signed}
