@@ -1,18 +1,16 @@
 -- What is counted, and the plain node that a state stands for (M-108). Assumes nothing.
-use Prim.Native.Nat.{ℕ, zero, suc, ◌+◌, ◌^◌, ◌≤◌, ◌<◌}
+use Prim.Native.Nat.{ℕ, zero, suc, ◌+◌, ◌≤◌, ◌<◌}
 use native.Mathlib.Nat.{add-zero, zero-add}
 use native.Mathlib.Omega.{arith}
 use borrow.Author.Tests.{eqb-true, eqb-false, ltb-true, ltb-false, lt-ltb, le-ltb}
 use mathlib.Core.Bool.{Bool, true, false, cond}
 use mathlib.Core.List.{List}
 use mathlib.Core.Path.{◌≡◌, refl, sym, ap, ap₂, ◌∙◌, fun_ext}
-use denote.Shadow.{shadow}
-use mir.Val.{Val}
 use lib.Dec.{eqb, ltb}
 use lib.ListN.{length, get_or, set, length-set}
 use lib.Seq.{get_or-set_same, get_or-set_other}
 use Rattle.counter.specs.declared.Counts.{Counts}
-use Rattle.counter.specs.Counts.{no_counts, stopping, lines_counted, all_counted}
+use Rattle.counter.specs.Counts.{no_counts, lines_counted, all_counted}
 use Rattle.outbox.specs.Outbox.{Record}
 use Rattle.outbox.specs.Sent.{errors_sent, updates_sent}
 use Rattle.outbox.specs.Clauses.Tallied.{Holds}
@@ -20,8 +18,6 @@ use Rattle.plain.specs.Node.{put, with_count, with_counts, counting}
 use Rattle.plain.proofs.Counts.{counted_twice, line_counted_lem, NoneTo}
 use Rattle.state.specs.declared.Bare.{Bare}
 use Rattle.state.specs.declared.State.{State}
-use Rattle.state.specs.contracts.State.{the_type, the_field}
-use Rattle.state.specs.contracts.Bare as Bared
 use Rattle.state.specs.View.{counts_at, view, next_counts}
 use Rattle.state.specs.Fit.{is_unfit}
 use Rattle.table.specs.Table.{Table}
@@ -119,21 +115,6 @@ module _ (table : List ℕ) (s : State) (values : List ℕ) (size : length s.cou
 
 -- ## The code that counts
 
--- how many elements the array has, as the fields of a struct are handed to a proof
-pub counts_sized : (s : State) {v : List Val} → shadow (the_field.row.own_val (the_type.to s) v) → length s.counts ≡ 8
-counts_sized s g = g.1.1.1.1.0.1.0.1
-
--- the same of a state without its lines
-pub bare_sized : (s : Bare) {v : List Val} → shadow ((Bared.the_field).row.own_val ((Bared.the_type).to s) v) → length s.counts ≡ 8
-bare_sized s g = g.1.1.1.1.0.1.0.1
-
-stays : (k : ℕ) → k < 2 ^ 32 → k ≡ stopping k 0
-stays k h = omega arith
-
--- a count of 32 bits
-pub low_stays : (x : Counts) → x.lines < 2 ^ 32 → x.errors < 2 ^ 32 → x.updates < 2 ^ 32 → x ≡ all_counted x 0 0 0
-low_stays x p q r = λ i. record { lines = stays x.lines p i; errors = stays x.errors q i; updates = stays x.updates r i }
-
 module _ (xs counts : List Counts) (out : List ℕ) (written c : ℕ) (h : (rs : List Record) → Holds out written rs → counts ≡ sent_counted xs rs c) where
   -- one client more
   pub sent_step : (x : Counts) → ((rs : List Record) → Holds out written rs → x ≡ with_sent (get_or counts c no_counts) rs c)
@@ -143,10 +124,6 @@ module _ (xs counts : List Counts) (out : List ℕ) (written c : ℕ) (h : (rs :
       let next : c + 1 ≡ suc c = omega arith in
       ap₂ (λ (l : List Counts) (z : Counts). set l c z) (h rs k) (y rs k ∙ ap (λ (l : List Counts). with_sent (get_or l c no_counts) rs c) (h rs k))
       ∙ ap (sent_counted xs rs) (sym next)
-
-  -- all eight
-  pub sent_ends : c ≤ 8 → 8 ≤ c → (rs : List Record) → Holds out written rs → counts ≡ sent_counted xs rs 8
-  sent_ends p q rs k = let e : c ≡ 8 = omega arith in h rs k ∙ ap (sent_counted xs rs) e
 
 -- a state whose counts alone are others
 pub counts_fit : (w : Table) (s r : State) (values : List ℕ) (xs : List Counts) → r ≡ next_counts s xs → is_unfit w s values ≡ false → is_unfit w r values ≡ false

@@ -4,11 +4,11 @@ use native.Mathlib.Nat.{zero-div, div-one, mod-lt, mod-eq_of_lt, one-mul, pow-su
 use native.Mathlib.Omega.{arith}
 use mathlib.Core.Path.{◌≡◌, refl, sym, ap, ◌∙◌}
 use mathlib.Core.Bool.{Bool, true, false, cond, not, ◌&&◌, ◌||◌, false≢true}
-use lib.Dec.{eqb, ltb, eqb-zero-suc, eqb-suc-zero, eqb-suc-suc}
+use lib.Dec.{eqb, eqb-zero-suc, eqb-suc-zero, eqb-suc-suc}
 use lib.Arith.{bin_ind}
 use lib.Bits.{bit_or, bit_xor, differ, or_shr, xor_shr, or_step, xor_step}
 use lib.Pow.{pow_pos, pow-lt, shr-shr}
-use borrow.Author.Tests.{eqb-true, eqb-false, ltb-true, ltb-false, lt-ltb, le-ltb, not-false}
+use borrow.Author.Tests.{eqb-true, eqb-false, not-false}
 use Rattle.state.specs.View.{bit}
 use Rattle.state.specs.Fit.{past_last}
 
@@ -134,30 +134,3 @@ not_past mask m h j l =
     let e : m + (j - m) ≡ j = omega arith in
     ap (λ (n : ℕ). eqb (n % 2) 1) (ap (λ (k : ℕ). mask / 2 ^ k) (sym e) ∙ sym (shr-shr mask m (j - m)) ∙ ap (λ (n : ℕ). n / 2 ^ (j - m)) z)
     ∙ no_bit (j - m)
-
--- one more of the first bits
-less_more : (j i : ℕ) → ltb j i || eqb j i ≡ ltb j (i + 1)
-less_more j i = go (ltb j i) (eqb j i) (ltb-true j i) (ltb-false j i) (eqb-true j i) (eqb-false j i)
-  where
-    go : (t u : Bool) → (t ≡ true → j < i) → (t ≡ false → i ≤ j) → (u ≡ true → j ≡ i) → (u ≡ false → j ≡ i → ⊥) → t || u ≡ ltb j (i + 1)
-    go true u a b c d = let h = a refl in sym (lt-ltb j (i + 1) (omega arith))
-    go false true a b c d = let h = c refl in sym (lt-ltb j (i + 1) (omega arith))
-    go false false a b c d =
-        let h = b refl in
-        let k = d refl in
-        sym (le-ltb j (i + 1) (omega arith))
-
-pub more_bits : (mask all r n : ℕ) → ((j : ℕ) → bit all j ≡ bit mask j || ltb j n) → ((j : ℕ) → bit r j ≡ bit all j || eqb j n) → (j : ℕ) → bit r j ≡ bit mask j || ltb j (n + 1)
-more_bits mask all r n h k j =
-    k j ∙ ap (λ (x : Bool). x || eqb j n) (h j) ∙ go (bit mask j) (ltb j n) (eqb j n) (ltb j (n + 1)) (less_more j n)
-  where
-    go : (p q t s : Bool) → q || t ≡ s → (p || q) || t ≡ p || s
-    go true q t s e = refl
-    go false q t s e = e
-
-pub first_bits : (mask j : ℕ) → bit mask j ≡ bit mask j || ltb j 0
-first_bits mask j = go (bit mask j) ∙ ap (λ (t : Bool). bit mask j || t) (sym (le-ltb j 0 (omega arith)))
-  where
-    go : (p : Bool) → p ≡ p || false
-    go true = refl
-    go false = refl

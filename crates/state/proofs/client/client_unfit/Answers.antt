@@ -1,13 +1,9 @@
 -- `state::client::client_unfit` meets its contract. Assumes nothing.
 use Rattle.state.proofs.Judged.{unfit_long, unfit_feed, unfit_dropped, unfit_past, unfit_closed}
-use native.Mathlib.Omega.{arith}
 use Rattle.state.proofs.client.client_unfit.Goals as goal
 
 pub returns-then-length-gt-LINE : goal.returns-then-length-gt-LINE
 returns-then-length-gt-LINE c = search unfit_long
-
-pub slice_bounds-has_feed-end : goal.slice_bounds-has_feed-end
-slice_bounds-has_feed-end c = omega (arith, c.requires.1.1)
 
 pub returns-then-has_feed : goal.returns-then-has_feed
 returns-then-has_feed c = search unfit_feed

@@ -1,13 +1,9 @@
 use Rattle.state.proofs.Judged.{unfit_at, any_found, any_more, any_none}
 use native.Mathlib.Omega.{arith}
-use mathlib.Core.Path.{refl}
 use Rattle.plain.specs.Node.{client_numbers}
 use Rattle.state.specs.Fit.{client_unfit}
 use Rattle.state.specs.Clauses.Bare.{with_lines}
 use Rattle.state.proofs.client.clients_unfit.Goals as goal
-
-pub loop-c-init : goal.loop-c-init
-loop-c-init c = refl
 
 pub returns-then-client_unfit : goal.returns-then-client_unfit
 returns-then-client_unfit c = let args = c.args in
