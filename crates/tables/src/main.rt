@@ -18,25 +18,18 @@ fn number(high: u8, middle: u8, low: u8) -> usize {
 }
 
 // Whether a part of the buffer for reports is as it was made.
-fn is_untouched(out: &[u8], from: usize, to: usize) -> bool
-    requires { to ≤ length out.now }
-{
-    for i in from..to {
-        if out[i] != 165 {
-            return false;
-        }
-    }
-    true
+fn is_untouched(part: &[u8]) -> bool {
+    part.iter().all(|b| *b == 165)
 }
 
 // No byte of a report is 165, so that one that was written before or after it would show.
 fn write_stray<W: Write>(output: &mut W, out: &[u8], from: usize, to: usize) -> io::Result<()>
     requires { (from ≤ length out.now) × (to ≤ length out.now) }
 {
-    if !is_untouched(out, 0, from) {
+    if !is_untouched(&out[..from]) {
         output.write_all(b" written before")?;
     }
-    if !is_untouched(out, to, out.len()) {
+    if !is_untouched(&out[to..]) {
         output.write_all(b" written after")?;
     }
     Ok(())
@@ -53,7 +46,7 @@ fn report_in(s: &[u8], out: &mut [u8]) -> usize
 fn write_length<W: Write>(output: &mut W, s: &[u8]) -> io::Result<()>
     requires { table_number s.now ≡ 0 }
 {
-    searches::write_number(output, b" ", report_length(s))
+    write!(output, " {}", report_length(s))
 }
 
 fn write_report<W: Write>(output: &mut W, s: &[u8], out: &mut [u8]) -> io::Result<()>

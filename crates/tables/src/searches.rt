@@ -8,22 +8,14 @@ use input::{read_byte, read_full};
 use search::find::{find_command, find_module, find_parameter, module_count, parameter_by_number};
 use std::io;
 use std::io::{Read, Write};
-use table::layout::{CommandAt, ParameterAt, is_readable};
-
-// What stands before a number, and the number.
-pub(crate) fn write_number<W: Write>(output: &mut W, label: &[u8], n: usize) -> io::Result<()> {
-    output.write_all(label)?;
-    write!(output, "{n}")
-}
+use table::layout::{CommandAt, ParameterAt, Part, is_readable};
 
 fn write_nothing<W: Write>(output: &mut W) -> io::Result<()> {
     output.write_all(b"none\n")
 }
 
 fn write_module<W: Write>(output: &mut W, number: usize, at: usize) -> io::Result<()> {
-    write_number(output, b"module ", number)?;
-    write_number(output, b" at ", at)?;
-    output.write_all(b"\n")
+    writeln!(output, "module {number} at {at}")
 }
 
 // A parameter's number, its module's, and where its datainfo and its initial value lie.
@@ -33,16 +25,12 @@ fn write_parameter<W: Write>(
     home: usize,
     q: ParameterAt,
 ) -> io::Result<()> {
-    write_number(output, b"parameter ", number)?;
-    write_number(output, b" of ", home)?;
+    write!(output, "parameter {number} of {home}")?;
     if q.readonly {
         output.write_all(b" readonly")?;
     }
-    let initial = q.initial;
-    write_number(output, b" datainfo ", q.info)?;
-    write_number(output, b" initial ", initial.from)?;
-    write_number(output, b" to ", initial.to)?;
-    output.write_all(b"\n")
+    let Part { from, to } = q.initial;
+    writeln!(output, " datainfo {} initial {from} to {to}", q.info)
 }
 
 // A command's number, its module's, and where its argument's datainfo lies, if it has one.
@@ -52,10 +40,9 @@ fn write_command<W: Write>(
     home: usize,
     q: CommandAt,
 ) -> io::Result<()> {
-    write_number(output, b"command ", number)?;
-    write_number(output, b" of ", home)?;
+    write!(output, "command {number} of {home}")?;
     if q.argument {
-        write_number(output, b" argument ", q.info)?;
+        write!(output, " argument {}", q.info)?;
     }
     output.write_all(b"\n")
 }
@@ -126,8 +113,7 @@ fn find_number_in<R: Read, W: Write>(input: &mut R, output: &mut W, s: &[u8]) ->
 fn count_modules<W: Write>(output: &mut W, s: &[u8]) -> io::Result<()>
     requires { Readable s.now }
 {
-    write_number(output, b"modules ", module_count(s))?;
-    output.write_all(b"\n")
+    writeln!(output, "modules {}", module_count(s))
 }
 
 // The table's number, judged 1,000 times, to measure how long that takes.
@@ -140,8 +126,7 @@ fn judged_again(s: &[u8]) -> u8 {
 }
 
 fn judge_again<W: Write>(output: &mut W, s: &[u8]) -> io::Result<()> {
-    write_number(output, b"again ", judged_again(s) as usize)?;
-    output.write_all(b"\n")
+    writeln!(output, "again {}", judged_again(s))
 }
 
 // One search of a kind in a table that can be read; whether there is such a kind.
