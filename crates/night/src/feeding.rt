@@ -13,15 +13,8 @@ pub(crate) struct Turn {
     pub replay: Replay,
 }
 
-// Whether there may be more to play: not at the end of the file, nor after a wrong record, which ends the trace. So a pipe that has no end is told too.
-fn goes_on(n: usize, stopped: bool) -> bool {
-    if stopped {
-        return false;
-    }
-    n != 0
-}
-
-// Reads once and plays what came. Where the file can't be read, that is said.
+// Reads once and plays what came. There may be more to play but at the end of the file and after a wrong record, which ends the trace: so a pipe that has no
+// end is told too. Where the file can't be read, that is said.
 fn feed_some<R: Read>(
     rt: &impl Eprint,
     table: &[u8],
@@ -47,14 +40,13 @@ fn feed_some<R: Read>(
     };
     let next = feed(table, values, outbox, replay, &buffer[..n]);
     Turn {
-        more: goes_on(n, next.reader.stopped),
+        more: n != 0 && !next.reader.stopped,
         failed: false,
         replay: next,
     }
 }
 
-// All of the file, up to a wrong record. A proved loop has to end, and nothing says that a file does: it counts its turns down, from a number that no run
-// uses up.
+// All of the file, up to a wrong record. A proved loop has to end, and nothing says that a file does: it has more turns than any run uses up.
 pub(crate) fn feed_all<R: Read>(
     rt: &impl Eprint,
     table: &[u8],
@@ -67,14 +59,12 @@ pub(crate) fn feed_all<R: Read>(
     ensures { Running table.now (length outbox.old) result.replay values.new }
 {
     let mut next = replay;
-    let mut turns: u64 = 18446744073709551615;
-    while turns > 0 {
+    for _ in 0..u64::MAX {
         let turn = feed_some(rt, table, values, outbox, next, trace);
         next = turn.replay;
         if !turn.more {
             return turn;
         }
-        turns -= 1;
     }
     Turn {
         more: true,
