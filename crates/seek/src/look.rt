@@ -27,12 +27,8 @@ fn offered(s: &[u8], k: usize, module: &[u8], name: &[u8]) -> Option<(Accessible
     requires { table_number s.now ≡ 0 }
     ensures { Finds s.now result (offered (is_named «module».now name.now) (accessibles (table_of s.now)) k) }
 {
-    let Some((a, v)) = numbered(s, k) else {
-        return None;
-    };
-    let c = v.cursor;
-    let home = c.name;
-    if !are_named(s, home, name_of(a), module, name) {
+    let (a, v) = numbered(s, k)?;
+    if !are_named(s, v.cursor.name, name_of(a), module, name) {
         return None;
     }
     Some((a, v))
@@ -76,22 +72,18 @@ fn walk(s: &[u8], module: &[u8], name: &[u8]) -> Sought
         (walked (is_named «module».now name.now) (accessibles (table_of s.now))) }
 {
     let mut w = begin(s);
-    loop {
-        let Some((a, v)) = advance(s, w) else {
-            return Sought {
-                found: None,
-                steps: w.accessibles,
-            };
-        };
-        let c = v.cursor;
-        let home = c.name;
-        if are_named(s, home, name_of(a), module, name) {
+    while let Some((a, v)) = advance(s, w) {
+        if are_named(s, v.cursor.name, name_of(a), module, name) {
             return Sought {
                 found: Some((a, v)),
                 steps: v.accessibles,
             };
         }
         w = v;
+    }
+    Sought {
+        found: None,
+        steps: w.accessibles,
     }
 }
 

@@ -30,28 +30,25 @@ pub fn advance(s: &[u8], w: Walk) -> Option<(Accessible, Walk)>
     requires { Passed s.now w }
     ensures { StepIs s.now w result }
 {
-    let c = w.cursor;
-    let Some((a, e)) = next_accessible(s, c) else {
-        return None;
-    };
+    let (a, cursor) = next_accessible(s, w.cursor)?;
     let accessibles = w.accessibles + 1;
     match a {
         Accessible::Parameter(_) => Some((
             a,
             Walk {
-                cursor: e,
+                cursor,
                 accessibles,
                 parameters: w.parameters + 1,
-                commands: w.commands,
+                ..w
             },
         )),
         Accessible::Command(_) => Some((
             a,
             Walk {
-                cursor: e,
+                cursor,
                 accessibles,
-                parameters: w.parameters,
                 commands: w.commands + 1,
+                ..w
             },
         )),
     }
@@ -63,13 +60,11 @@ pub fn numbered(s: &[u8], k: usize) -> Option<(Accessible, Walk)>
     ensures { NumberedIs s.now k result }
 {
     let mut w = begin(s);
-    loop {
-        let Some((a, v)) = advance(s, w) else {
-            return None;
-        };
+    while let Some((a, v)) = advance(s, w) {
         if w.accessibles == k {
             return Some((a, v));
         }
         w = v;
     }
+    None
 }

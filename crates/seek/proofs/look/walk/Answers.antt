@@ -12,8 +12,8 @@ loop-a-init c = search vain_start
 pub advance-requires : goal.advance-requires
 advance-requires c = search vain_passed
 
-pub returns-in_default : goal.returns-in_default
-returns-in_default c = search walk_end
+pub returns : goal.returns
+returns c = search walk_end
 
 pub are_named-requires : goal.are_named-requires
 are_named-requires c = (search step_home, search step_name)

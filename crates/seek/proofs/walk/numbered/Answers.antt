@@ -7,8 +7,8 @@ loop-a-init c = search before_start
 pub advance-requires : goal.advance-requires
 advance-requires c = search before_passed
 
-pub returns-in_default : goal.returns-in_default
-returns-in_default c = search number_none
+pub returns : goal.returns
+returns c = search number_none
 
 pub returns-then-w-k : goal.returns-then-w-k
 returns-then-w-k c = search number_there
