@@ -51,9 +51,7 @@ pub(crate) fn status_of(
     if !same(name, b"target") {
         return None;
     }
-    let Some((k, home, q)) = find_parameter(table, module, b"status") else {
-        return None;
-    };
+    let (k, home, q) = find_parameter(table, module, b"status")?;
     admitted(table, k, home, q, text)
 }
 

@@ -11,14 +11,14 @@ returns-then-not-same c = search other_stays
 pub find_parameter-requires : goal.find_parameter-requires
 find_parameter-requires c = search accepted_readable
 
-pub returns-in_default : goal.returns-in_default
+pub returns-in_err-k : goal.returns-in_err-k
 unfolding bytes
-returns-in_default c = search none_stays
+returns-in_err-k c = rw c.from_residual.ensures (search (none_stays, c.in_err-k.was))
 
 pub admitted-requires : goal.admitted-requires
 unfolding bytes
-admitted-requires c = search status_readable
+admitted-requires c = search (status_readable, c.in_ok-k.was)
 
 pub returns : goal.returns
 unfolding bytes
-returns c = search status_found
+returns c = search (status_found, c.in_ok-k.was)
