@@ -38,15 +38,13 @@ pub fn put_figures(table: &[u8], out: &mut [u8], figures: Figures) -> usize
     ensures { Puts out.old 0 (figures_of table.now figures) out.new result × (result ≤ 32768) }
 {
     let mut end = 0;
-    let mut k = 0;
     let mut cursor = first_cursor(table);
-    while k < ACCESSIBLES {
+    for k in 0..ACCESSIBLES {
         let Some((p, next)) = next_parameter(table, cursor) else {
             return end;
         };
         end = emit_figure(table, out, end, figures, k, p, next);
         cursor = next;
-        k += 1;
     }
     end
 }

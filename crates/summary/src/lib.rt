@@ -99,15 +99,13 @@ fn put_values<'a>(table: &'a [u8], values: &'a [u8], out: &mut [u8], state: Stat
 {
     let settings = state.settings;
     let mut end = 0;
-    let mut k = 0;
     let mut cursor = first_cursor(table);
-    while k < ACCESSIBLES {
+    for k in 0..ACCESSIBLES {
         let Some((p, next)) = next_parameter(table, cursor) else {
             return end;
         };
         end = put_shown(table, values, out, end, settings, k, p, next);
         cursor = next;
-        k += 1;
     }
     end
 }
@@ -133,10 +131,8 @@ fn put_refusals(out: &mut [u8], at: usize, refused: [u64; 19]) -> usize
     ensures { Puts out.old at (refused_lines 18 1 (count_at refused)) out.new result × (result ≤ at + 576) }
 {
     let mut end = at;
-    let mut k = 1;
-    while k < 19 {
+    for k in 1..19 {
         end = put_refused(out, end, k as u64, refused[k]);
-        k += 1;
     }
     end
 }

@@ -7,6 +7,3 @@ use Rattle.summary.proofs.put_refusals.Given as goal
 
 abbrev pub invariant-loop-k : goal.invariant-loop-k
 invariant-loop-k l = Counting l.initial.out l.at (count_at l.refused) l.k l.out l.end
-
-abbrev pub decreases-loop-k : goal.decreases-loop-k
-decreases-loop-k l = 19 - l.k

@@ -8,6 +8,3 @@ use Rattle.summary.proofs.figured.put_figures.Given as goal
 
 abbrev pub invariant-loop-k : goal.invariant-loop-k
 invariant-loop-k l = (l.k ≤ 64) × Telling l.table l.figures l.initial.out l.k l.cursor l.out l.end
-
-abbrev pub decreases-loop-k : goal.decreases-loop-k
-decreases-loop-k l = 64 - l.k
