@@ -1,5 +1,5 @@
 -- The status that a change sets first: which one the code finds, and that it stands for the plain node's. Assumes nothing.
-use Rattle.std.specs.Prelude.{Option, Some, None, Result}
+use Rattle.std.specs.Prelude.{Option, Some, None}
 use Prim.Native.Nat.{ℕ, ◌+◌, ◌*◌, ◌≤◌, ◌<◌}
 use native.Mathlib.Omega.{arith}
 use mathlib.Core.Path.{◌≡◌, refl, sym, subst, ◌∙◌}
@@ -10,10 +10,8 @@ use lib.Seq.{length-sets}
 use Rattle.ascii.specs.Text.{bytes}
 use Rattle.ascii.specs.Bytes.{same}
 use Rattle.ascii.specs.Clauses.Writer.{Puts}
-use Rattle.datainfo.specs.Datainfo.{Datainfo}
 use Rattle.datainfo.specs.Layout.{datainfo_at, ReadableAt}
 use Rattle.fit.specs.Fit.{verdict, is_fit}
-use Rattle.fit.specs.Clauses.Verdict.{meaning, JudgesText}
 use Rattle.table.specs.Table.{Parameter}
 use Rattle.table.specs.Layout.{table_of}
 use Rattle.table.specs.Search.{Placed, find_parameter}
@@ -33,7 +31,6 @@ use Rattle.state.specs.View.{client_at, with_stored, with_held, area_with}
 use Rattle.outcome.specs.Clauses.Outcome.{status_settings, stored_by, StatusHolds}
 use Rattle.access.specs.Clauses.Busy.{StatusLow, Admits, StatusIs, FindsStatus, with_status, status_updates}
 use Rattle.access.proofs.Finding.{ParameterKnown, parameter_known, info_known}
-use Rattle.fit.specs.declared.Misfit.{Misfit}
 
 pub status_length : (values : List ℕ) (z : Option (ℕ × ℕ)) (b : List ℕ) → length (with_status values z b) ≡ length values
 unfolding with_stored
@@ -84,15 +81,6 @@ module _ (z : Option (ℕ × ℕ)) (l : StatusLow z) where
 
     pub told_none : (s : Clients) (m b : List ℕ) (t : ℕ) (out : List ℕ) (at : ℕ) → Puts out at (encode_all (status_updates s z m b t)) out at
     told_none s m b t out at = rw e (puts_none out)
-
--- ## Whether it is admitted
-
-module _ (o : Option (Datainfo × List ℕ)) (v : List ℕ) (k h : ℕ) (a : Result Unit Misfit) (j : JudgesText o v a) (t : Bool) (e : t ≡ is_fit (meaning a)) where
-  pub admitted_busy : t ≡ true → Admits o v k h (Some (k, h))
-  admitted_busy q = record { is = λ i. rw (← (j.is i), ← e, q) }
-
-  pub admitted_stays : t ≡ false → Admits o v k h None
-  admitted_stays q = record { is = λ i. rw (← (j.is i), ← e, q) }
 
 -- ## Which one it is
 

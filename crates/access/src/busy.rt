@@ -31,11 +31,7 @@ fn admitted(
     requires { ReadableAt table.now q.info 4 }
     ensures { Admits (datainfo_at (drop q.info table.now)) text.now k home result }
 {
-    let info = q.info;
-    if is_fit(verdict(table, info, text)) {
-        return Some((k, home));
-    }
-    None
+    is_fit(verdict(table, q.info, text)).then_some((k, home))
 }
 
 // "a parameter named `target`, in a module with a parameter named `status`": what a change of the parameter of these names sets first
@@ -60,11 +56,8 @@ pub(crate) fn store_status(values: &mut [u8], status: Option<(usize, usize)>, te
     requires { StatusLow status × ((16384 ≤ length values.old) × (length text.now ≤ 256)) }
     ensures { values.new ≡ with_status values.old status text.now }
 {
-    match status {
-        None => {}
-        Some((k, _)) => {
-            put(values, PLACE * k, text);
-        }
+    if let Some((k, _)) = status {
+        put(values, PLACE * k, text);
     }
 }
 

@@ -20,11 +20,10 @@ fn null_verdict(text: &[u8]) -> Result<(), Misfit>
     if !is_text(text) {
         return Err(Misfit::BadJson);
     }
-    let at = spaces_end(text, 0);
-    if byte(text, at) == b'n' {
-        return Ok(());
+    match byte(text, spaces_end(text, 0)) {
+        b'n' => Ok(()),
+        _ => Err(Misfit::WrongType),
     }
-    Err(Misfit::WrongType)
 }
 
 // The verdict on a text by the argument that is declared at `info`, or by none.
@@ -38,9 +37,10 @@ pub(crate) fn argument_verdict(
     ensures { JudgesArgument (argument_at argument (drop info table.now)) text.now result }
 {
     if argument {
-        return verdict(table, info, text);
+        verdict(table, info, text)
+    } else {
+        null_verdict(text)
     }
-    null_verdict(text)
 }
 
 // "the argument's stored form, or nothing where none is declared"

@@ -27,10 +27,7 @@ fn class_of(misfit: Misfit) -> Class
 pub(crate) fn let_in(verdict: Result<(), Misfit>) -> Result<(), Class>
     ensures { Lets false (meaning verdict) result }
 {
-    match verdict {
-        Ok(()) => Ok(()),
-        Err(misfit) => Err(class_of(misfit)),
-    }
+    verdict.map_err(class_of)
 }
 
 // A value for a parameter. "Order: .., ReadOnly, BadJSON, WrongType, RangeError."
@@ -38,10 +35,8 @@ pub(crate) fn judge_change(table: &[u8], q: ParameterAt, text: &[u8]) -> Result<
     requires { ReadableAt table.now q.info 4 }
     ensures { JudgesChange (datainfo_at (drop q.info table.now)) q.readonly text.now result }
 {
-    let readonly = q.readonly;
-    if readonly {
+    if q.readonly {
         return Err(Class::ReadOnly);
     }
-    let info = q.info;
-    let_in(verdict(table, info, text))
+    let_in(verdict(table, q.info, text))
 }

@@ -44,16 +44,13 @@ pub fn read<'a>(
     ensures { (t : ℕ) → OfParameter table.now (unlined state) values.now out.old client t result values.now
         out.new «module».now name.now reads }
 {
-    let settings = state.settings;
-    let times = settings.time;
+    let times = state.settings.time;
     let time = times[k];
-    match sensor_at(settings, k) {
+    match sensor_at(state.settings, k) {
         Sensor::Fails(fault) => Outcome::Unreadable(fault, time),
         Sensor::Works => {
-            let initial = q.initial;
-            let value = shown(table, values, settings, k, initial);
-            let end = put_final_report(out, 0, client, Told::Reply, module, name, value, time);
-            Outcome::Sent(end)
+            let value = shown(table, values, state.settings, k, q.initial);
+            Outcome::Sent(put_final_report(out, 0, client, Told::Reply, module, name, value, time))
         }
     }
 }
@@ -153,12 +150,10 @@ pub fn execute(
     ensures { OfCommand table.now out.old client time result out.new «module».now name.now
         (λ w n c t. does w n c t text.now) }
 {
-    let argument = q.argument;
-    let info = q.info;
-    match let_in(argument_verdict(table, argument, info, text)) {
-        Err(class) => Outcome::Denied(class),
-        Ok(()) => Outcome::Sent(order(
-            table, info, out, client, time, k, argument, module, name, text,
-        )),
+    if let Err(class) = let_in(argument_verdict(table, q.argument, q.info, text)) {
+        return Outcome::Denied(class);
     }
+    Outcome::Sent(order(
+        table, q.info, out, client, time, k, q.argument, module, name, text,
+    ))
 }

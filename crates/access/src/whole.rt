@@ -36,14 +36,11 @@ pub(crate) fn fill<'a>(
     ensures { Fills table.now (unlined state) values.now «module».now name.now text.now
         whole.old whole.new result }
 {
-    let settings = state.settings;
-    let info = q.info;
-    match sensor_at(settings, k) {
-        Sensor::Fails(_) => complete(table, info, b"", text, whole),
+    match sensor_at(state.settings, k) {
+        Sensor::Fails(_) => complete(table, q.info, b"", text, whole),
         Sensor::Works => {
-            let initial = q.initial;
-            let value = shown(table, values, settings, k, initial);
-            complete(table, info, value, text, whole)
+            let value = shown(table, values, state.settings, k, q.initial);
+            complete(table, q.info, value, text, whole)
         }
     }
 }
@@ -68,16 +65,23 @@ pub(crate) fn change_whole(
     ensures { OfParameter table.now (unlined state) values.old out.old client time result values.new
         out.new «module».now name.now (λ w n c t. changes_whole w n c t text.now) }
 {
-    match judge_change(table, q, text) {
-        Err(fault) => Outcome::Denied(fault),
-        Ok(()) => {
-            let clients = state.clients;
-            let info = q.info;
-            set(
-                table, info, values, out, clients, client, time, k, home, module, name, text,
-            )
-        }
+    if let Err(refused) = judge_change(table, q, text) {
+        return Outcome::Denied(refused);
     }
+    set(
+        table,
+        q.info,
+        values,
+        out,
+        state.clients,
+        client,
+        time,
+        k,
+        home,
+        module,
+        name,
+        text,
+    )
 }
 
 // What a change would store is told, and nothing is stored; or the error that a change would be denied with, and the outbox is as it was. Neither
@@ -98,11 +102,8 @@ pub(crate) fn check_whole(
     ensures { (s : State) (values : List ℕ) → OfParameter table.now s values out.old client time result values out.new
         «module».now name.now (λ w n c t. checks_whole w n c t text.now) }
 {
-    match judge_change(table, q, text) {
-        Err(class) => Outcome::Denied(class),
-        Ok(()) => {
-            let info = q.info;
-            Outcome::Sent(put_checked(table, info, out, client, time, module, name, text))
-        }
+    if let Err(class) = judge_change(table, q, text) {
+        return Outcome::Denied(class);
     }
+    Outcome::Sent(put_checked(table, q.info, out, client, time, module, name, text))
 }

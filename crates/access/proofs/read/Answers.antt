@@ -16,11 +16,11 @@ sensor_at-requires c = read_low _ (unlined c.args.state) _ _ _ c.requires.0 _ _ 
 pub shown-value-requires : goal.shown-value-requires
 shown-value-requires c = read_lies _ (unlined c.args.state) _ _ _ c.requires.0 _ _ _ _ _ c.requires.1
 
-pub put_final_report-end-requires : goal.put_final_report-end-requires
-put_final_report-end-requires c = read_room _ (unlined c.args.state) _ _ _ c.requires.0 _ _ _ _ _ c.requires.1 _ c.sensor_at.ensures c.in-Works.is _ c.shown-value.ensures
+pub put_final_report-requires : goal.put_final_report-requires
+put_final_report-requires c = read_room _ (unlined c.args.state) _ _ _ c.requires.0 _ _ _ _ _ c.requires.1 _ c.sensor_at.ensures c.in-Works.is _ c.shown-value.ensures
 
 pub returns-in-Fails : goal.returns-in-Fails
 returns-in-Fails c = read_fails _ (unlined c.args.state) _ _ _ c.requires.0 _ _ _ _ _ c.requires.1 _ c.sensor_at.ensures _ c.in-Fails.is
 
 pub returns-in-Works : goal.returns-in-Works
-returns-in-Works c = read_sent _ (unlined c.args.state) _ _ _ c.requires.0 _ _ _ _ _ c.requires.1 _ c.sensor_at.ensures c.in-Works.is _ c.shown-value.ensures _ _ c.put_final_report-end.ensures
+returns-in-Works c = read_sent _ (unlined c.args.state) _ _ _ c.requires.0 _ _ _ _ _ c.requires.1 _ c.sensor_at.ensures c.in-Works.is _ c.shown-value.ensures _ _ c.put_final_report.ensures

@@ -8,8 +8,8 @@ overflow_mul-k c = record { fits = search store_low }
 pub put-requires : goal.put-requires
 put-requires c = search store_room
 
-pub returns-in-None : goal.returns-in-None
-returns-in-None c = search store_none
+pub returns-in_default : goal.returns-in_default
+returns-in_default c = search store_none
 
 pub returns-in-Some : goal.returns-in-Some
 returns-in-Some c = search store_is

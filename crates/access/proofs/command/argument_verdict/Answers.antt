@@ -9,5 +9,5 @@ verdict-requires c = search argument_readable
 pub returns-then-argument : goal.returns-then-argument
 returns-then-argument c = search judged
 
-pub returns : goal.returns
-returns c = search judged_null
+pub returns-else-argument : goal.returns-else-argument
+returns-else-argument c = search judged_null

@@ -5,8 +5,8 @@ use Rattle.access.proofs.command.null_verdict.Goals as goal
 pub returns-then-not-is_text : goal.returns-then-not-is_text
 returns-then-not-is_text c = search null_bad
 
-pub returns-then-byte-eq110 : goal.returns-then-byte-eq110
-returns-then-byte-eq110 c = search null_fits
+pub returns-in-110 : goal.returns-in-110
+returns-in-110 c = search null_fits
 
-pub returns : goal.returns
-returns c = search null_wrong
+pub returns-in_default : goal.returns-in_default
+returns-in_default c = search null_wrong
