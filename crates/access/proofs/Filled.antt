@@ -3,10 +3,9 @@
 use Rattle.std.specs.Prelude.{Some, None}
 use Prim.Native.Nat.{ℕ, ◌+◌, ◌≤◌, ◌<◌}
 use native.Mathlib.Omega.{arith}
-use mathlib.Core.Path.{◌≡◌, refl, sym, ap, subst, ◌∙◌}
+use mathlib.Core.Path.{◌≡◌, refl, ap, subst, ◌∙◌}
 use mathlib.Core.List.{List, []}
 use lib.ListN.{length, get_or, take, drop}
-use lib.Seq.{length-take-le}
 use Rattle.ascii.specs.Bytes.{head, drop_while, is_in}
 use Rattle.decimal.specs.Token as Token
 use Rattle.json_text.specs.Json as Json
@@ -104,13 +103,6 @@ pub fill_given : (s : List ℕ) (st : State) (values out : List ℕ) (c : ℕ) (
     → ParameterFound s m a k h q → length xs ≤ 1024 → length whole ≡ 1282 → Fillable s st values m a k h q xs whole
 fill_given s st values out c m a k h q xs whole g f l i =
     record { out = out; client = c; ready = g; found = f; short = l; room = omega (arith, i) }
-
-module _ (s : List ℕ) (st : State) (values m a xs before after : List ℕ) (r : ℕ) (g : Fills s st values m a xs before after r) where
-  pub filled_within : r ≤ length after
-  filled_within = g.within
-
-  pub filled_length : r ≡ length (take r after)
-  filled_length = sym (length-take-le r after g.within)
 
 -- ## What it comes to
 

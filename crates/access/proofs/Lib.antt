@@ -11,4 +11,3 @@ pub mod Sets
 pub mod Judgements
 pub mod Changed
 pub mod Checked
-pub mod Judging

@@ -25,7 +25,7 @@ use Rattle.sound.proofs.Records.{Fine, Written, done_within, written_one, writte
 use Rattle.sound.proofs.Room.{room_after, puts_after}
 use Rattle.access.specs.Clauses.Argument.{Ordered, Reported, order_records, PutsOrder, IsOrdered}
 use Rattle.access.proofs.Arguments.{none_declared, Declared, some_declared}
-use Rattle.access.proofs.Taken.{taken_within, taken_is, taken_length, taken_short}
+use Rattle.access.proofs.Taken.{taken_is, taken_short}
 
 form_short : (a : Option Datainfo) (xs : List ℕ) → is_fit (argument_verdict a xs) ≡ true → length (argument_form a xs) ≤ 256
 unfolding argument_form argument_verdict
@@ -64,12 +64,6 @@ module _ (table : List ℕ) (info : ℕ) (out : List ℕ) (k : ℕ) (b : Bool) (
 
     -- its stored form is written to d, and then taken from there
     module _ (d after : List ℕ) (r : ℕ) (x : PutsForm (datainfo_in 4 (drop info table)) xs d 0 after r) (h : length d ≡ 256) where
-      pub form_within : r ≤ length after
-      form_within = taken_within table info xs argument_fits d after r x h
-
-      pub order_slice : r ≡ length (take r after)
-      order_slice = taken_length table info xs argument_fits d after r x h
-
       pub order_room_form : (i j : ℕ) → RoomFor out 0 (order_command i j (take r after))
       order_room_form i j = order_room i j (take r after) (taken_short table info xs argument_fits d after r x h)
 

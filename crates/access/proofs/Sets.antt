@@ -14,7 +14,7 @@ use Rattle.ascii.proofs.Puts.{puts_length, puts_both}
 use Rattle.datainfo.specs.Datainfo.{Datainfo}
 use Rattle.datainfo.specs.Layout.{datainfo_in}
 use Rattle.fit.specs.Fit.{stored_form}
-use Rattle.form.specs.Clauses.Formed.{FitsAt, PutsForm}
+use Rattle.form.specs.Clauses.Formed.{PutsForm}
 use Rattle.form.proofs.Stored.{stored_short}
 use Rattle.message.specs.Reply.{valued, DataReport, changed}
 use Rattle.message.specs.Clauses.Said.{report_of}
@@ -145,9 +145,6 @@ module _ (out : List ℕ) (k h : ℕ) (m a : List ℕ) (t : ℕ) (g : Settable o
   pub set_staged : Staged z busy
   unfolding busy bytes
   set_staged = record { low = i.low; short = omega arith }
-
-  pub set_fits : FitsAt table info xs
-  set_fits = w.fitting
 
   kept_room : length values ≡ length start
   kept_room = ap length j ∙ status_length start z busy

@@ -1,7 +1,6 @@
 -- The status that a change sets first: which one the code finds, and that it stands for the plain node's. Assumes nothing.
 use Rattle.std.specs.Prelude.{Option, Some, None}
 use Prim.Native.Nat.{ℕ, ◌+◌, ◌*◌, ◌≤◌, ◌<◌}
-use native.Mathlib.Omega.{arith}
 use mathlib.Core.Path.{◌≡◌, refl, sym, subst, ◌∙◌}
 use mathlib.Core.Bool.{Bool, true, false, cond, not, true≢false, false≢true}
 use mathlib.Core.List.{List}
@@ -10,7 +9,7 @@ use lib.Seq.{length-sets}
 use Rattle.ascii.specs.Text.{bytes}
 use Rattle.ascii.specs.Bytes.{same}
 use Rattle.ascii.specs.Clauses.Writer.{Puts}
-use Rattle.datainfo.specs.Layout.{datainfo_at, ReadableAt}
+use Rattle.datainfo.specs.Layout.{datainfo_at}
 use Rattle.fit.specs.Fit.{verdict, is_fit}
 use Rattle.table.specs.Table.{Parameter}
 use Rattle.table.specs.Layout.{table_of}
@@ -30,7 +29,7 @@ use Rattle.state.specs.declared.Clients.{Clients}
 use Rattle.state.specs.View.{client_at, with_stored, with_held, area_with}
 use Rattle.outcome.specs.Clauses.Outcome.{status_settings, stored_by, StatusHolds}
 use Rattle.access.specs.Clauses.Busy.{StatusLow, Admits, StatusIs, FindsStatus, with_status, status_updates}
-use Rattle.access.proofs.Finding.{ParameterKnown, parameter_known, info_known}
+use Rattle.access.proofs.Finding.{ParameterKnown, parameter_known}
 
 pub status_length : (values : List ℕ) (z : Option (ℕ × ℕ)) (b : List ℕ) → length (with_status values z b) ≡ length values
 unfolding with_stored
@@ -54,12 +53,6 @@ module _ (z : Option (ℕ × ℕ)) (l : StatusLow z) where
     pub home_low_lem : h < 16
     home_low_lem = low.1
 
-    pub store_low : 256 * k < 18446744073709551616
-    store_low = let x = low.0 in omega arith
-
-    pub store_room : (values b : List ℕ) → 16384 ≤ length values → length b ≤ 256 → 256 * k + length b ≤ length values
-    store_room values b r n = let x = low.0 in omega arith
-
     pub store_is : (values b after : List ℕ) (r : ℕ) → Puts values (256 * k) b after r → after ≡ with_status values z b
     unfolding with_stored
     store_is values b after r p = p.is ∙ rw e
@@ -76,9 +69,6 @@ module _ (z : Option (ℕ × ℕ)) (l : StatusLow z) where
       told_put out at after r p = rw e p
 
   module _ (e : z ≡ None) where
-    pub store_none : (values b : List ℕ) → values ≡ with_status values z b
-    store_none values b = rw e
-
     pub told_none : (s : Clients) (m b : List ℕ) (t : ℕ) (out : List ℕ) (at : ℕ) → Puts out at (encode_all (status_updates s z m b t)) out at
     told_none s m b t out at = rw e (puts_none out)
 
@@ -106,9 +96,6 @@ module _ (s m a : List ℕ) where
       (i : r ≡ Some (k, h, q)) where
     known : ParameterKnown s m (bytes "status") k h q
     known = parameter_known s n m (bytes "status") k h q (subst (FindsParameter s m (bytes "status")) i x)
-
-    pub status_readable : ReadableAt s q.info 4
-    status_readable = info_known known
 
     pub status_found : (t : Bool) → t ≡ same a (bytes "target") → not t ≡ false → (v : List ℕ) → v ≡ busy → (z : Option (ℕ × ℕ))
         → Admits (datainfo_at (drop q.info s)) v k h z → FindsStatus s m a z

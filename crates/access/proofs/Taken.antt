@@ -1,9 +1,8 @@
 -- A stored form that is written to 256 bytes, and taken from there. Assumes nothing.
 use Rattle.std.specs.Prelude.{Some}
 use Prim.Native.Nat.{ℕ, ◌-◌, ◌≤◌}
-use native.Mathlib.Nat.{zero-add}
 use native.Mathlib.Omega.{arith}
-use mathlib.Core.Path.{◌≡◌, ◌∙◌}
+use mathlib.Core.Path.{◌≡◌}
 use mathlib.Core.List.{List}
 use lib.ListN.{length, take, drop}
 use Rattle.ascii.proofs.Puts.{puts_length}
@@ -24,9 +23,6 @@ module _ (table : List ℕ) (info : ℕ) (xs : List ℕ) (w : FitsAt table info 
       let z : r - 0 ≡ r = omega arith in
       let p = x.is f in
       rw z at (stands p (let l = puts_length p in let y = taken_within in omega arith))
-
-  pub taken_length : r ≡ length (take r after)
-  taken_length = (x.is w.reads.is).ends ∙ rw (zero-add, taken_is w.reads.is)
 
   pub taken_short : length (take r after) ≤ 256
   taken_short = rw (taken_is w.reads.is) (stored_short w.reads.datainfo xs w.fits)

@@ -1,16 +1,10 @@
 -- `access::change` meets its contract. Assumes nothing.
 use Rattle.state.specs.Clauses.Bare.{unlined}
-use Rattle.access.proofs.Filled.{fill_given, filled_within, filled_length, change_filled}
+use Rattle.access.proofs.Filled.{fill_given, change_filled}
 use Rattle.access.proofs.change.Goals as goal
 
 pub fill-size-requires : goal.fill-size-requires
 fill-size-requires c = search fill_given
-
-pub slice_bounds-whole-end : goal.slice_bounds-whole-end
-slice_bounds-whole-end c = search filled_within
-
-pub slice_bounds-change_whole-end : goal.slice_bounds-change_whole-end
-slice_bounds-change_whole-end c = search filled_length
 
 pub returns : goal.returns
 returns c = let came = c.change_whole in

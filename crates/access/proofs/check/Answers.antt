@@ -1,16 +1,10 @@
 -- `access::check` meets its contract. Assumes nothing.
 use Rattle.state.specs.Clauses.Bare.{unlined}
-use Rattle.access.proofs.Filled.{fill_given, filled_within, filled_length, check_filled}
+use Rattle.access.proofs.Filled.{fill_given, check_filled}
 use Rattle.access.proofs.check.Goals as goal
 
 pub fill-size-requires : goal.fill-size-requires
 fill-size-requires c = search fill_given
-
-pub slice_bounds-whole-end : goal.slice_bounds-whole-end
-slice_bounds-whole-end c = search filled_within
-
-pub slice_bounds-check_whole-end : goal.slice_bounds-check_whole-end
-slice_bounds-check_whole-end c = search filled_length
 
 pub returns : goal.returns
 returns c = let came = c.check_whole in

@@ -1,7 +1,7 @@
 -- `access::busy::status_of` meets its contract. Assumes nothing.
 use Rattle.ascii.specs.Text.{bytes}
 use Rattle.report.proofs.Faults.{accepted_readable}
-use Rattle.access.proofs.Statuses.{other_stays, none_stays, status_readable, status_found}
+use Rattle.access.proofs.Statuses.{other_stays, none_stays, status_found}
 use Rattle.access.proofs.busy.status_of.Goals as goal
 
 pub returns-then-not-same : goal.returns-then-not-same
@@ -14,10 +14,6 @@ find_parameter-requires c = search accepted_readable
 pub returns-in_err-k : goal.returns-in_err-k
 unfolding bytes
 returns-in_err-k c = rw c.from_residual.ensures (search (none_stays, c.in_err-k.was))
-
-pub admitted-requires : goal.admitted-requires
-unfolding bytes
-admitted-requires c = search (status_readable, c.in_ok-k.was)
 
 pub returns : goal.returns
 unfolding bytes

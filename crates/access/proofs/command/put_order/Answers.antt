@@ -2,7 +2,7 @@
 use borrow.Author.Rules.{rules}
 use native.Mathlib.Omega.{arith}
 use mathlib.Core.List.{[]}
-use Rattle.access.proofs.Orders.{order_room, order_none, argument_fits, form_within, order_room_form, order_some}
+use Rattle.access.proofs.Orders.{order_room, order_none, argument_fits, order_room_form, order_some}
 use Rattle.access.proofs.command.put_order.Goals as goal
 
 pub put_order_command-requires : goal.put_order_command-requires
@@ -13,9 +13,6 @@ returns-then-not-argument c = search order_none
 
 pub put_form-size-requires : goal.put_form-size-requires
 put_form-size-requires c = (search argument_fits, search rules)
-
-pub slice_bounds-form-end : goal.slice_bounds-form-end
-slice_bounds-form-end c = search form_within
 
 pub put_order_command-requires-2 : goal.put_order_command-requires-2
 put_order_command-requires-2 c = search order_room_form
