@@ -18,7 +18,7 @@ ghost use Rattle.outcome.specs.Clauses.Outcome.{OfParameter, OfCommand};
 
 use crate::command::{argument_verdict, order};
 use crate::judge::let_in;
-use crate::whole::{change_whole, check_whole, fill};
+use crate::whole::{WHOLE, change_whole, check_whole, fill};
 use message::say::Sensor;
 use outbox::write::{Told, put_final_report};
 use outcome::Outcome;
@@ -75,7 +75,7 @@ pub fn change(
     ensures { OfParameter table.now (unlined state) values.old out.old client time result values.new
         out.new «module».now name.now (λ w n c t. changes w n c t text.now) }
 {
-    let mut whole = [0u8; 1282];
+    let mut whole = [0u8; WHOLE];
     let size = fill(
         table, values, state, k, home, q, module, name, text, &mut whole,
     );
@@ -115,7 +115,7 @@ pub fn check<'a>(
     ensures { OfParameter table.now (unlined state) values.now out.old client time result values.now
         out.new «module».now name.now (λ w n c t. checks w n c t text.now) }
 {
-    let mut whole = [0u8; 1282];
+    let mut whole = [0u8; WHOLE];
     let size = fill(
         table, values, state, k, home, q, module, name, text, &mut whole,
     );

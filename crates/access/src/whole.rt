@@ -12,11 +12,15 @@ use crate::judge::judge_change;
 use crate::setting::set;
 use crate::telling::put_checked;
 use form::complete::complete;
+use limits::{LINE, PLACE};
 use message::say::Sensor;
 use outcome::Outcome;
 use state::Bare;
 use state::setting::{sensor_at, shown};
 use table::layout::ParameterAt;
+
+// Room for a text with what it leaves out filled in: a line, a stored form, and two bytes.
+pub(crate) const WHOLE: usize = LINE + PLACE + 2;
 
 // "they keep what is shown now, or, where the parameter is in error, such a change is WrongType": the text that comes of it is written to bytes of its
 // own, since what is shown may lie where the new value is stored. In error nothing is shown.
