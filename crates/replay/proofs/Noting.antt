@@ -3,6 +3,7 @@ use Rattle.std.specs.Prelude.{Option, Some, None}
 use Prim.Native.Nat.{ℕ, ◌+◌, ◌-◌, ◌*◌}
 use mathlib.Core.Bool.{cond}
 use mathlib.Core.List.{List}
+use mathlib.Core.Logic.{◌⊎◌, inl, inr}
 use mathlib.Core.Path.{◌≡◌, sym, ap, subst, ◌∙◌}
 use lib.Dec.{eqb}
 use lib.ListN.{get_or, take, drop}
@@ -46,17 +47,11 @@ module _ (xs : List ℕ) (a : ℕ) (ha : a ≡ head xs) where
     order_is c z e = rw (eq-eqb (head xs) 68 (sym ha ∙ y), eq-eqb (head (drop 1 xs)) 82 (sym hb ∙ z), e)
 
 module _ (k : Kind) (p n : ℕ) (xs : List ℕ) where
-  pub by_opening : k ≡ Opening → None ≡ chosen_by k p n xs
+  pub by_another : (k ≡ Opening) ⊎ ((k ≡ Closing) ⊎ (k ≡ Unreadable)) → None ≡ chosen_by k p n xs
   unfolding chosen_by
-  by_opening e = rw e
-
-  pub by_closing : k ≡ Closing → None ≡ chosen_by k p n xs
-  unfolding chosen_by
-  by_closing e = rw e
-
-  pub by_unreadable : k ≡ Unreadable → None ≡ chosen_by k p n xs
-  unfolding chosen_by
-  by_unreadable e = rw e
+  by_another (inl e) = rw e
+  by_another (inr (inl e)) = rw e
+  by_another (inr (inr e)) = rw e
 
   pub by_reading : k ≡ Reading → Some p ≡ chosen_by k p n xs
   unfolding chosen_by

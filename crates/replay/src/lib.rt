@@ -55,8 +55,7 @@ pub struct Started {
 fn class_in(bytes: &[u8]) -> u64
     ensures { result ≡ head bytes.now }
 {
-    let class = byte(bytes, 0);
-    class as u64
+    byte(bytes, 0) as u64
 }
 
 // The single call of a record of this head with these bytes.
@@ -71,10 +70,9 @@ fn call(
     ensures { Calls table.now state values.old outbox.old head bytes.now result
         values.new outbox.new }
 {
-    let kind = head.kind;
     let number = head.number as u64;
     let time = head.time;
-    match kind {
+    match head.kind {
         Kind::Opening => jihfasul_open(table, values, state, number, time, b""),
         Kind::Closing => jihfasul_close(table, values, state, number, time, b""),
         Kind::Piece => jihfasul_piece(table, values, outbox, state, number, time, bytes, b""),
@@ -103,13 +101,7 @@ fn counted(refused: [u64; 19], number: u8) -> [u64; 19]
 fn is_piece(kind: Kind) -> bool
     ensures { result ≡ is_piece kind }
 {
-    match kind {
-        Kind::Opening => false,
-        Kind::Closing => false,
-        Kind::Piece => true,
-        Kind::Reading => false,
-        Kind::Unreadable => false,
-    }
+    matches!(kind, Kind::Piece)
 }
 
 // What is left of a record after a call that answered this number and used so many bytes: of an accepted piece, the bytes that it did not use.
@@ -117,17 +109,14 @@ fn left_after(left: Head, number: u8, used: usize) -> Head
     requires { used ≤ left.size }
     ensures { result ≡ left_after left number used }
 {
-    let mut next = left;
-    next.size = 0;
-    let kind = left.kind;
-    if !is_piece(kind) {
-        return next;
+    if is_piece(left.kind) && number == 0 {
+        Head {
+            size: left.size - used,
+            ..left
+        }
+    } else {
+        Head { size: 0, ..left }
     }
-    if number != 0 {
-        return next;
-    }
-    next.size = left.size - used;
-    next
 }
 
 // The replay after the call of what was left, which was answered so.
@@ -135,23 +124,16 @@ fn answered(replay: Replay, done: Done, figures: Figures, used: usize) -> Steppe
     requires { (done.number < 19) × ((done.used ≤ replay.left.size) × (replay.at + replay.left.size ≤ 4109)) }
     ensures { Answered replay done figures used result }
 {
-    let state = done.state;
-    let reader = replay.reader;
-    let before = replay.refused;
-    let number = done.number;
-    let refused = counted(before, number);
-    let all = replay.left;
-    let left = left_after(all, number, done.used);
     Stepped {
         used,
         written: done.written,
         replay: Replay {
-            state,
-            reader,
-            left,
+            state: done.state,
+            left: left_after(replay.left, done.number, done.used),
             at: replay.at + done.used,
-            refused,
+            refused: counted(replay.refused, done.number),
             figures,
+            ..replay
         },
     }
 }
@@ -169,12 +151,16 @@ fn offered(
 {
     let held = replay.reader.held;
     let left = replay.left;
-    let at = replay.at;
-    let end = at + left.size;
-    let state = replay.state;
-    let done = call(table, values, outbox, state, left, &held[at..end]);
-    let before = replay.figures;
-    let figures = figured(table, values, outbox, before, left, done);
+    let end = replay.at + left.size;
+    let done = call(
+        table,
+        values,
+        outbox,
+        replay.state,
+        left,
+        &held[replay.at..end],
+    );
+    let figures = figured(table, values, outbox, replay.figures, left, done);
     answered(replay, done, figures, used)
 }
 
@@ -191,32 +177,27 @@ pub fn step(
     ensures { Steps table.now replay values.old outbox.old trace.now result
         values.new outbox.new }
 {
-    let left = replay.left;
-    if left.size != 0 {
+    if replay.left.size != 0 {
         return offered(table, values, outbox, replay, 0);
     }
-    let before = replay.reader;
-    let taken = take(before, trace);
-    let found = taken.found;
-    let used = taken.used;
-    let reader = taken.reader;
-    let mut next = replay;
-    next.reader = reader;
-    match found {
-        Found::More => Stepped {
-            used,
-            written: 0,
-            replay: next,
-        },
-        Found::Wrong => Stepped {
-            used,
+    let taken = take(replay.reader, trace);
+    let next = Replay {
+        reader: taken.reader,
+        ..replay
+    };
+    match taken.found {
+        Found::More | Found::Wrong => Stepped {
+            used: taken.used,
             written: 0,
             replay: next,
         },
         Found::Whole(head) => {
-            next.left = head;
-            next.at = 13;
-            offered(table, values, outbox, next, used)
+            let whole = Replay {
+                left: head,
+                at: 13,
+                ..next
+            };
+            offered(table, values, outbox, whole, taken.used)
         }
     }
 }
@@ -225,11 +206,7 @@ pub fn step(
 fn is_unfinished(replay: Replay, bytes: usize) -> bool
     ensures { result ≡ not (eqb (to_do replay bytes) 0) }
 {
-    if bytes != 0 {
-        return true;
-    }
-    let left = replay.left;
-    left.size != 0
+    bytes != 0 || replay.left.size != 0
 }
 
 // Steps over all these bytes, until nothing is left to be offered. What they write to the outbox is not handed on.
@@ -258,14 +235,11 @@ pub fn begin(table: &[u8], values: &[u8], time: u64) -> Started
     ensures { Starts table.now values.now time result }
 {
     let done = jihfasul_start(table, values, time);
-    let state = done.state;
-    let reader = unread();
-    let figures = no_figures();
     Started {
         number: done.number,
         replay: Replay {
-            state,
-            reader,
+            state: done.state,
+            reader: unread(),
             left: Head {
                 kind: Kind::Opening,
                 number: 0,
@@ -274,7 +248,7 @@ pub fn begin(table: &[u8], values: &[u8], time: u64) -> Started
             },
             at: 0,
             refused: [0; 19],
-            figures,
+            figures: no_figures(),
         },
     }
 }

@@ -18,10 +18,7 @@ use trace::{Head, Kind};
 fn order_in(s: &[u8]) -> Option<usize>
     ensures { result ≡ order_in s.now }
 {
-    if byte(s, 0) != b'D' {
-        return None;
-    }
-    if byte(s, 1) != b'R' {
+    if byte(s, 0) != b'D' || byte(s, 1) != b'R' {
         return None;
     }
     Some(byte(s, 5) as usize)
@@ -32,16 +29,9 @@ fn chosen_by(kind: Kind, number: u8, written: usize, outbox: &[u8]) -> Option<us
     ensures { result ≡ chosen_by kind number written outbox.now }
 {
     match kind {
-        Kind::Opening => None,
-        Kind::Closing => None,
-        Kind::Piece => {
-            if written == 0 {
-                return None;
-            }
-            order_in(outbox)
-        }
+        Kind::Piece => { if written == 0 { None } else { order_in(outbox) } }
         Kind::Reading => Some(number as usize),
-        Kind::Unreadable => None,
+        Kind::Opening | Kind::Closing | Kind::Unreadable => None,
     }
 }
 
@@ -53,14 +43,10 @@ fn mark_shown(table: &[u8], values: &[u8], settings: Settings, k: usize, p: Para
     let lengths = settings.length;
     let size = lengths[k] as usize;
     if size == 0 {
-        let initial = p.initial;
-        let from = initial.from;
-        let to = initial.to;
-        return mark_of(table, p.info, &table[from..to]);
+        return mark_of(table, p.info, &table[p.initial.from..p.initial.to]);
     }
     let first = PLACE * k;
-    let last = first + size;
-    mark_of(table, p.info, &values[first..last])
+    mark_of(table, p.info, &values[first..first + size])
 }
 
 // Parameter k was set to what it shows now.
@@ -90,11 +76,8 @@ pub(crate) fn figured(
     if done.number != 0 {
         return figures;
     }
-    let kind = head.kind;
-    let settings = done.state.settings;
-    let chosen = chosen_by(kind, head.number, done.written, outbox);
-    match chosen {
+    match chosen_by(head.kind, head.number, done.written, outbox) {
         None => figures,
-        Some(k) => note(table, values, settings, figures, k),
+        Some(k) => note(table, values, done.state.settings, figures, k),
     }
 }

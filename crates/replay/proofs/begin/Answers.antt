@@ -13,10 +13,10 @@ returns c = record {
   begins = c.jihfasul_start-done.ensures;
   number = refl;
   state = refl;
-  progress = c.unread-reader.ensures.0;
+  progress = c.unread.ensures.0;
   left = refl;
   full = refl;
   counts = zeros 19;
-  figures = none_kept c.no_figures-figures.ensures.0;
-  sound = record { begun = c.unread-reader.ensures.1; inside = omega arith; bounded = c.no_figures-figures.ensures.1 };
+  figures = none_kept c.no_figures.ensures.0;
+  sound = record { begun = c.unread.ensures.1; inside = omega arith; bounded = c.no_figures.ensures.1 };
 }

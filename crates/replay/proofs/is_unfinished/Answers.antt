@@ -5,5 +5,5 @@ use Rattle.replay.proofs.is_unfinished.Goals as goal
 pub returns-then-bytes-ne0 : goal.returns-then-bytes-ne0
 returns-then-bytes-ne0 c = search has_bytes
 
-pub returns : goal.returns
-returns c = search has_left
+pub returns-else-bytes-ne0 : goal.returns-else-bytes-ne0
+returns-else-bytes-ne0 c = search has_left

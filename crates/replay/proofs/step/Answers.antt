@@ -1,20 +1,17 @@
 -- `replay::step` meets its contract. Assumes nothing.
 use borrow.Author.Rules.{rules}
-use Rattle.replay.proofs.Steps.{offers_again, goes_on_lem, is_wrong, has_room, plays}
+use Rattle.replay.proofs.Steps.{offers_again, nothing_whole, has_room, plays}
 use Rattle.replay.proofs.step.Goals as goal
 
-pub returns-then-left-ne0 : goal.returns-then-left-ne0
-returns-then-left-ne0 c = search offers_again
+pub returns-then-replay-ne0 : goal.returns-then-replay-ne0
+returns-then-replay-ne0 c = search offers_again
 
 pub offered-requires-in-Whole : goal.offered-requires-in-Whole
 offered-requires-in-Whole c = (search has_room, search rules)
 
 pub returns-in-More : goal.returns-in-More
-returns-in-More c = search goes_on_lem
-
-pub returns-in-Wrong : goal.returns-in-Wrong
-returns-in-Wrong c = search is_wrong
+returns-in-More c = search nothing_whole
 
 pub returns-in-Whole : goal.returns-in-Whole
-returns-in-Whole c = plays _ c.args.replay _ _ _ c.requires c.if-left-ne0.false c.take-taken.result c.take-taken.ensures _ c.in-Whole.is _ _ _
+returns-in-Whole c = plays _ c.args.replay _ _ _ c.requires c.if-replay-ne0.false c.take-taken.result c.take-taken.ensures _ c.in-Whole.is _ _ _
     c.offered-in-Whole.ensures

@@ -1,21 +1,15 @@
 -- `replay::settings::chosen_by` meets its contract. Assumes nothing.
-use Rattle.replay.proofs.Noting.{by_opening, by_closing, by_silence, by_order, by_reading, by_unreadable}
+use Rattle.replay.proofs.Noting.{by_another, by_silence, by_order, by_reading}
 use Rattle.replay.proofs.settings.chosen_by.Goals as goal
 
 pub returns-then-written-eq0 : goal.returns-then-written-eq0
 returns-then-written-eq0 c = search by_silence
 
 pub returns-in-Opening : goal.returns-in-Opening
-returns-in-Opening c = search by_opening
-
-pub returns-in-Closing : goal.returns-in-Closing
-returns-in-Closing c = search by_closing
+returns-in-Opening c = search by_another
 
 pub returns-else-written-eq0 : goal.returns-else-written-eq0
 returns-else-written-eq0 c = search by_order
 
 pub returns-in-Reading : goal.returns-in-Reading
 returns-in-Reading c = search by_reading
-
-pub returns-in-Unreadable : goal.returns-in-Unreadable
-returns-in-Unreadable c = search by_unreadable
