@@ -30,16 +30,12 @@ pub fn jihfasul_open(
         return quiet(11, state);
     }
     let c = client as usize;
-    let clients = state.clients;
-    if is_open(clients, c) {
+    if is_open(state.clients, c) {
         return quiet(13, state);
     }
-    let settings = state.settings;
-    let counts = state.counts;
     let next = State {
-        clients: opened(clients, c),
-        settings,
-        counts,
+        clients: opened(state.clients, c),
+        ..state
     };
     quiet(0, cleared(next, c))
 }
@@ -64,19 +60,13 @@ pub fn jihfasul_close(
         return quiet(11, state);
     }
     let c = client as usize;
-    let clients = state.clients;
-    if !is_open(clients, c) {
+    if !is_open(state.clients, c) {
         return quiet(12, state);
     }
-    let settings = state.settings;
-    let counts = state.counts; // "close keeps them"
-    let next = closed(clients, c);
-    quiet(
-        0,
-        State {
-            clients: next,
-            settings,
-            counts,
-        },
-    )
+    // of the counts: "close keeps them"
+    let next = State {
+        clients: closed(state.clients, c),
+        ..state
+    };
+    quiet(0, next)
 }

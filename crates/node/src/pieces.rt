@@ -25,8 +25,7 @@ pub fn jihfasul_piece(
         (beside index.now (with_outbox (Piece client bytes.now time) (length values.old) (length outbox.old)))
         state values.old outbox.old result values.new outbox.new }
 {
-    let clients = state.clients;
-    let mut lines = clients.lines;
+    let mut lines = state.clients.lines;
     let bare = bare_of(state);
     let number = bare_number(
         table,
@@ -44,7 +43,7 @@ pub fn jihfasul_piece(
     if client > LAST_CLIENT {
         return quiet(11, with_lines(bare, lines));
     }
-    if !is_open(clients, client as usize) {
+    if !is_open(state.clients, client as usize) {
         return quiet(12, with_lines(bare, lines));
     }
     let done = take_piece(

@@ -29,8 +29,6 @@ pub fn jihfasul_reading(
     if number != 0 {
         return quiet(number, state);
     }
-    let clients = state.clients;
-    let lines = clients.lines;
     let done = read_one(
         table,
         values,
@@ -40,5 +38,5 @@ pub fn jihfasul_reading(
         time,
         bytes,
     );
-    done_by(done, lines)
+    done_by(done, state.clients.lines)
 }

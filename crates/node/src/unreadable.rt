@@ -42,8 +42,6 @@ pub fn jihfasul_unreadable(
     let Sensor::Fails(fault) = sensor_of(class) else {
         return quiet(16, state);
     };
-    let clients = state.clients;
-    let lines = clients.lines;
     let done = take_unreadable(table, outbox, bare_of(state), k, time, fault, p, home);
-    done_by(done, lines)
+    done_by(done, state.clients.lines)
 }

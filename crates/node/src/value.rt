@@ -32,13 +32,12 @@ fn part_shown(settings: Settings, k: usize, initial: Part) -> Shown
     let size = settings.length[k] as usize;
     let time = settings.time[k];
     if size == 0 {
-        let from = initial.from;
         return Shown {
             number: 0,
             stored: 0,
             error: 0,
-            from,
-            size: initial.to - from,
+            from: initial.from,
+            size: initial.to - initial.from,
             time,
         };
     }
