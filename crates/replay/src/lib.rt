@@ -181,23 +181,23 @@ pub fn step(
         return offered(table, values, outbox, replay, 0);
     }
     let taken = take(replay.reader, trace);
-    let next = Replay {
-        reader: taken.reader,
-        ..replay
-    };
     match taken.found {
         Found::More | Found::Wrong => Stepped {
             used: taken.used,
             written: 0,
-            replay: next,
+            replay: Replay {
+                reader: taken.reader,
+                ..replay
+            },
         },
         Found::Whole(head) => {
-            let whole = Replay {
+            let next = Replay {
+                reader: taken.reader,
                 left: head,
                 at: 13,
-                ..next
+                ..replay
             };
-            offered(table, values, outbox, whole, taken.used)
+            offered(table, values, outbox, next, taken.used)
         }
     }
 }
