@@ -1,4 +1,5 @@
 -- A piece that is accepted: the line that is ended, and the bytes before a line feed. Assumes nothing.
+use Rattle.std.specs.Prelude.{Option, Some, None}
 use Prim.Native.Nat.{ℕ, ◌+◌, ◌*◌, ◌-◌, ◌≤◌, ◌<◌}
 use native.Mathlib.Omega.{arith}
 use mathlib.Core.Bool.{Bool, true, false, cond, ◌||◌}
@@ -46,13 +47,13 @@ use Rattle.outcome.specs.declared.Replied.{Replied}
 use Rattle.outcome.specs.Clauses.Ready.{Ready}
 use Rattle.promise.specs.declared.Done.{Done}
 use Rattle.promise.specs.Clauses.Leaves.{held_node, Leaves, LeavesIn, AnswersEnded}
-use Rattle.promise.proofs.Clients.{joins, take_before, no_feed_lem, a_feed, before_long}
+use Rattle.promise.proofs.Clients.{joins, take_before, no_feed_lem, a_feed}
 use Rattle.promise.proofs.Feeds.{held_answer_lem, feeds}
 use Rattle.promise.proofs.Held as Held
 use Rattle.promise.proofs.Held.{lines_fit, emptied_ready}
 use Rattle.promise.specs.Clauses.Answer.{done_with}
 use Rattle.line.specs.Clauses.Answered.{RepliesLine}
-use Rattle.accepted.specs.Clauses.Held.{line_with, held_answer, AnswersHeld}
+use Rattle.accepted.specs.Clauses.Held.{FeedAt, line_with, held_answer, AnswersHeld}
 use Rattle.accepted.proofs.Lines.{ready_unlined, answers_lined}
 
 line_length : (s : Clients) → length s.lines ≡ 8192 → (c : ℕ) → c < 8 → LinesFit s → length (line_bytes s c) ≡ get_or s.length c 0
@@ -260,6 +261,13 @@ module _ (table : List ℕ) (s : State) (values out : List ℕ) (c t : ℕ) (g :
 
 -- ## The bytes before a line feed
 
+pub feed_at : (bs : List ℕ) (o : Option ℕ) → FeedAt bs o → (n : ℕ) → o ≡ Some n → (n ≡ length (before_feed bs)) × (n < length bs)
+feed_at bs o f n e = rw e at f
+
+pub no_feed_at : (bs : List ℕ) (o : Option ℕ) → FeedAt bs o → ((x : ℕ) → o ≡ Some x → ⊥) → length bs ≡ length (before_feed bs)
+no_feed_at bs None f n = f
+no_feed_at bs (Some x) f n = absurd (n x refl)
+
 pub joined_done : (s : State) (n : ℕ) (r q : Clients) → r ≡ q → done_with n 0 0 (next_clients s r) ≡ done_with n 0 0 (next_clients s q)
 joined_done s n r q e = rw e
 
@@ -276,9 +284,6 @@ module _ (table : List ℕ) (s : State) (values outbox : List ℕ) (c t : ℕ) (
 
   pub taken_unfed : all no_feed (take n bs) ≡ true
   taken_unfed = rw taken (before_feed_lem bs)
-
-  pub piece_more : (n ≡ length bs → ⊥) → n < length bs
-  piece_more e = let h = before_long bs in omega (arith, first)
 
   -- all of them join
   pub piece_joins : Sized s.clients → length s.clients.lines ≡ 8192 → n ≡ length bs → (index : List ℕ) (d : Done)
@@ -300,10 +305,10 @@ module _ (table : List ℕ) (s : State) (values outbox : List ℕ) (c t : ℕ) (
         steps = rw f;
       })
 
-  a_line : (n ≡ length bs → ⊥) → has_feed bs ≡ true
-  a_line e = a_feed bs (let h = before_long bs in omega (arith, first))
+  a_line : n < length bs → has_feed bs ≡ true
+  a_line e = a_feed bs (omega (arith, first))
 
-  pub piece_feeds : (n ≡ length bs → ⊥) → {u : ℕ} → u ≡ n + 1 → (a : Replied) (index : List ℕ) {values' outbox' : List ℕ}
+  pub piece_feeds : n < length bs → {u : ℕ} → u ≡ n + 1 → (a : Replied) (index : List ℕ) {values' outbox' : List ℕ}
       → AnswersHeld table index s values outbox (held_node table s values c (take n bs)) c t a values' outbox'
       (answer (table_of table) (held_node table s values c (take n bs)) c t)
       → LeavesIn table s values piece index outbox

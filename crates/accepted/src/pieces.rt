@@ -12,7 +12,7 @@ ghost use Rattle.plain.specs.Answer.{answer};
 ghost use Rattle.promise.specs.Clauses.Leaves.{held_node, LeavesIn};
 ghost use Rattle.accepted.specs.Clauses.Held.{Unfed, line_with, held_answer, AnswersHeld};
 
-use crate::feed::{feed_at, past_feed};
+use crate::feed::feed_at;
 use ascii::write::put;
 use limits::LINE;
 use line::answer_line;
@@ -65,12 +65,9 @@ fn answer_held(
     let c = client as usize;
     let mut line = [0u8; LINE];
     let size = whole_line(state.clients, lines, c, bytes, &mut line);
-    let settings = state.settings;
-    let counts = state.counts;
     let emptied = Bare {
         clients: ended(state.clients, c),
-        settings,
-        counts,
+        ..state
     };
     let counted = line_counted(emptied, c);
     answer_line(
@@ -109,14 +106,13 @@ fn answer_counted(
         table, values, outbox, state, lines, client, time, bytes, index,
     );
     let answered = replied.answered;
-    let written = answered.written;
-    let next = sent_counted(answered.state, outbox, written);
+    let next = sent_counted(answered.state, outbox, answered.written);
     Replied {
         answered: Answered {
             state: next,
-            written,
+            ..answered
         },
-        steps: replied.steps,
+        ..replied
     }
 }
 
@@ -126,19 +122,13 @@ fn join(state: Bare, lines: &mut [u8], client: u8, bytes: &[u8]) -> BareDone
     ensures { done_by result lines.new ≡ done_with (length bytes.now) 0 0 (next_clients (lined state lines.old)
         (with_joined (with_lines state.clients lines.old) client bytes.now)) }
 {
-    let settings = state.settings;
-    let counts = state.counts;
     let clients = joined(state.clients, lines, client as usize, bytes);
     BareDone {
         number: 0,
         used: bytes.len(),
         written: 0,
         steps: 0,
-        state: Bare {
-            clients,
-            settings,
-            counts,
-        },
+        state: Bare { clients, ..state },
     }
 }
 
@@ -159,23 +149,19 @@ pub fn take_piece(
         (Piece client bytes.now time) index.now outbox.old (done_by result lines.new) values.new
         outbox.new }
 {
-    let n = feed_at(bytes);
-    if n == bytes.len() {
+    let Some(n) = feed_at(bytes) else {
         return join(state, lines, client, bytes);
-    }
-    let used = past_feed(bytes, n);
+    };
     let before = &bytes[..n];
     let replied = answer_counted(
         table, values, outbox, state, lines, client, time, before, index,
     );
     let answered = replied.answered;
-    let written = answered.written;
-    let next = answered.state;
     BareDone {
         number: 0,
-        used,
-        written,
+        used: n + 1,
+        written: answered.written,
         steps: replied.steps,
-        state: next,
+        state: answered.state,
     }
 }

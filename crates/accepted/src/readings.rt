@@ -34,18 +34,15 @@ pub fn take_reading(
         → Taken table.now (lined state lines) values.old outbox.old (Reading k bytes.now time)
         (done_by result lines) values.new outbox.new }
 {
-    let clients = state.clients;
-    let counts = state.counts;
     let at = PLACE * k;
     let end = put_form(table, p.info, values, at, bytes);
     let module = bytes_of(table, home.name);
     let name = bytes_of(table, p.name);
-    let number = home.modules - 1;
     let written = put_updates_to(
         outbox,
         0,
-        clients,
-        number,
+        state.clients,
+        home.modules - 1,
         module,
         name,
         Sensor::Works,
@@ -53,17 +50,12 @@ pub fn take_reading(
         time,
     );
     let settings = stored(state.settings, k, end - at, time);
-    let told = Bare {
-        clients,
-        settings,
-        counts,
-    };
-    let next = sent_counted(told, outbox, written);
+    let told = Bare { settings, ..state };
     BareDone {
         number: 0,
         used: 0,
         written,
         steps: 0,
-        state: next,
+        state: sent_counted(told, outbox, written),
     }
 }

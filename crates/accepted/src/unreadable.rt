@@ -34,25 +34,26 @@ pub fn take_unreadable(
         → Taken table.now (lined state lines) values outbox.old (Unreadable k class time) (done_by result lines) values
         outbox.new }
 {
-    let clients = state.clients;
-    let counts = state.counts;
     let module = bytes_of(table, home.name);
     let name = bytes_of(table, p.name);
-    let number = home.modules - 1;
-    let sensor = Sensor::Fails(fault);
-    let written = put_updates_to(outbox, 0, clients, number, module, name, sensor, b"", time);
+    let written = put_updates_to(
+        outbox,
+        0,
+        state.clients,
+        home.modules - 1,
+        module,
+        name,
+        Sensor::Fails(fault),
+        b"",
+        time,
+    );
     let settings = failed(state.settings, k, fault_number(fault), time);
-    let told = Bare {
-        clients,
-        settings,
-        counts,
-    };
-    let next = sent_counted(told, outbox, written);
+    let told = Bare { settings, ..state };
     BareDone {
         number: 0,
         used: 0,
         written,
         steps: 0,
-        state: next,
+        state: sent_counted(told, outbox, written),
     }
 }

@@ -1,17 +1,23 @@
 -- What a line that is held and answered leaves. Assumes nothing.
-use Rattle.std.specs.Prelude.{ℕ, ◌+◌, true, cond, not, ◌||◌, List, [], ◌++◌, ◌≡◌, eqb, ltb, length, get_or}
+use Rattle.std.specs.Prelude.{ℕ, ◌+◌, ◌<◌, Option, Some, None, true, cond, not, ◌||◌, List, [], ◌++◌, ◌≡◌, eqb, ltb, length, get_or}
 use Rattle.ascii.specs.Bytes.{all}
 use Rattle.table.specs.Table.{Table}
 use Rattle.table.specs.Layout.{table_of}
 use Rattle.message.specs.Line.{content, parts_of}
 use Rattle.outbox.specs.Outbox.{Record}
 use Rattle.plain.specs.Node.{Node, line_of, line_taken}
+use Rattle.plain.specs.Calls.{before_feed}
 use Rattle.plain.specs.Answer.{answer_parts, answer_sets, line_steps}
 use Rattle.state.specs.declared.Clients.{Clients}
 use Rattle.state.specs.declared.State.{State}
 use Rattle.state.specs.View.{is_set, line_bytes}
 use Rattle.outcome.specs.declared.Replied.{Replied}
 use Rattle.promise.specs.Clauses.Leaves.{AnswersEnded}
+
+-- where the first line feed stands, if there is one
+abbrev pub FeedAt : List ℕ → Option ℕ → Type 0
+FeedAt bs (Some n) = (n ≡ length (before_feed bs)) × (n < length bs)
+FeedAt bs None = length bs ≡ length (before_feed bs)
 
 -- no line feed
 abbrev pub Unfed : List ℕ → Type 0

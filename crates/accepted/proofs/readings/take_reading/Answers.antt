@@ -16,8 +16,8 @@ put_updates_to-written-requires c = updates_room _ c.args.state _ _ _ _ _ _ _ c.
 pub stored-settings-requires : goal.stored-settings-requires
 stored-settings-requires c = (search rules, search read_size)
 
-pub sent_counted-next-requires : goal.sent_counted-next-requires
-sent_counted-next-requires c = read_few _ c.args.state _ _ _ _ _ _ _ c.requires _ _ c.put_form-end.ensures _ _ c.bytes_of-module.ensures c.bytes_of-name.ensures
+pub sent_counted-requires : goal.sent_counted-requires
+sent_counted-requires c = read_few _ c.args.state _ _ _ _ _ _ _ c.requires _ _ c.put_form-end.ensures _ _ c.bytes_of-module.ensures c.bytes_of-name.ensures
     c.put_updates_to-written.ensures
 
 pub shape_of-values : goal.shape_of-values
@@ -26,4 +26,4 @@ shape_of-values c = search (rules, c.put_form-end)
 pub returns : goal.returns
 returns c = let z = settings_sized c.args.state.settings c.well_formed.1.1.1.0.1.1.1.0 in
     is_taken _ c.args.state _ _ _ _ _ _ _ c.requires _ _ c.put_form-end.ensures _ _ c.bytes_of-module.ensures c.bytes_of-name.ensures
-    z _ c.stored-settings.ensures _ _ c.put_updates_to-written.ensures _ c.sent_counted-next.ensures
+    z _ c.stored-settings.ensures _ _ c.put_updates_to-written.ensures _ c.sent_counted.ensures
