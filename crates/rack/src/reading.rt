@@ -38,8 +38,7 @@ pub fn read_one(
     let Some((p, home)) = parameter_by_number(table, k) else {
         return bare_quiet(14, state);
     };
-    let info = p.info;
-    let Ok(()) = verdict(table, info, bytes) else {
+    let Ok(()) = verdict(table, p.info, bytes) else {
         return bare_quiet(15, state);
     };
     take_reading(table, values, outbox, state, k, time, bytes, p, home)
