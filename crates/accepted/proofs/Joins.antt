@@ -268,9 +268,6 @@ pub no_feed_at : (bs : List ℕ) (o : Option ℕ) → FeedAt bs o → ((x : ℕ)
 no_feed_at bs None f n = f
 no_feed_at bs (Some x) f n = absurd (n x refl)
 
-pub joined_done : (s : State) (n : ℕ) (r q : Clients) → r ≡ q → done_with n 0 0 (next_clients s r) ≡ done_with n 0 0 (next_clients s q)
-joined_done s n r q e = rw e
-
 module _ (table : List ℕ) (s : State) (values outbox : List ℕ) (c t : ℕ) (bs : List ℕ) (g : Ready table s values outbox c) {n : ℕ}
     (first : n ≡ length (before_feed bs)) where
   abbrev piece : Event
