@@ -1,42 +1,16 @@
--- Laws of loops over an index: bytes made free one by one, and bytes met from a place on, round the end. Assumes nothing.
+-- Laws of the bytes of an index, met from a place on, round the end. Assumes nothing.
 use Prim.Native.Nat.{ℕ, ◌+◌, ◌%◌, ◌≤◌, ◌<◌}
 use native.Mathlib.Nat.{mod-lt}
 use native.Mathlib.Numerals.{add-one}
 use native.Mathlib.Omega.{arith}
-use mathlib.Core.Path.{◌≡◌, refl, sym, ◌∙◌}
+use mathlib.Core.Path.{◌≡◌, ◌∙◌}
 use mathlib.Core.List.{List, [], ◌∷◌}
 use lib.Dec.{lit<}
-use lib.ListN.{length, get_or, take, drop, set, replicate, length-set, drop_of_length-le, replicate-append-replicate}
-use lib.Seq.{take-suc-set, take_all, drop-cons}
+use lib.ListN.{length, get_or, drop, set, drop_of_length-le}
+use lib.Seq.{drop-cons}
 use Rattle.ascii.specs.Bytes.{take_while}
-use Rattle.index.specs.Index.{empty, around, passed, place_from, entered}
+use Rattle.index.specs.Index.{around, passed, place_from, entered}
 use Rattle.index.proofs.Around.{length_around, get_d_around, is_free_lem, not_free, front}
-
--- ## All bytes free
-
--- the first i bytes of an index are free
-pub record Cleared (xs : List ℕ) (i : ℕ) : Type 0 where
-  pub size : length xs ≡ 128
-  pub within : i ≤ 128
-  pub front : take i xs ≡ replicate i 255
-
-pub cleared_start : (xs : List ℕ) → length xs ≡ 128 → Cleared xs 0
-cleared_start xs h = record { size = h; within = omega arith; front = refl }
-
-module _ (xs : List ℕ) (i : ℕ) (c : Cleared xs i) where
-  pub cleared_more : i < 128 → Cleared (set xs i 255) (i + 1)
-  cleared_more h =
-      record {
-        size = simp length-set c.size;
-        within = omega arith;
-        front = rw (add-one, take-suc-set xs i 255 (rw c.size h), c.front) (replicate-append-replicate i 1 255 ∙ rw add-one);
-      }
-
-  pub cleared_end : 128 ≤ i → xs ≡ empty
-  unfolding empty
-  cleared_end h =
-      let e : i ≡ 128 = omega (arith, c.within) in
-      sym (take_all 128 xs (omega (arith, c.size))) ∙ (rw e at c.front)
 
 -- ## The bytes from a place on
 

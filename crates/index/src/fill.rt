@@ -8,11 +8,7 @@ pub fn clear(index: &mut [u8])
     requires { length index.old ≡ 128 }
     ensures { index.new ≡ empty }
 {
-    let mut i = 0;
-    while i < INDEX {
-        index[i] = FREE;
-        i += 1;
-    }
+    index.fill(FREE);
 }
 
 // From the place start to the next free byte, round the end.
@@ -20,13 +16,11 @@ fn place_from(index: &[u8], start: usize) -> usize
     requires { (length index.now ≡ 128) × (start < 128) }
     ensures { result ≡ place_from start index.now }
 {
-    let mut n: usize = 0;
     let mut p = start;
-    while n < INDEX {
+    for _ in 0..INDEX {
         if index[p] == FREE {
             return p;
         }
-        n += 1;
         p = (p + 1) % INDEX;
     }
     p

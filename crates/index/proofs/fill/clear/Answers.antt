@@ -1,11 +1,9 @@
-use Rattle.index.proofs.Places.{cleared_start, cleared_more, cleared_end}
+-- `index::fill::clear` meets its contract. Assumes nothing.
+use mathlib.Core.Path.{ap, ◌∙◌}
+use lib.ListN.{replicate}
+use Rattle.index.specs.Index.{empty}
 use Rattle.index.proofs.fill.clear.Goals as goal
 
-pub loop-i-init : goal.loop-i-init
-loop-i-init c = search cleared_start
-
-pub loop-i-preserved : goal.loop-i-preserved
-loop-i-preserved c = search cleared_more
-
 pub returns : goal.returns
-returns c = search cleared_end
+unfolding empty
+returns c = c.fill.ensures.after (λ y e. e) ∙ ap (λ n. replicate n 255) c.requires
