@@ -3,15 +3,16 @@ use Rattle.std.specs.Prelude.{Option, Some, None, unwrap_or}
 use Prim.Native.Nat.{ℕ, zero, suc, ◌+◌, ◌-◌, ◌≤◌, ◌<◌}
 use native.Mathlib.Numerals.{sub-one}
 use native.Mathlib.Omega.{arith}
-use mathlib.Core.Path.{◌≡◌, refl, sym, ap, ◌∙◌}
-use mathlib.Core.Bool.{Bool, true, false}
+use mathlib.Core.Path.{◌≡◌, refl, ◌∙◌}
+use mathlib.Core.Bool.{Bool, false}
 use mathlib.Core.List.{List, [], ◌++◌}
+use lib.Dec.{eqb}
 use lib.ListN.{length, get_or, drop}
 use borrow.Author.Tests.{eq-eqb, ne_eqb}
 use Rattle.ascii.specs.Text.{bytes}
 use Rattle.ascii.specs.Bytes.{◌>>=◌}
 use Rattle.ascii.specs.Numbers.{integer, signed}
-use Rattle.ascii.specs.Clauses.Reader.{Ends, rest}
+use Rattle.ascii.specs.Clauses.Reader.{Ends}
 use Rattle.json_text.specs.Json.{quoted, compact, compact_members, more_members}
 use Rattle.datainfo.specs.Datainfo.{Datainfo}
 use Rattle.datainfo.specs.Layout.{entry, double_at, int_at, string_at, array_at, scaled_at, blob_at, typed, datainfo_in}
@@ -22,19 +23,8 @@ use Rattle.report.specs.Report.{datainfo_value}
 use Rattle.emit.specs.Clauses.Emitted.{Emits, comma, told, Says}
 use Rattle.infos.specs.Clauses.Texts.{NameEnds, datainfo_text, opening, closing, held_text, member_text, members_text, count_text, list_text}
 use Rattle.emit.proofs.Pieces.{both, nothing}
-use Rattle.emit.proofs.Says.{never, says_nothing, says_text, Leads, parts_none, parts_more}
+use Rattle.emit.proofs.Says.{says_nothing, says_text, Leads, parts_none, parts_more}
 use Rattle.infos.proofs.Lists.{enum_list, tuple_list, struct_list, partial_list, member_rest}
-
--- past a member's name
-module _ (s : List ℕ) (i k : ℕ) (q : Option ℕ) (e : Ends s q (rest (entry k (drop i s)))) where
-  pub name_ends : (j : ℕ) → q ≡ Some j → NameEnds s i k j
-  name_ends j z = record { within = (rw z at e).1; is = λ g. go (sym (ap rest g) ∙ (rw z at e).0) }
-    where
-      go : {x y : List ℕ} → Some x ≡ Some y → x ≡ y
-      go h = cc
-
-  pub nameless : i ≤ length s → q ≡ None → NameEnds s i k i
-  nameless w z = record { within = w; is = λ g. absurd (never (sym (rw z at e) ∙ ap rest g)) }
 
 -- ## A member of the kind k
 
@@ -75,7 +65,7 @@ module _ (s : List ℕ) (i l k : ℕ) {d : List ℕ} {at : ℕ} where
   unfolding count_text
   members_none w = says_nothing (rw (no_byte s i w))
 
-  pub members_start : (n : ℕ) → i < length s → n ≡ get_or s i 0 → Leads (count_text (datainfo_in l) k (drop i s)) d at (to_come s l k true n (i + 1)) d at
+  pub members_start : (n : ℕ) → i < length s → n ≡ get_or s i 0 → Leads (count_text (datainfo_in l) k (drop i s)) d at (to_come s l k (eqb 0 0) n (i + 1)) d at
   unfolding count_text
   members_start n w c = record { says = λ y. rw (one_byte s i w, ← c) y }
 
@@ -86,6 +76,10 @@ module _ (s : List ℕ) (i l k : ℕ) {d : List ℕ} {at : ℕ} where
       go : (o : Option (List ℕ × List ℕ)) → Says o e p f q → Says (told (λ t. opening k ++ t ++ closing k) o) d at h r
       go None y = says_nothing refl
       go (Some t) y = says_text refl (both (both x (y.is refl)) z)
+
+-- no member after another is the first
+pub not_first : (m : ℕ) → eqb (m + 1) 0 ≡ false
+not_first m = ne_eqb (m + 1) 0 (omega arith)
 
 members_step : (f : List ℕ → Option (Datainfo × List ℕ)) (k : ℕ) (first : Bool) (n : ℕ) (xs : List ℕ) → 0 < n → members_text f k first n xs ≡ (member_text f k xs >>= λ p. told (λ t. comma first ++ p.0 ++ t) (members_text f k false (n - 1) p.1))
 unfolding members_text
@@ -104,9 +98,10 @@ module _ (s : List ℕ) (l k n j : ℕ) (first : Bool) (o : Option (List ℕ × 
         go.says
         (says_nothing (rw (members_step (datainfo_in l) k first n (drop j s) w) (parts_none first (member_text (datainfo_in l) k (drop j s)) (members_text (datainfo_in l) k false (n - 1)) (member_rest (datainfo_in l) k (drop j s) ∙ rw z at e))))
 
-    pub members_more : (j' : ℕ) → q ≡ Some j' → {f g : List ℕ} {p1 p2 : ℕ} → Emits d' p (comma first) f p1 → Says (member_text (datainfo_in l) k (drop j s)) f p1 g p2 → Leads o d at (to_come s l k false (n - 1) j') g p2
-    members_more j' z x y =
-        record {
+    pub members_more : (j' : ℕ) → q ≡ Some j' → {f g : List ℕ} {p1 p2 : ℕ} → Emits d' p (comma first) f p1 → Says (member_text (datainfo_in l) k (drop j s)) f p1 g p2 → (start : Bool) → start ≡ false → (n' : ℕ) → n' ≡ n - 1
+        → Leads o d at (to_come s l k start n' j') g p2
+    members_more j' z x y start u n' v =
+        rw (u, v) record {
           says = λ u. go.says
               (rw (members_step (datainfo_in l) k first n (drop j s) w)
               ((parts_more first (member_text (datainfo_in l) k (drop j s)) (members_text (datainfo_in l) k false (n - 1)) (member_rest (datainfo_in l) k (drop j s) ∙ (rw z at e).0) x y).says u));

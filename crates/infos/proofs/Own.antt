@@ -76,9 +76,9 @@ module _ (s : List ℕ) (i : ℕ) (u : Option (ℕ × ℕ)) (k : ReadsValue s u 
   unfolding members_at
   names_short z = says_nothing (rw (rw z at k))
 
-  pub names_first : (n j : ℕ) → u ≡ Some (n, j) → (out : List ℕ) (at : ℕ) → at ≤ 18446744073709551615 → NamesAt s i j n true out at out at
+  pub names_first : (n j : ℕ) → u ≡ Some (n, j) → (left : ℕ) → left ≡ n → (out : List ℕ) (at : ℕ) → at ≤ 18446744073709551615 → NamesAt s i j left true out at out at
   unfolding members_at names_text
-  names_first n j z out at w = record {
+  names_first n j z left v out at w = rw v record {
     from = λ {m = m} e. record {
       gs = m;
       x = _;
@@ -122,8 +122,8 @@ module _ (s : List ℕ) (i place left : ℕ) (first : Bool) (before : List ℕ) 
         absurd (never (sym (rw z at l) ∙ past_field (datainfo_in 3) 11 (drop place s) n j))
 
     pub names_more : (e : ℕ) → r ≡ Some e → (out1 : List ℕ) (p1 : ℕ) → NamesOptional (entry 11 (drop place s)) first out p out1 p1 → (then : Bool)
-        → StaysFirst (entry 11 (drop place s)) first then → NamesAt s i e (left - 1) then before at out1 p1
-    names_more e z out1 p1 w then v = record {
+        → StaysFirst (entry 11 (drop place s)) first then → (n : ℕ) → n ≡ left - 1 → NamesAt s i e n then before at out1 p1
+    names_more e z out1 p1 w then v n y = rw y record {
       from = λ f. let q = c.from f in fields_some (datainfo_in 3) 11 left (drop place s) h q.reads λ a y d y' hs n j o w'. record {
         gs = hs;
         x = q.x;

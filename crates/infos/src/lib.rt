@@ -20,7 +20,7 @@ ghost use Rattle.infos.specs.Clauses.Texts.{count_text, list_text};
 
 use ascii::byte;
 use ascii::numbers::{signed, unsigned};
-use datainfo::layout::{field_end, member_end, named_end, wide};
+use datainfo::layout::{field_end, member_end, named_end};
 use datainfo::rules::{limit_at, named_at};
 use emit::{
     emit, emit_comma, emit_integer, emit_key, emit_labelled_decimal, emit_labelled_integer,
@@ -154,26 +154,22 @@ fn emit_array(out: &mut [u8], at: usize, s: &[u8], i: usize, levels: usize) -> u
 fn emit_opening(out: &mut [u8], at: usize, k: u8) -> usize
     ensures { Emits out.old at (opening k) out.new result }
 {
-    if k == 4 {
-        return emit(out, at, b"{\"type\":\"enum\",\"members\":{");
+    match k {
+        4 => emit(out, at, b"{\"type\":\"enum\",\"members\":{"),
+        7 => emit(out, at, b"{\"type\":\"tuple\",\"members\":["),
+        _ => emit(out, at, b"{\"type\":\"struct\",\"members\":{"),
     }
-    if k == 7 {
-        return emit(out, at, b"{\"type\":\"tuple\",\"members\":[");
-    }
-    emit(out, at, b"{\"type\":\"struct\",\"members\":{")
 }
 
 // What stands after them.
 fn emit_closing(out: &mut [u8], at: usize, k: u8) -> usize
     ensures { Emits out.old at (closing k) out.new result }
 {
-    if k == 7 {
-        return emit(out, at, b"]}");
+    match k {
+        7 => emit(out, at, b"]}"),
+        11 => emit(out, at, b"},\"optional\":[]}"),
+        _ => emit(out, at, b"}}"),
     }
-    if k == 11 {
-        return emit(out, at, b"},\"optional\":[]}");
-    }
-    emit(out, at, b"}}")
 }
 
 // The number of an enum's member.
@@ -200,10 +196,7 @@ fn name_end(s: &[u8], i: usize, k: u8) -> usize
     requires { i ≤ length s.now }
     ensures { NameEnds s.now i k result }
 {
-    match named_end(s, i, k) {
-        Some(e) => e,
-        None => i,
-    }
+    named_end(s, i, k).unwrap_or(i)
 }
 
 // A member of the kind k: in an enum (4) a name and an i32, in a tuple (7) a datainfo, in a struct (8 or 11) a name and a datainfo.
@@ -234,17 +227,14 @@ fn emit_members(out: &mut [u8], at: usize, s: &[u8], i: usize, levels: usize, k:
     }
     let mut p = at;
     let mut j = i + 1;
-    let mut left = wide(s[i]);
-    let mut first = true;
-    while 0 < left {
+    let count = s[i];
+    for m in 0..count {
         let Some(e) = member_end(s, j, levels, k) else {
             return p;
         };
-        let c = emit_comma(out, p, first);
+        let c = emit_comma(out, p, m == 0);
         p = emit_member(out, c, s, j, levels, k);
-        first = false;
         j = e;
-        left -= 1;
     }
     p
 }
@@ -330,16 +320,14 @@ fn emit_names(out: &mut [u8], at: usize, s: &[u8], i: usize) -> usize
     };
     let mut p = at;
     let mut field = from;
-    let mut left = count;
     let mut first = true;
-    while 0 < left {
+    for _ in 0..count {
         let Some(e) = field_end(s, field, 3, 11) else {
             return p;
         };
         p = emit_optional(out, p, s, field, first);
         first = stays_first(s, field, first);
         field = e;
-        left -= 1;
     }
     p
 }

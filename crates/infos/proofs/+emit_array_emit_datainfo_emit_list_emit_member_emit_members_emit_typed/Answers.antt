@@ -5,7 +5,7 @@ use Rattle.ascii.specs.Text.{bytes}
 use Rattle.ascii.proofs.Bytes.{ended_within}
 use Rattle.datainfo.proofs.Own.{unsigned_within}
 use Rattle.infos.proofs.Infos.{array_none, array_one, array_told}
-use Rattle.infos.proofs.Nested.{member_plain, member_variant, member_field, members_none, members_start, list_told, members_end, members_bad, members_more, typed_double, typed_int, typed_bool, typed_enum, typed_string, typed_array, typed_tuple, typed_struct, typed_scaled, typed_blob, typed_partial, typed_unknown, datainfo_fifth, datainfo_none, datainfo_some}
+use Rattle.infos.proofs.Nested.{member_plain, member_variant, member_field, members_none, members_start, list_told, members_end, members_bad, members_more, not_first, typed_double, typed_int, typed_bool, typed_enum, typed_string, typed_array, typed_tuple, typed_struct, typed_scaled, typed_blob, typed_partial, typed_unknown, datainfo_fifth, datainfo_none, datainfo_some}
 use Rattle.infos.proofs.+emit_array_emit_datainfo_emit_list_emit_member_emit_members_emit_typed.Goals as goal
 
 pub emit_array-unsigned-requires : goal.emit_array-unsigned-requires
@@ -65,20 +65,20 @@ emit_member-returns t c = search member_field
 pub emit_members-returns-then-s-i : goal.emit_members-returns-then-s-i
 emit_members-returns-then-s-i t c = search members_none
 
-pub emit_members-loop-left-init : goal.emit_members-loop-left-init
-emit_members-loop-left-init t c = (omega arith, refl, omega arith, search members_start)
+pub emit_members-loop-m-init : goal.emit_members-loop-m-init
+emit_members-loop-m-init t c = (omega arith, refl, omega arith, search (arith, members_start))
 
 pub emit_members-returns-in_default : goal.emit_members-returns-in_default
-emit_members-returns-in_default t c = search members_bad
+emit_members-returns-in_default t c = search (arith, members_bad)
 
 pub emit_members-emit_member-p-requires : goal.emit_members-emit_member-p-requires
 emit_members-emit_member-p-requires t c = (omega arith, omega arith)
 
-pub emit_members-loop-left-preserved : goal.emit_members-loop-left-preserved
-emit_members-loop-left-preserved t c = (search ended_within, search rules, omega arith, search members_more)
+pub emit_members-loop-m-preserved : goal.emit_members-loop-m-preserved
+emit_members-loop-m-preserved t c = (search ended_within, search rules, omega arith, search (arith, members_more, not_first))
 
 pub emit_members-returns : goal.emit_members-returns
-emit_members-returns t c = search members_end
+emit_members-returns t c = search (arith, members_end)
 
 pub emit_typed-emit_list-requires : goal.emit_typed-emit_list-requires
 emit_typed-emit_list-requires t c = (omega arith, omega arith)

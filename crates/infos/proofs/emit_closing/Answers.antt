@@ -3,14 +3,14 @@ use Rattle.infos.proofs.Infos.{closing_tuple, closing_partial, closing_other}
 use Rattle.ascii.specs.Text.{bytes}
 use Rattle.infos.proofs.emit_closing.Goals as goal
 
-pub returns-then-k-eq7 : goal.returns-then-k-eq7
+pub returns-in-7 : goal.returns-in-7
 unfolding bytes
-returns-then-k-eq7 c = search closing_tuple
+returns-in-7 c = search closing_tuple
 
-pub returns-then-k-eq11 : goal.returns-then-k-eq11
+pub returns-in-11 : goal.returns-in-11
 unfolding bytes
-returns-then-k-eq11 c = search closing_partial
+returns-in-11 c = search closing_partial
 
-pub returns : goal.returns
+pub returns-in_default : goal.returns-in_default
 unfolding bytes
-returns c = search closing_other
+returns-in_default c = search closing_other

@@ -12,14 +12,14 @@ unsigned-requires c = (omega arith, omega arith)
 pub returns-in_default : goal.returns-in_default
 returns-in_default c = search names_short
 
-pub loop-left-init : goal.loop-left-init
-loop-left-init c = (search unsigned_within, refl, omega arith, names_first _ _ _ c.unsigned.ensures _ _ c.in-Some.is _ _ (omega arith))
+pub loop-init : goal.loop-init
+loop-init c = (search unsigned_within, refl, omega arith, names_first _ _ _ c.unsigned.ensures _ _ c.in-Some.is _ (omega arith) _ _ (omega arith))
 
 pub returns-in_default-field_end : goal.returns-in_default-field_end
-returns-in_default-field_end c = search names_bad
+returns-in_default-field_end c = search (arith, names_bad)
 
-pub loop-left-preserved : goal.loop-left-preserved
-loop-left-preserved c = (search ended_within, search rules, omega arith, search names_more)
+pub loop-preserved : goal.loop-preserved
+loop-preserved c = (search ended_within, search rules, omega arith, search (arith, names_more))
 
 pub returns : goal.returns
-returns c = search names_over
+returns c = search (arith, names_over)

@@ -3,14 +3,14 @@ use Rattle.infos.proofs.Infos.{opening_enum, opening_tuple, opening_struct}
 use Rattle.ascii.specs.Text.{bytes}
 use Rattle.infos.proofs.emit_opening.Goals as goal
 
-pub returns-then-k-eq4 : goal.returns-then-k-eq4
+pub returns-in-4 : goal.returns-in-4
 unfolding bytes
-returns-then-k-eq4 c = search opening_enum
+returns-in-4 c = search opening_enum
 
-pub returns-then-k-eq7 : goal.returns-then-k-eq7
+pub returns-in-7 : goal.returns-in-7
 unfolding bytes
-returns-then-k-eq7 c = search opening_tuple
+returns-in-7 c = search opening_tuple
 
-pub returns : goal.returns
+pub returns-in_default : goal.returns-in_default
 unfolding bytes
-returns c = search opening_struct
+returns-in_default c = search opening_struct
