@@ -25,7 +25,7 @@ use Rattle.emit.specs.Clauses.Emitted.{Emits, comma, told, Says}
 use Rattle.emit.proofs.Pieces.{both, nothing}
 use Rattle.emit.proofs.Says.{never, says_nothing, says_text}
 use Rattle.emit.proofs.Listed.{listed, listed_first, listed_items, items_first, items_more}
-use Rattle.infos.specs.Clauses.Texts.{NamesOptional, StaysFirst, datainfo_text, own_text, names_text, opening, count_text}
+use Rattle.infos.specs.Clauses.Texts.{datainfo_text, own_text, names_text, opening, count_text}
 use Rattle.infos.proofs.Lists.{count_members}
 use Rattle.std.proofs.lemmas.Option.{same_Some}
 
@@ -37,20 +37,6 @@ module _ (s : List ℕ) (i b : ℕ) (h : ByteAt s i b) where
 
   flag_no : (b ≡ 1 → ⊥) → {a : Bool × List ℕ} {y : List ℕ} → entry 11 (drop i s) ≡ Some (a, y) → a.0 ≡ false
   flag_no z e = entry_flag (drop i s) e ∙ rw (← h.is) (ne_eqb b 1 z)
-
-  module _ (first : Bool) where
-    pub first_lost : b ≡ 1 → StaysFirst (entry 11 (drop i s)) first false
-    first_lost z = record { is = λ e. rw (flag_yes z e) }
-
-    pub first_kept : (b ≡ 1 → ⊥) → StaysFirst (entry 11 (drop i s)) first first
-    first_kept z = record { is = λ e. rw (flag_no z e) }
-
-    pub optional_not : (b ≡ 1 → ⊥) → (d : List ℕ) (at : ℕ) → at ≤ 18446744073709551615 → NamesOptional (entry 11 (drop i s)) first d at d at
-    optional_not z d at w = record { is = λ e. rw (flag_no z e) (nothing d at w) }
-
-    pub optional_put : b ≡ 1 → {d e f : List ℕ} {at p r : ℕ} → Emits d at (comma first) e p → (t : List ℕ) → t ≡ name_in 11 (drop i s) → Emits e p (quoted t) f r
-        → NamesOptional (entry 11 (drop i s)) first d at f r
-    optional_put z x t g y = record { is = λ e. rw (flag_yes z e, ← (name_read 11 (drop i s) t g e)) (both x y) }
 
 -- ## All of them
 
@@ -121,18 +107,28 @@ module _ (s : List ℕ) (i place left : ℕ) (first : Bool) (before : List ℕ) 
         fields_some (datainfo_in 3) 11 left (drop place s) h q.reads λ a y d y' hs n j o w.
         absurd (never (sym (rw z at l) ∙ past_field (datainfo_in 3) 11 (drop place s) n j))
 
-    pub names_more : (e : ℕ) → r ≡ Some e → (out1 : List ℕ) (p1 : ℕ) → NamesOptional (entry 11 (drop place s)) first out p out1 p1 → (then : Bool)
-        → StaysFirst (entry 11 (drop place s)) first then → (n : ℕ) → n ≡ left - 1 → NamesAt s i e n then before at out1 p1
-    names_more e z out1 p1 w then v n y = rw y record {
+    names_more : (e : ℕ) → r ≡ Some e → (out1 : List ℕ) (p1 : ℕ) (then : Bool)
+        → ((a : Bool × List ℕ) (y : List ℕ) → entry 11 (drop place s) ≡ Some (a, y) → Emits out p (cond a.0 (comma first ++ quoted a.1) []) out1 p1 × (then ≡ cond a.0 false first))
+        → (n : ℕ) → n ≡ left - 1 → NamesAt s i e n then before at out1 p1
+    names_more e z out1 p1 then w n y = rw y record {
       from = λ f. let q = c.from f in fields_some (datainfo_in 3) 11 left (drop place s) h q.reads λ a y d y' hs n j o w'. record {
         gs = hs;
         x = q.x;
         reads = rw (same_Some _ _ (sym (past_field (datainfo_in 3) 11 (drop place s) n j) ∙ (rw z at l).0)) at o;
         done = q.done ++ cond a.0 (comma first ++ quoted a.1) [];
-        wrote = both q.wrote (w.is n);
-        whole = q.whole ∙ rw (v.is n) (names_step q.done first a d hs q.gs w');
+        wrote = both q.wrote (w a y n).0;
+        whole = q.whole ∙ rw ((w a y n).1) (names_step q.done first a d hs q.gs w');
       };
     }
+
+    module _ (b : ℕ) (g : ByteAt s place b) (e : ℕ) (z : r ≡ Some e) (n : ℕ) (y : n ≡ left - 1) where
+      pub names_put : b ≡ 1 → {mid after : List ℕ} {q end : ℕ} → Emits out p (comma first) mid q → (t : List ℕ) → t ≡ name_in 11 (drop place s)
+          → Emits mid q (quoted t) after end → NamesAt s i e n false before at after end
+      names_put o {mid} {after} {q} {end} x t v w =
+          names_more e z after end false (λ a y f. (rw (flag_yes s place b g o f, ← (name_read 11 (drop place s) t v f)) (both x w), rw (flag_yes s place b g o f))) n y
+
+      pub names_passed : (b ≡ 1 → ⊥) → p ≤ 18446744073709551615 → NamesAt s i e n first before at out p
+      names_passed o w = names_more e z out p first (λ a y f. (rw (flag_no s place b g o f) (nothing out p w), rw (flag_no s place b g o f))) n y
 
 -- ## Type 11 as a parameter's own
 

@@ -11,10 +11,10 @@ ghost use Rattle.decimal.specs.Clauses.Exact.{decimal};
 ghost use Rattle.datainfo.specs.Datainfo as Datainfo;
 ghost use Rattle.datainfo.specs.Clauses.Obeyed.{name_in};
 ghost use Rattle.datainfo.specs.Clauses.Members.{members_at};
-ghost use Rattle.datainfo.specs.Layout.{double_at, int_at, string_at, entry, array_at, partial_at, scaled_at, blob_at, typed, datainfo_in};
+ghost use Rattle.datainfo.specs.Layout.{double_at, int_at, string_at, array_at, partial_at, scaled_at, blob_at, typed, datainfo_in};
 ghost use Rattle.report.specs.Report.{decimal_text};
 ghost use Rattle.emit.specs.Clauses.Emitted.{Emits, told, Says};
-ghost use Rattle.infos.specs.Clauses.Texts.{NameEnds, NamesOptional, StaysFirst, datainfo_text, own_text, names_text, array_limits, opening, closing};
+ghost use Rattle.infos.specs.Clauses.Texts.{NameEnds, datainfo_text, own_text, names_text, array_limits, opening, closing};
 ghost use Rattle.infos.specs.Clauses.Texts.{member_text};
 ghost use Rattle.infos.specs.Clauses.Texts.{count_text, list_text};
 
@@ -287,29 +287,6 @@ pub fn emit_datainfo(out: &mut [u8], at: usize, s: &[u8], i: usize, levels: usiz
     emit_typed(out, at, s, i + 1, levels - 1, s[i])
 }
 
-// The name of the member of type 11 at a position, if it is optional, with a comma before it unless it is the first.
-fn emit_optional(out: &mut [u8], at: usize, s: &[u8], i: usize, first: bool) -> usize
-    requires { i ≤ length s.now }
-    ensures { NamesOptional (entry 11 (drop i s.now)) first out.old at out.new result }
-{
-    if byte(s, i) != 1 {
-        return at;
-    }
-    let a = emit_comma(out, at, first);
-    emit_string(out, a, named_at(s, i, 11))
-}
-
-// Whether the next would be the first.
-fn stays_first(s: &[u8], i: usize, first: bool) -> bool
-    requires { i ≤ length s.now }
-    ensures { StaysFirst (entry 11 (drop i s.now)) first result }
-{
-    if byte(s, i) == 1 {
-        return false;
-    }
-    first
-}
-
 // The names of the optional members of type 11, past its type byte, with commas between them.
 fn emit_names(out: &mut [u8], at: usize, s: &[u8], i: usize) -> usize
     requires { i ≤ length s.now }
@@ -325,8 +302,11 @@ fn emit_names(out: &mut [u8], at: usize, s: &[u8], i: usize) -> usize
         let Some(e) = field_end(s, field, 3, 11) else {
             return p;
         };
-        p = emit_optional(out, p, s, field, first);
-        first = stays_first(s, field, first);
+        if byte(s, field) == 1 {
+            let c = emit_comma(out, p, first);
+            p = emit_string(out, c, named_at(s, field, 11));
+            first = false;
+        }
         field = e;
     }
     p

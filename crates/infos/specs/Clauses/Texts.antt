@@ -4,7 +4,7 @@ use Rattle.ascii.specs.Text.{bytes}
 use Rattle.ascii.specs.Bytes.{◌>>=◌}
 use Rattle.ascii.specs.Numbers.{decimal, integer, unsigned, signed}
 use Rattle.json_text.specs.Json.{quoted, compact, compact_items}
-use Rattle.emit.specs.Clauses.Emitted.{Emits, comma, told}
+use Rattle.emit.specs.Clauses.Emitted.{comma, told}
 use Rattle.datainfo.specs.Datainfo.{Datainfo, Parts}
 use Rattle.datainfo.specs.Layout.{entry}
 use Rattle.report.specs.Report.{name_items, datainfo_value}
@@ -31,14 +31,6 @@ array_limits lo hi = bytes "{\"type\":\"array\",\"minlen\":" ++ decimal lo ++ (b
 pub record NameEnds (s : List ℕ) (i k r : ℕ) : Type 0 where
   pub within : r ≤ length s
   pub is : {a : Bool × List ℕ} {left : List ℕ} → entry k (drop i s) ≡ Some (a, left) → left ≡ drop r s
-
--- the name of the member that o reads was written, if it is optional, with a comma before it unless it is the first
-pub record NamesOptional (o : Option ((Bool × List ℕ) × List ℕ)) (first : Bool) (before : List ℕ) (at : ℕ) (after : List ℕ) (end : ℕ) : Type 0 where
-  pub is : {a : Bool × List ℕ} {y : List ℕ} → o ≡ Some (a, y) → Emits before at (cond a.0 (comma first ++ quoted a.1) []) after end
-
--- r is whether none has been written after it
-pub record StaysFirst (o : Option ((Bool × List ℕ) × List ℕ)) (first r : Bool) : Type 0 where
-  pub is : {a : Bool × List ℕ} {y : List ℕ} → o ≡ Some (a, y) → r ≡ cond a.0 false first
 
 -- what stands before the members of the kind k, and after them
 unfoldable pub opening : ℕ → List ℕ
