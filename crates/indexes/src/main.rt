@@ -18,16 +18,6 @@ fn number(high: u8, middle: u8, low: u8) -> usize {
     high as usize * 65536 + middle as usize * 256 + low as usize
 }
 
-// What stands before a number, and the number.
-fn write_number<W: Write>(output: &mut W, label: &[u8], n: usize) -> io::Result<()> {
-    output.write_all(label)?;
-    write!(output, "{n}")
-}
-
-fn end_line<W: Write>(output: &mut W) -> io::Result<()> {
-    output.write_all(b"\n")
-}
-
 // A name, read to the front of a lent buffer; its length.
 fn name_in<R: Read>(input: &mut R, space: &mut [u8]) -> io::Result<usize>
     ensures { IfOk result (λ n. n ≤ length space.new) }
@@ -45,19 +35,12 @@ fn length_in<R: Read>(input: &mut R, kept: &[u8]) -> io::Result<usize>
     ensures { IfOk result (λ n. n ≤ length kept.now) }
 {
     let n = read_byte(input)? as usize;
-    if kept.len() < n {
-        return Ok(kept.len());
-    }
-    Ok(n)
-}
-
-fn write_byte<W: Write>(output: &mut W, b: u8) -> io::Result<()> {
-    write!(output, "{b:02x}")
+    Ok(n.min(kept.len()))
 }
 
 fn write_bytes<W: Write>(output: &mut W, s: &[u8]) -> io::Result<()> {
     for b in s {
-        write_byte(output, *b)?;
+        write!(output, "{b:02x}")?;
     }
     Ok(())
 }
@@ -70,10 +53,9 @@ fn fill_in<R: Read, W: Write>(
     kept: &mut [u8],
 ) -> io::Result<()> {
     let n = length_in(input, kept)?;
-    write_number(output, b"fill ", fill(s, &mut kept[..n]) as usize)?;
-    output.write_all(b" ")?;
+    write!(output, "fill {} ", fill(s, &mut kept[..n]))?;
     write_bytes(output, kept)?;
-    end_line(output)
+    writeln!(output)
 }
 
 // A place, and the byte there.
@@ -89,16 +71,10 @@ fn write_in<R: Read>(input: &mut R, kept: &mut [u8]) -> io::Result<()> {
 // What is located: its number among its kind, and its module's.
 fn write_located<W: Write>(output: &mut W, located: Located) -> io::Result<()> {
     match located {
-        Located::NoModule => output.write_all(b"no module"),
-        Located::Nothing => output.write_all(b"none"),
-        Located::Parameter(k, home, _) => {
-            write_number(output, b"parameter ", k)?;
-            write_number(output, b" of ", home)
-        }
-        Located::Command(k, home, _) => {
-            write_number(output, b"command ", k)?;
-            write_number(output, b" of ", home)
-        }
+        Located::NoModule => write!(output, "no module"),
+        Located::Nothing => write!(output, "none"),
+        Located::Parameter(k, home, _) => write!(output, "parameter {k} of {home}"),
+        Located::Command(k, home, _) => write!(output, "command {k} of {home}"),
     }
 }
 
@@ -117,10 +93,8 @@ fn seek_in<R: Read, W: Write>(
     let m = name_in(input, &mut module)?;
     let n = name_in(input, &mut name)?;
     let r = locate(s, &kept[..lent], &module[..m], &name[..n]);
-    let located = r.located;
-    write_located(output, located)?;
-    write_number(output, b" steps ", r.steps)?;
-    end_line(output)
+    write_located(output, r.located)?;
+    writeln!(output, " steps {}", r.steps)
 }
 
 // One operation; whether there was one. In a table that is refused nothing is sought.
@@ -130,8 +104,7 @@ fn operation_in<R: Read, W: Write>(
     s: &[u8],
     kept: &mut [u8],
 ) -> io::Result<bool> {
-    let kind = read_byte(input)?;
-    match kind {
+    match read_byte(input)? {
         b'f' => fill_in(input, output, s, kept)?,
         b'b' => write_in(input, kept)?,
         b's' => {
@@ -140,9 +113,7 @@ fn operation_in<R: Read, W: Write>(
             }
             seek_in(input, output, s, kept)?;
         }
-        _ => {
-            return Ok(false);
-        }
+        _ => return Ok(false),
     }
     Ok(true)
 }
