@@ -85,8 +85,8 @@ module _ (s m a xs : List ℕ) (start n q : ℕ) (c : Looking (is_named m a) (ac
   look_free h e = answer_nothing (looking_free (is_named m a) (accessibles (table_of s)) xs start n q c h e)
 
   pub look_end :
-      128 ≤ n → Answers s (record { found = None; steps = n }) (looked (is_named m a) (accessibles (table_of s)) (around start xs))
-  look_end h = answer_nothing (looking_end (is_named m a) (accessibles (table_of s)) xs start n q c h)
+      128 ≤ n → (k : ℕ) → k ≡ n → Answers s (record { found = None; steps = k }) (looked (is_named m a) (accessibles (table_of s)) (around start xs))
+  look_end h k e = rw e (answer_nothing (looking_end (is_named m a) (accessibles (table_of s)) xs start n q c h))
 
   module _ (h : n < 128) (u : get_or xs q 0 ≡ 255 → ⊥) (r : Option (O.Accessible × Walk)) (hr : Finds s r (offered (is_named m a) (accessibles (table_of s)) (get_or xs q 0))) where
     pub look_found :

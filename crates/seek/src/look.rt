@@ -40,9 +40,8 @@ fn look(s: &[u8], index: &[u8], start: usize, module: &[u8], name: &[u8]) -> Sou
     ensures { Answers s.now result
         (looked (is_named «module».now name.now) (accessibles (table_of s.now)) (around start index.now)) }
 {
-    let mut n: usize = 0;
     let mut at = start;
-    while n < INDEX {
+    for n in 0..INDEX {
         let b = index[at];
         if b == FREE {
             return Sought {
@@ -56,12 +55,11 @@ fn look(s: &[u8], index: &[u8], start: usize, module: &[u8], name: &[u8]) -> Sou
                 steps: n + 1,
             };
         }
-        n += 1;
         at = (at + 1) % INDEX;
     }
     Sought {
         found: None,
-        steps: n,
+        steps: INDEX,
     }
 }
 

@@ -1,3 +1,4 @@
+use native.Mathlib.Omega.{arith}
 use Rattle.index.proofs.Loops.{looking_start}
 use Rattle.seek.proofs.Seeking.{look_free, look_found, look_more, look_end}
 use Rattle.seek.proofs.look.look.Goals as goal
@@ -15,4 +16,4 @@ pub loop-n-preserved : goal.loop-n-preserved
 loop-n-preserved c = search look_more
 
 pub returns : goal.returns
-returns c = search look_end
+returns c = search (arith, look_end)
