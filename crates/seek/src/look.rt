@@ -94,14 +94,12 @@ fn search(s: &[u8], index: &[u8], module: &[u8], name: &[u8]) -> Sought
 {
     let start = start_place(module, name);
     let looked = look(s, index, start, module, name);
-    let found = looked.found;
-    if let Some((_, _)) = found {
+    if let Some((_, _)) = looked.found {
         return looked;
     }
     let walked = walk(s, module, name);
-    let it = walked.found;
     Sought {
-        found: it,
+        found: walked.found,
         steps: looked.steps + walked.steps,
     }
 }
