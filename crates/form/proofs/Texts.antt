@@ -10,7 +10,6 @@ use mathlib.Core.List.{List}
 use lib.ListN.{length, take, drop}
 use lib.Seq.{sets, sets-eq, take_at}
 use lib.Dec.{eqb, leb}
-use Rattle.std.specs.Cmp.Lexicographic.{pointwise}
 use borrow.Author.Tests.{le-leb, lt-leb, leb-true, leb-false}
 use Rattle.ascii.specs.Bytes.{is_some, same}
 use Rattle.ascii.specs.Clauses.Reader.{Left}
@@ -25,7 +24,6 @@ use Rattle.fit.specs.Clauses.Verdict.{meaning, Judges, JudgesText, TellsStored}
 use Rattle.fit.proofs.Judged.{worse_fits, same_read}
 use Rattle.fit.proofs.Items.{unspaced}
 use Rattle.form.specs.Clauses.Formed.{FormsText, FormIsLong, FitsAt, PutsForm, TellsOwn}
-use Rattle.form.proofs.Fields.{pointwise_same}
 use Rattle.form.proofs.Stored.{stored_short, fits_value}
 use Rattle.form.proofs.Typed.{text_value}
 use Rattle.fit.specs.declared.Misfit.{Misfit}
@@ -130,8 +128,8 @@ module _ (s : List ℕ) (info : ℕ) (v out after : List ℕ) (n : ℕ) (g : Fit
       let k : n ≡ length (stored_form d v) = p.ends ∙ zero-add (length (stored_form d v)) in
       rw (k, p.is) (front out (stored_form d v) (omega (arith, x.short)))
 
-  pub own_told : (r : Bool) → r ≡ pointwise eqb (take n after) v → TellsOwn (datainfo_in 4 (drop info s)) v r
-  own_told r e = record { is = λ f. e ∙ pointwise_same (take n after) v ∙ ap (λ (z : List ℕ). same z v) (written f) }
+  pub own_told : (r : Bool) → r ≡ same (take n after) v → TellsOwn (datainfo_in 4 (drop info s)) v r
+  own_told r e = record { is = λ f. e ∙ ap (λ (z : List ℕ). same z v) (written f) }
 
 -- ## Whether a text is in stored form
 

@@ -13,6 +13,7 @@ ghost use Rattle.ascii.specs.Bytes.{is_some};
 pub mod complete;
 pub mod write;
 
+use ascii::names::same;
 use fit::Misfit;
 use fit::fit::{fit, range_fit};
 use json_text::read::{is_text, spaces_end};
@@ -55,7 +56,7 @@ fn is_own_form(s: &[u8], at: usize, v: &[u8]) -> bool
 {
     let mut form = [0; PLACE];
     let n = put_form(s, at, &mut form, 0, v);
-    &form[..n] == v
+    same(&form[..n], v)
 }
 
 // Whether a text fits and is in stored form.

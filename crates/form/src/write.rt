@@ -9,6 +9,7 @@ ghost use Rattle.form.specs.Clauses.Formed.{Copies, PutsNumber, Forms, FormsItem
 ghost use Rattle.form.specs.Clauses.Formed.{FormsStruct, FormsField, FormsFields, FormsOrdered, FormsText, FormIsLong};
 
 use ascii::byte;
+use ascii::names::same;
 use ascii::numbers::unsigned;
 use datainfo::layout::{datainfo_end, field_end, named_end, part_end};
 use datainfo::rules::named_at;
@@ -70,7 +71,7 @@ fn field_at(s: &[u8], i: usize, levels: usize, k: u8, name: &[u8]) -> Option<usi
     let mut field = from;
     for _ in 0..count {
         let inner = named_end(s, field, k)?;
-        if named_at(s, field, k) == name {
+        if same(named_at(s, field, k), name) {
             return Some(inner);
         }
         field = datainfo_end(s, inner, levels)?;

@@ -1,18 +1,19 @@
 -- `ascii::names::compare` meets its contract. Assumes nothing.
-use Rattle.std.proofs.Common.{rules, tests}
-use Rattle.std.proofs.lemmas.Iterator.{YieldsList-from_slice, YieldsList-from_zip, IsFirst-from_position}
-use Rattle.ascii.proofs.Compares.{compared_lengths, compared_none, compared_some, Differ, Alike}
+use native.Mathlib.Omega.{arith}
+use Rattle.ascii.proofs.Compares.{compared_lengths, compared_first, compared_all, agree_start, agree_more}
 use Rattle.ascii.proofs.names.compare.Goals as goal
 
 pub returns-then-a-b : goal.returns-then-a-b
 returns-then-a-b c = search compared_lengths
 
-pub returns-in-Some : goal.returns-in-Some
-returns-in-Some c =
-    let found = IsFirst-from_position c.position.new.self _ c.position.result Differ Alike c.position.ensures.ran (YieldsList-from_zip (YieldsList-from_slice c.args.a.now cc) (YieldsList-from_slice c.args.b.now cc)) (λ x q k. search (rules, tests)) (λ x q k. search (rules, tests)) in
-    compared_some _ _ c.if-a-b.false c.in-Some.i (rw c.in-Some.is at found)
+pub loop-i-init : goal.loop-i-init
+loop-i-init c = agree_start _ _
 
-pub returns-in-None : goal.returns-in-None
-returns-in-None c =
-    let found = IsFirst-from_position c.position.new.self _ c.position.result Differ Alike c.position.ensures.ran (YieldsList-from_zip (YieldsList-from_slice c.args.a.now cc) (YieldsList-from_slice c.args.b.now cc)) (λ x q k. search (rules, tests)) (λ x q k. search (rules, tests)) in
-    compared_none _ _ c.if-a-b.false (rw c.in-None.is at found)
+pub returns-then-a-i : goal.returns-then-a-i
+returns-then-a-i c = compared_first _ _ c.if-a-b.false c.loop-i.i record { within = c.loop-i-test.true; differs = c.if-a-i.true; before = c.loop-i.invariant }
+
+pub loop-i-preserved : goal.loop-i-preserved
+loop-i-preserved c = agree_more _ _ c.loop-i.i c.loop-i.invariant c.if-a-i.false
+
+pub returns : goal.returns
+returns c = compared_all _ _ c.if-a-b.false (λ j h. c.loop-i.invariant j (omega arith))

@@ -13,8 +13,8 @@ loop-init c = (search (unsigned_within, c.in_ok-count.was), search (arith, sough
 pub returns-in_err-inner : goal.returns-in_err-inner
 returns-in_err-inner c = rw c.from_residual-in_err-inner.ensures (search (arith, sought_nameless, c.in_err-inner.was))
 
-pub returns-then-eq : goal.returns-then-eq
-returns-then-eq c = search (arith, sought_hit, c.in_ok-inner.was)
+pub returns-then-same : goal.returns-then-same
+returns-then-same c = search (arith, sought_hit, c.in_ok-inner.was)
 
 pub returns-in_err-field : goal.returns-in_err-field
 returns-in_err-field c = rw c.from_residual-in_err-field.ensures (search (arith, sought_bad, c.in_ok-inner.was, c.in_err-field.was))
