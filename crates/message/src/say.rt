@@ -90,29 +90,46 @@ fn put_data_report(out: &mut [u8], at: usize, value: &[u8], time: u64) -> usize
     put(out, close, b"}]")
 }
 
-// What stands before the time in a report of why a parameter can't be read.
-fn fault_front(fault: Fault) -> &'static [u8]
-    ensures { result.now ≡ fault_front (fault_as fault) }
+// What stands before the time in a report of why a parameter can't be read. Each text is written where it stands:
+// a `match` that answers one of several texts becomes a table of their addresses, and the library has no data.
+fn fault_front_length(fault: Fault) -> usize
+    ensures { result ≡ length (fault_front (fault_as fault)) }
 {
     match fault {
-        Fault::HardwareError => b"[\"HardwareError\",\"HardwareError\",{\"t\":",
-        Fault::CommunicationFailed => b"[\"CommunicationFailed\",\"CommunicationFailed\",{\"t\":",
-        Fault::ReadFailed => b"[\"ReadFailed\",\"ReadFailed\",{\"t\":",
-        Fault::OutOfRange => b"[\"OutOfRange\",\"OutOfRange\",{\"t\":",
+        Fault::HardwareError => 38,
+        Fault::CommunicationFailed => 50,
+        Fault::ReadFailed => 32,
+        Fault::OutOfRange => 32,
+    }
+}
+
+fn put_fault_front(out: &mut [u8], at: usize, fault: Fault) -> usize
+    requires { at + length (fault_front (fault_as fault)) ≤ length out.old }
+    ensures { Puts out.old at (fault_front (fault_as fault)) out.new result }
+{
+    match fault {
+        Fault::HardwareError => put(out, at, b"[\"HardwareError\",\"HardwareError\",{\"t\":"),
+        Fault::CommunicationFailed => put(
+            out,
+            at,
+            b"[\"CommunicationFailed\",\"CommunicationFailed\",{\"t\":",
+        ),
+        Fault::ReadFailed => put(out, at, b"[\"ReadFailed\",\"ReadFailed\",{\"t\":"),
+        Fault::OutOfRange => put(out, at, b"[\"OutOfRange\",\"OutOfRange\",{\"t\":"),
     }
 }
 
 fn fault_report_length(fault: Fault, time: u64) -> usize
     ensures { (result ≡ length (fault_report (fault_as fault) time)) × (result ≤ 73) }
 {
-    fault_front(fault).len() + seconds_length(time) + 2
+    fault_front_length(fault) + seconds_length(time) + 2
 }
 
 fn put_fault_report(out: &mut [u8], at: usize, fault: Fault, time: u64) -> usize
     requires { at + length (fault_report (fault_as fault) time) ≤ length out.old }
     ensures { Puts out.old at (fault_report (fault_as fault) time) out.new result }
 {
-    let stamp = put(out, at, fault_front(fault));
+    let stamp = put_fault_front(out, at, fault);
     let close = put_seconds(out, stamp, time);
     put(out, close, b"}]")
 }
@@ -162,19 +179,39 @@ fn put_report(
     put_held_report(out, data, sensor, value, time)
 }
 
-// The report of a class.
-fn class_report(class: Class) -> &'static [u8]
-    ensures { result.now ≡ class_report (class_of class) }
+// The report of a class; the texts stand apart as those above do.
+fn class_report_length(class: Class) -> usize
+    ensures { result ≡ length (class_report (class_of class)) }
 {
     match class {
-        Class::ProtocolError => b"[\"ProtocolError\",\"malformed or unknown request\",{}]",
-        Class::NoSuchModule => b"[\"NoSuchModule\",\"no such module\",{}]",
-        Class::NoSuchParameter => b"[\"NoSuchParameter\",\"no such parameter\",{}]",
-        Class::NoSuchCommand => b"[\"NoSuchCommand\",\"no such command\",{}]",
-        Class::ReadOnly => b"[\"ReadOnly\",\"parameter is read only\",{}]",
-        Class::BadJSON => b"[\"BadJSON\",\"data is not JSON\",{}]",
-        Class::WrongType => b"[\"WrongType\",\"value has the wrong type\",{}]",
-        Class::RangeError => b"[\"RangeError\",\"value is out of range\",{}]",
+        Class::ProtocolError => 51,
+        Class::NoSuchModule => 36,
+        Class::NoSuchParameter => 42,
+        Class::NoSuchCommand => 38,
+        Class::ReadOnly => 40,
+        Class::BadJSON => 33,
+        Class::WrongType => 43,
+        Class::RangeError => 41,
+    }
+}
+
+fn put_class_report(out: &mut [u8], at: usize, class: Class) -> usize
+    requires { at + length (class_report (class_of class)) ≤ length out.old }
+    ensures { Puts out.old at (class_report (class_of class)) out.new result }
+{
+    match class {
+        Class::ProtocolError => put(
+            out,
+            at,
+            b"[\"ProtocolError\",\"malformed or unknown request\",{}]",
+        ),
+        Class::NoSuchModule => put(out, at, b"[\"NoSuchModule\",\"no such module\",{}]"),
+        Class::NoSuchParameter => put(out, at, b"[\"NoSuchParameter\",\"no such parameter\",{}]"),
+        Class::NoSuchCommand => put(out, at, b"[\"NoSuchCommand\",\"no such command\",{}]"),
+        Class::ReadOnly => put(out, at, b"[\"ReadOnly\",\"parameter is read only\",{}]"),
+        Class::BadJSON => put(out, at, b"[\"BadJSON\",\"data is not JSON\",{}]"),
+        Class::WrongType => put(out, at, b"[\"WrongType\",\"value has the wrong type\",{}]"),
+        Class::RangeError => put(out, at, b"[\"RangeError\",\"value is out of range\",{}]"),
     }
 }
 
@@ -182,7 +219,7 @@ fn error_report_length(denial: Denial) -> usize
     ensures { (result ≡ length (error_report (denial_of denial))) × (result ≤ 73) }
 {
     match denial {
-        Denial::Class(class) => class_report(class).len(),
+        Denial::Class(class) => class_report_length(class),
         Denial::Fault(fault, time) => fault_report_length(fault, time),
     }
 }
@@ -192,7 +229,7 @@ fn put_error_report(out: &mut [u8], at: usize, denial: Denial) -> usize
     ensures { Puts out.old at (error_report (denial_of denial)) out.new result }
 {
     match denial {
-        Denial::Class(class) => put(out, at, class_report(class)),
+        Denial::Class(class) => put_class_report(out, at, class),
         Denial::Fault(fault, time) => put_fault_report(out, at, fault, time),
     }
 }

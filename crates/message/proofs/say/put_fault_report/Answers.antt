@@ -3,16 +3,18 @@ use Rattle.ascii.specs.Text.{bytes}
 use Rattle.message.proofs.Said.{fault_1, fault_2, fault_3, fault_all}
 use Rattle.message.proofs.say.put_fault_report.Goals as goal
 
-pub put-stamp-requires : goal.put-stamp-requires
-put-stamp-requires c = rw c.fault_front.ensures (search fault_1)
+pub put_fault_front-stamp-requires : goal.put_fault_front-stamp-requires
+unfolding bytes
+put_fault_front-stamp-requires c = search fault_1
 
 pub put_seconds-close-requires : goal.put_seconds-close-requires
-put_seconds-close-requires c = search (fault_2, rw c.fault_front.ensures at c.put-stamp.ensures)
+unfolding bytes
+put_seconds-close-requires c = search fault_2
 
 pub put-requires : goal.put-requires
 unfolding bytes
-put-requires c = search (fault_3, rw c.fault_front.ensures at c.put-stamp.ensures)
+put-requires c = search fault_3
 
 pub returns : goal.returns
 unfolding bytes
-returns c = search (fault_all, rw c.fault_front.ensures at c.put-stamp.ensures)
+returns c = search fault_all
