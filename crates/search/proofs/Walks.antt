@@ -14,8 +14,7 @@ use Rattle.table.specs.declared.layout.CommandAt.{CommandAt}
 use Rattle.table.specs.Clauses.At.{bytes_of, parameter_of, command_of}
 use Rattle.search.specs.declared.cursor.Cursor.{Cursor}
 use Rattle.search.specs.declared.cursor.Record as R
-use Rattle.table.specs.declared.layout.Accessible as O
-use Rattle.search.specs.Clauses.Left.{accessibles_left, placed, left_from, accessibles_of, OnWay, After, FirstIs, Goes, Ended, ParameterFirst, CommandFirst, RecordIs, OneFirst, NextAccessibleIs}
+use Rattle.search.specs.Clauses.Left.{accessibles_left, placed, left_from, accessibles_of, OnWay, After, FirstIs, Goes, Ended, ParameterFirst, CommandFirst, RecordIs}
 use Rattle.search.proofs.Lefts.{with_modules, with_rest, left_as}
 
 -- ## Some of the accessibles
@@ -158,59 +157,41 @@ module _ (s : List ℕ) (c : Cursor) (r : R.Record) (h : RecordIs s c r) where
             first = walk_first accessibles_of s i c e _ w x.first;
           }
 
+    module _ (w : Walked parameters_of s i c) where
+      pub parameter_found : (q : ParameterAt) (e : Cursor) → r ≡ R.TheVariants.Parameter q e → ParameterFirst parameters_of (λ p. p) s i q e
+      unfolding parameters_of
+      parameter_found q e z =
+          let x = rw z at h in
+          record {
+            after = walk_after parameters_of s i c e w x.after;
+            next = x.next;
+            held = x.held;
+            first = walk_first parameters_of s i c e _ w (picks_first parameters_of picks_parameters s c e _ x.first (parameter_of s q x.held.datainfo) refl);
+          }
+
+      pub past_command : (q : CommandAt) (e : Cursor) → r ≡ R.TheVariants.Command q e → Walked parameters_of s i e
+      unfolding parameters_of
+      past_command q e z = let x = rw z at h in walk_on parameters_of s i c e w x.after (picks_past parameters_of picks_parameters s c e _ x.first refl)
+
+    module _ (w : Walked commands_of s i c) where
+      pub command_found : (q : CommandAt) (e : Cursor) → r ≡ R.TheVariants.Command q e → CommandFirst commands_of (λ p. p) s i q e
+      unfolding commands_of
+      command_found q e z =
+          let x = rw z at h in
+          record {
+            after = walk_after commands_of s i c e w x.after;
+            next = x.next;
+            held = x.held;
+            first = walk_first commands_of s i c e _ w (picks_first commands_of picks_commands s c e _ x.first (command_of s q x.held.argument) refl);
+          }
+
+      pub past_parameter : (q : ParameterAt) (e : Cursor) → r ≡ R.TheVariants.Parameter q e → Walked commands_of s i e
+      unfolding commands_of
+      past_parameter q e z = let x = rw z at h in walk_on commands_of s i c e w x.after (picks_past commands_of picks_commands s c e _ x.first refl)
+
     module _ {A : Type 0} (of : List Table.Accessible → List A) (k : Picks of) (w : Walked of s i c) where
       pub into_module : (e : Cursor) → r ≡ R.TheVariants.Module e → Walked of s i e
       into_module e z = let x = rw z at h in walk_on of s i c e w x.after (picks_on of k s c e x.goes)
 
       pub walk_end : r ≡ R.TheVariants.End → Ended of s i
       walk_end z = sym w.goes ∙ picks_end of k s c (rw z at h)
-
--- the accessible r that comes next, whatever module it is in
-module _ (s : List ℕ) (c : Cursor) (r : Option (O.Accessible × Cursor)) (h : NextAccessibleIs s c r) where
-  module _ (a : O.Accessible) (e : Cursor) (z : r ≡ Some (a, e)) where
-    one_first : OneFirst s c a e
-    one_first = rw z at h
-
-    pub accessible_less : length s - e.at < length s - c.at
-    accessible_less = walk_less s c e (go a one_first)
-      where
-        go : (b : O.Accessible) → OneFirst s c b e → After s c e
-        go (O.TheVariants.Parameter q) x = x.after
-        go (O.TheVariants.Command q) x = x.after
-
-    module _ (i : Cursor) where
-      module _ (w : Walked parameters_of s i c) where
-        pub parameter_found : (q : ParameterAt) → a ≡ O.TheVariants.Parameter q → ParameterFirst parameters_of (λ p. p) s i q e
-        unfolding parameters_of
-        parameter_found q y =
-            let x = rw y at one_first in
-            record {
-              after = walk_after parameters_of s i c e w x.after;
-              next = x.next;
-              held = x.held;
-              first = walk_first parameters_of s i c e _ w (picks_first parameters_of picks_parameters s c e _ x.first (parameter_of s q x.held.datainfo) refl);
-            }
-
-        pub past_command : (q : CommandAt) → a ≡ O.TheVariants.Command q → Walked parameters_of s i e
-        unfolding parameters_of
-        past_command q y = let x = rw y at one_first in walk_on parameters_of s i c e w x.after (picks_past parameters_of picks_parameters s c e _ x.first refl)
-
-      module _ (w : Walked commands_of s i c) where
-        pub command_found : (q : CommandAt) → a ≡ O.TheVariants.Command q → CommandFirst commands_of (λ p. p) s i q e
-        unfolding commands_of
-        command_found q y =
-            let x = rw y at one_first in
-            record {
-              after = walk_after commands_of s i c e w x.after;
-              next = x.next;
-              held = x.held;
-              first = walk_first commands_of s i c e _ w (picks_first commands_of picks_commands s c e _ x.first (command_of s q x.held.argument) refl);
-            }
-
-        pub past_parameter : (q : ParameterAt) → a ≡ O.TheVariants.Parameter q → Walked commands_of s i e
-        unfolding commands_of
-        past_parameter q y = let x = rw y at one_first in walk_on commands_of s i c e w x.after (picks_past commands_of picks_commands s c e _ x.first refl)
-
-  module _ {A : Type 0} (of : List Table.Accessible → List A) (k : Picks of) (i : Cursor) (w : Walked of s i c) where
-    pub none_left : r ≡ None → Ended of s i
-    none_left z = sym w.goes ∙ picks_end of k s c (rw z at h)

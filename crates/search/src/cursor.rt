@@ -117,13 +117,13 @@ pub fn next_parameter(s: &[u8], c: Cursor) -> Option<(ParameterAt, Cursor)>
     ensures { NextParameterIs s.now c result }
 {
     let mut i = c;
-    while let Some((a, e)) = next_accessible(s, i) {
-        match a {
-            Accessible::Parameter(q) => return Some((q, e)),
-            Accessible::Command(_) => i = e,
+    loop {
+        match next_record(s, i) {
+            Record::Parameter(q, e) => return Some((q, e)),
+            Record::Command(_, e) | Record::Module(e) => i = e,
+            Record::End => return None,
         }
     }
-    None
 }
 
 // Past parameters, and into the modules that follow.
@@ -132,11 +132,11 @@ pub(crate) fn next_command(s: &[u8], c: Cursor) -> Option<(CommandAt, Cursor)>
     ensures { NextCommandIs s.now c result }
 {
     let mut i = c;
-    while let Some((a, e)) = next_accessible(s, i) {
-        match a {
-            Accessible::Command(q) => return Some((q, e)),
-            Accessible::Parameter(_) => i = e,
+    loop {
+        match next_record(s, i) {
+            Record::Command(q, e) => return Some((q, e)),
+            Record::Parameter(_, e) | Record::Module(e) => i = e,
+            Record::End => return None,
         }
     }
-    None
 }

@@ -5,8 +5,8 @@ use Rattle.table.specs.Search.{parameters_of}
 use Rattle.search.proofs.Walks.{Walked}
 use Rattle.search.proofs.cursor.next_parameter.Given as goal
 
-abbrev pub invariant-loop-a : goal.invariant-loop-a
-invariant-loop-a l = Walked parameters_of l.s l.initial.i l.i
+abbrev pub invariant-loop-q : goal.invariant-loop-q
+invariant-loop-q l = Walked parameters_of l.s l.initial.i l.i
 
-abbrev pub decreases-loop-a : goal.decreases-loop-a
-decreases-loop-a l = length l.s - l.i.at
+abbrev pub decreases-loop-q : goal.decreases-loop-q
+decreases-loop-q l = length l.s - l.i.at
