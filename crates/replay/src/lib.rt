@@ -10,7 +10,7 @@ ghost use Rattle.replay.specs.Replay.{is_piece};
 ghost use Rattle.replay.specs.Clauses.View.{counted, to_do, Sound};
 ghost use Rattle.replay.specs.Promise.{Steps, Starts};
 ghost use Rattle.replay.specs.Theorems.{Fed, PlayedAsCalls, ReplayIsTheCalls, CutElsewhere};
-ghost use Rattle.replay.specs.Clauses.Inner.{left_after, Calls, Offers, Answered};
+ghost use Rattle.replay.specs.Clauses.Inner.{left_after, Calls, Offers};
 
 use ascii::byte;
 use figures::{Figures, no_figures};
@@ -42,6 +42,13 @@ pub struct Stepped {
     pub used: usize,
     pub written: usize,
     pub replay: Replay,
+}
+
+// How many bytes of the trace a step used and how many of the outbox it wrote, where the replay is changed in place.
+#[derive(Clone, Copy)]
+struct Moved {
+    used: usize,
+    written: usize,
 }
 
 // The number of a start (0: accepted), and the replay after it.
@@ -119,37 +126,12 @@ fn left_after(left: Head, number: u8, used: usize) -> Head
     }
 }
 
-// The replay after the call of what was left, which was answered so.
-fn answered(replay: Replay, done: Done, figures: Figures, used: usize) -> Stepped
-    requires { (done.number < 19) × ((done.used ≤ replay.left.size) × (replay.at + replay.left.size ≤ 4109)) }
-    ensures { Answered replay done figures used result }
+// What is left is offered, and the replay is the one after it: how many bytes of the outbox were written.
+fn offered(table: &[u8], values: &mut [u8], outbox: &mut [u8], replay: &mut Replay) -> usize
+    requires { (replay.old.at + replay.old.left.size ≤ 4109) × Bounded replay.old.figures }
+    ensures { Offers table.now replay.old values.old outbox.old result replay.new
+        values.new outbox.new }
 {
-    Stepped {
-        used,
-        written: done.written,
-        replay: Replay {
-            state: done.state,
-            left: left_after(replay.left, done.number, done.used),
-            at: replay.at + done.used,
-            refused: counted(replay.refused, done.number),
-            figures,
-            ..replay
-        },
-    }
-}
-
-// What is left is offered.
-fn offered(
-    table: &[u8],
-    values: &mut [u8],
-    outbox: &mut [u8],
-    replay: Replay,
-    used: usize,
-) -> Stepped
-    requires { (replay.at + replay.left.size ≤ 4109) × Bounded replay.figures }
-    ensures { Offers table.now replay values.old outbox.old used result values.new outbox.new }
-{
-    let held = replay.reader.held;
     let left = replay.left;
     let end = replay.at + left.size;
     let done = call(
@@ -158,14 +140,54 @@ fn offered(
         outbox,
         replay.state,
         left,
-        &held[replay.at..end],
+        &replay.reader.held[replay.at..end],
     );
-    let figures = figured(table, values, outbox, replay.figures, left, done);
-    answered(replay, done, figures, used)
+    figured(table, values, outbox, &mut replay.figures, left, &done);
+    replay.state = done.state;
+    replay.left = left_after(left, done.number, done.used);
+    replay.at += done.used;
+    replay.refused = counted(replay.refused, done.number);
+    done.written
 }
 
-// Plays what is left of a record; or else takes bytes of the trace up to the end of a record, and plays that. One call at most. Where nothing is left and
-// all bytes are used, the trace's next bytes are wanted.
+// A step that changes the replay in place.
+fn advance(
+    table: &[u8],
+    values: &mut [u8],
+    outbox: &mut [u8],
+    replay: &mut Replay,
+    trace: &[u8],
+) -> Moved
+    requires { Sound replay.old }
+    ensures { Steps table.now replay.old values.old outbox.old trace.now
+        (record { used = result.used; written = result.written; replay = replay.new })
+        values.new outbox.new }
+{
+    if replay.left.size != 0 {
+        let written = offered(table, values, outbox, replay);
+        return Moved { used: 0, written };
+    }
+    let taken = take(replay.reader, trace);
+    replay.reader = taken.reader;
+    match taken.found {
+        Found::More | Found::Wrong => Moved {
+            used: taken.used,
+            written: 0,
+        },
+        Found::Whole(head) => {
+            replay.left = head;
+            replay.at = 13;
+            let written = offered(table, values, outbox, replay);
+            Moved {
+                used: taken.used,
+                written,
+            }
+        }
+    }
+}
+
+// Plays what is left of a record; or else takes bytes of the trace up to the end of a record, and plays that. One call
+// at most. Where nothing is left and all bytes are used, the trace's next bytes are wanted.
 pub fn step(
     table: &[u8],
     values: &mut [u8],
@@ -177,34 +199,18 @@ pub fn step(
     ensures { Steps table.now replay values.old outbox.old trace.now result
         values.new outbox.new }
 {
-    if replay.left.size != 0 {
-        return offered(table, values, outbox, replay, 0);
-    }
-    let taken = take(replay.reader, trace);
-    match taken.found {
-        Found::More | Found::Wrong => Stepped {
-            used: taken.used,
-            written: 0,
-            replay: Replay {
-                reader: taken.reader,
-                ..replay
-            },
-        },
-        Found::Whole(head) => {
-            let next = Replay {
-                reader: taken.reader,
-                left: head,
-                at: 13,
-                ..replay
-            };
-            offered(table, values, outbox, next, taken.used)
-        }
+    let mut next = replay;
+    let moved = advance(table, values, outbox, &mut next, trace);
+    Stepped {
+        used: moved.used,
+        written: moved.written,
+        replay: next,
     }
 }
 
 // Whether there is something to do, with so many bytes of the trace.
-fn is_unfinished(replay: Replay, bytes: usize) -> bool
-    ensures { result ≡ not (eqb (to_do replay bytes) 0) }
+fn is_unfinished(replay: &Replay, bytes: usize) -> bool
+    ensures { result ≡ not (eqb (to_do replay.now bytes) 0) }
 {
     bytes != 0 || replay.left.size != 0
 }
@@ -222,10 +228,8 @@ pub fn feed(
 {
     let mut next = replay;
     let mut at = 0;
-    while is_unfinished(next, bytes.len() - at) {
-        let stepped = step(table, values, outbox, next, &bytes[at..]);
-        at += stepped.used;
-        next = stepped.replay;
+    while is_unfinished(&next, bytes.len() - at) {
+        at += advance(table, values, outbox, &mut next, &bytes[at..]).used;
     }
     next
 }

@@ -61,23 +61,22 @@ fn note(table: &[u8], values: &[u8], settings: Settings, figures: Figures, k: us
     observe(figures, k, mark)
 }
 
-// The figures after a call of a record, which was answered so and left these values and this outbox.
+// The figures are those after a call of a record, which was answered so and left these values and this outbox.
 pub(crate) fn figured(
     table: &[u8],
     values: &[u8],
     outbox: &[u8],
-    figures: Figures,
+    figures: &mut Figures,
     head: Head,
-    done: Done,
-) -> Figures
-    requires { Made table.now head values.now outbox.now done × Bounded figures }
-    ensures { Counts table.now head values.now outbox.now done figures result }
+    done: &Done,
+)
+    requires { Made table.now head values.now outbox.now done.now × Bounded figures.old }
+    ensures { Counts table.now head values.now outbox.now done.now figures.old figures.new }
 {
     if done.number != 0 {
-        return figures;
+        return;
     }
-    match chosen_by(head.kind, head.number, done.written, outbox) {
-        None => figures,
-        Some(k) => note(table, values, done.state.settings, figures, k),
+    if let Some(k) = chosen_by(head.kind, head.number, done.written, outbox) {
+        *figures = note(table, values, done.state.settings, *figures, k);
     }
 }

@@ -5,19 +5,19 @@ use Rattle.replay.proofs.feed.Goals as goal
 pub loop-values-init : goal.loop-values-init
 loop-values-init c = search feeding_start
 
-pub step-stepped-requires : goal.step-stepped-requires
-step-stepped-requires c = c.loop-values.invariant.sound
+pub advance-at-requires : goal.advance-at-requires
+advance-at-requires c = c.loop-values.invariant.sound
 
 pub overflow_add-at : goal.overflow_add-at
-overflow_add-at c = let used = feeding_used c.loop-values.invariant _ c.is_unfinished.ensures c.step-stepped.ensures in
+overflow_add-at c = let used = feeding_used c.loop-values.invariant _ c.is_unfinished.ensures c.advance-at.ensures in
     omega (arith, used, c.well_formed.1.1.1.1.0.0)
 
 pub loop-values-smaller : goal.loop-values-smaller
-loop-values-smaller c = feeding_less c.loop-values.invariant _ c.is_unfinished.ensures c.step-stepped.ensures c.loop-values-test.true
+loop-values-smaller c = feeding_less c.loop-values.invariant _ c.is_unfinished.ensures c.advance-at.ensures c.loop-values-test.true
 
 pub loop-values-preserved : goal.loop-values-preserved
-loop-values-preserved c = feeding_on c.loop-values.invariant _ c.is_unfinished.ensures c.step-stepped.ensures c.step-stepped.auto.outbox
-    c.step-stepped.auto.values
+loop-values-preserved c = feeding_on c.loop-values.invariant _ c.is_unfinished.ensures c.advance-at.ensures c.advance-at.auto.outbox
+    c.advance-at.auto.values
 
 pub shape_of-values : goal.shape_of-values
 shape_of-values c = c.loop-values.invariant.same

@@ -6,10 +6,9 @@ use Rattle.state.specs.declared.State.{State}
 use Rattle.promise.specs.declared.Done.{Done}
 use Rattle.trace.specs.declared.Head.{Head}
 use Rattle.replay.specs.declared.Replay.{Replay}
-use Rattle.replay.specs.declared.Stepped.{Stepped}
 use Rattle.replay.specs.Replay.{call_for, is_piece}
 use Rattle.replay.specs.Clauses.Figured.{Figured}
-use Rattle.replay.specs.Clauses.View.{entry_of, offered_in, counted}
+use Rattle.replay.specs.Clauses.View.{entry_of, offered_in}
 use Rattle.replay.specs.Promise.{Single, After}
 
 -- the single call of a record, with the bounds that its answer keeps
@@ -41,31 +40,14 @@ sized h n = record { kind = h.kind; number = h.number; time = h.time; size = n }
 unfoldable pub left_after : Head → ℕ → ℕ → Head
 left_after h number used = sized h (cond (is_piece h.kind && eqb number 0) (h.size - used) 0)
 
--- the replay after a call that answered d
-pub record Answered (r : Replay) (d : Done) (f : Figures) (used : ℕ) (s : Stepped) : Type 0 where
-  pub is : s ≡ record {
-    used = used;
-    written = d.written;
-    replay =
-        record {
-          state = d.state;
-          reader = r.reader;
-          left = left_after r.left d.number d.used;
-          at = r.at + d.used;
-          refused = counted r.refused d.number;
-          figures = f;
-        };
-  }
-
--- the call of what is left, and the replay after it
-pub record Offers (table : List ℕ) (r : Replay) (values outbox : List ℕ) (used : ℕ) (s : Stepped) (values' outbox' : List ℕ) : Type 0 where
+-- the call of what is left, which wrote so much of the outbox, and the replay after it
+pub record Offers (table : List ℕ) (r : Replay) (values outbox : List ℕ) (written : ℕ) (r' : Replay) (values' outbox' : List ℕ) : Type 0 where
   pub done : Done
   pub single : Single table r.state values outbox (entry_of r.left (offered_in r)) done values' outbox'
-  pub after : After r (entry_of r.left (offered_in r)) done s
-  pub figured : Figured table r.state values (call_for (length values) (length outbox) (entry_of r.left (offered_in r))) r.figures s.replay.figures
-  pub bounded : Bounded s.replay.figures
-  pub reader : s.replay.reader ≡ r.reader
-  pub uses : s.used ≡ used
-  pub inside : s.replay.at + s.replay.left.size ≤ 4109
-  pub less : 0 < r.left.size → s.replay.left.size < r.left.size
-  pub least : r.left.size ≡ 0 → s.replay.left.size ≡ 0
+  pub after : (used : ℕ) → After r (entry_of r.left (offered_in r)) done (record { used = used; written = written; replay = r' })
+  pub figured : Figured table r.state values (call_for (length values) (length outbox) (entry_of r.left (offered_in r))) r.figures r'.figures
+  pub bounded : Bounded r'.figures
+  pub reader : r'.reader ≡ r.reader
+  pub inside : r'.at + r'.left.size ≤ 4109
+  pub less : 0 < r.left.size → r'.left.size < r.left.size
+  pub least : r.left.size ≡ 0 → r'.left.size ≡ 0

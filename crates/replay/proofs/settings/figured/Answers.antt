@@ -9,8 +9,8 @@ returns-then-done-ne0 c = search counts_refused
 pub note-requires : goal.note-requires
 note-requires c = (search chosen_shown, search rules)
 
-pub returns-in-None : goal.returns-in-None
-returns-in-None c = search counts_nothing
+pub returns-in_default : goal.returns-in_default
+returns-in_default c = search counts_nothing
 
 pub returns-in-Some : goal.returns-in-Some
 returns-in-Some c = search counts_set
