@@ -176,6 +176,8 @@ pub fn is_accessible(s: &[u8], at: usize) -> bool
     is_mark(s, at, b'P', b'A') || is_mark(s, at, b'C', b'M')
 }
 
+// One copy of this code serves every walk over a table, so that the library stays small (docs/LIMITS.md).
+#[inline(never)]
 pub fn accessible_at(s: &[u8], at: usize) -> Option<Accessible>
     requires { at ≤ length s.now }
     ensures { AccessibleIs s.now result (accessible_at (length s.now) (drop at s.now)) }
